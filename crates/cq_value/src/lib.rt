@@ -1,0 +1,25 @@
+//! What every crate above works with: values and rows, their order and their tokens, numbered tables and row changes,
+//! and the list and box types that trees and tables are made of.
+#![tactic(auto)]
+
+mod boxed;
+mod change;
+mod comparison;
+mod items;
+mod numbered;
+mod placement;
+mod reserved;
+mod schema;
+mod text;
+mod value;
+
+pub use boxed::Boxed;
+pub use change::{Change, Changes};
+pub use comparison::{compare, order, same};
+pub use items::Items;
+pub use numbered::Numbered;
+pub use placement::{shard_index, token};
+pub use reserved::Reserved;
+pub use schema::{Column, Columns, Kind, Kinds, Names, Positions, Shape, With};
+pub use text::{NoMemory, Text};
+pub use value::{Results, Row, Rows, Truth, Value};

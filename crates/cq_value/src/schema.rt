@@ -1,0 +1,43 @@
+use crate::items::Items;
+use crate::text::Text;
+
+/// A column's type: `bigint` has 64 bits, `integer` 32, `text` is UTF-8 and compared by bytes.
+#[derive(Clone, Copy, Debug, PartialEq, Eq)]
+pub enum Kind {
+    Bigint,
+    Integer,
+    Text,
+}
+
+/// A column of a table.
+#[derive(Debug, Drop)]
+pub struct Column {
+    pub name: Text,
+    pub kind: Kind,
+}
+
+/// What a new distributed table is co-located with (Citus, `create_distributed_table`): by default the tables of the
+/// same column type and shard count, none, or the named table.
+#[derive(Debug, Drop)]
+pub enum With {
+    Default,
+    Alone,
+    Table(Text),
+}
+
+/// What a write is judged by: the places of its table's primary key columns, and its columns' types.
+#[derive(Debug, Drop)]
+pub struct Shape {
+    pub key: Positions,
+    pub kinds: Kinds,
+}
+
+/// Places from 0, of columns, tables, groups or nodes.
+pub type Positions = Items<u32>;
+
+pub type Kinds = Items<Kind>;
+
+pub type Columns = Items<Column>;
+
+/// The names of a table's or an answer's columns, in order.
+pub type Names = Items<Text>;
