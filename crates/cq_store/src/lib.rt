@@ -2,5 +2,7 @@
 #![tactic(auto)]
 
 mod store;
+mod worker;
 
 pub use store::{BoxedStore, Store, StoreError};
+pub use worker::{TakeError, Worker};
