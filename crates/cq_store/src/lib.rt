@@ -1,6 +1,10 @@
 //! Stores, each with the rows of one shard on one node, and workers, which are nodes with their stores.
 #![tactic(auto)]
 
+mod mem;
 mod store;
+mod worker;
 
+pub use mem::MemStore;
 pub use store::{BoxedStore, Store, StoreError};
+pub use worker::{TakeError, Worker};
