@@ -1,2 +1,3 @@
+pub mod CuttingLaws
 pub mod ScheduleLaws
 pub mod WritingLaws

@@ -1,2 +1,3 @@
 pub mod Schedules
+pub mod Scripts
 pub mod Streams

@@ -2,12 +2,14 @@
 //! text of each answer.
 #![tactic(auto)]
 
+mod cutter;
 mod memory;
 mod schedule;
 mod sink;
 mod source;
 mod standard;
 
+pub use cutter::{Cutter, Step};
 pub use memory::{MemSink, MemSource};
 pub use sink::{Sink, SinkError, emit};
 pub use source::{Failed, Source};
