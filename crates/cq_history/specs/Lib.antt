@@ -1,0 +1,4 @@
+pub mod Journals
+pub mod Places
+pub mod Standing
+pub mod Log

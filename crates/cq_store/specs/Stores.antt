@@ -1,0 +1,30 @@
+-- What a store holds: the rows of one shard, on one node, and the changes staged for them.
+use Rattle.std.specs.Prelude.{◌≡◌, ◌<◌, ◌≤◌, ◌⊎◌, ℕ, Bool, IsTrue, List, []}
+use Rattle.cq_value.specs.declared.change.Change.{Change}
+use Rattle.cq_value.specs.Tables.{Table, empty_table}
+
+-- the node that the store is on, the shard that it keeps (0: none), the shard's rows, the changes staged, how many calls
+-- failed, and whether no call ever fails
+pub record StoreState : Type 0 where
+  pub node : ℕ
+  pub shard : ℕ
+  pub rows : Table
+  pub staged : List Change
+  pub faults : ℕ
+  pub steady : Bool
+
+-- a spare store keeps no shard, is empty, and has nothing staged
+pub record IsSpare (s : StoreState) : Type 0 where
+  pub spare : s.shard ≡ 0
+  pub empty : s.rows ≡ empty_table
+  pub nothing : s.staged ≡ []
+
+-- a count that rose, or that stands at the last value that it can have
+abbrev pub Rose : ℕ → ℕ → Type 0
+Rose before after = (before < after) ⊎ ((before ≡ 18446744073709551615) × (after ≡ 18446744073709551615))
+
+-- a call made the state as wanted, but for the count of faults, which doesn't fall, and in a steady store stays
+pub record Becomes (old want new : StoreState) : Type 0 where
+  pub state : new ≡ record want { faults = new.faults }
+  pub counts : old.faults ≤ new.faults
+  pub steady : IsTrue old.steady → new.faults ≡ old.faults
