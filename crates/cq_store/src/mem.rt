@@ -1,4 +1,4 @@
-ghost use Rattle.std.specs.Prelude.{◌≡◌, [], OnOk, OnErr};
+ghost use Rattle.std.specs.Prelude.{◌≡◌, [], IfOk, OnOk, OnErr};
 ghost use Rattle.cq_value.specs.Changes.{Fit, adds_in};
 ghost use Rattle.cq_store.specs.Stores.{steady_spare};
 
@@ -55,7 +55,15 @@ impl MemStore {
         }
     }
 
-    fn stage_copy(&mut self, changes: &Changes) -> Result<(), NoMemory>
+    /// A copy of the rows, without the changes staged.
+    pub(crate) fn read(&self) -> Result<Numbered, NoMemory>
+        ensures { IfOk result (λ t. t ≡ self.now.rows) }
+    {
+        self.rows.copy(self.alloc)
+    }
+
+    /// Stages a copy of changes, and makes room for the rows that they add.
+    pub(crate) fn stage_copy(&mut self, changes: &Changes) -> Result<(), NoMemory>
         requires nothing { self.old.staged ≡ [] }
         requires fits { Fit self.old.rows changes.now }
         ensures ok { OnOk result (self.new ≡ record self.old { staged = changes.now }) }
@@ -89,17 +97,11 @@ impl Store for MemStore {
     }
 
     fn scan(&mut self) -> Result<Numbered, StoreError> {
-        match self.rows.copy(self.alloc) {
-            Ok(rows) => Ok(rows),
-            Err(_) => Err(StoreError::Memory),
-        }
+        self.read().map_err(|_| StoreError::Memory)
     }
 
     fn stage(&mut self, changes: &Changes) -> Result<(), StoreError> {
-        match self.stage_copy(changes) {
-            Ok(()) => Ok(()),
-            Err(_) => Err(StoreError::Memory),
-        }
+        self.stage_copy(changes).map_err(|_| StoreError::Memory)
     }
 
     fn commit(&mut self) {
