@@ -24,9 +24,9 @@ kept (suc n) [] = []
 kept (suc n) (s ∷ stores) = if is_spare s then kept n stores else (s ∷ kept (suc n) stores)
 
 -- why n stores aren't taken of so many spare ones: they are fewer than n, or there is no memory
-abbrev pub Refuses : TakeError → ℕ → ℕ → Type 0
-Refuses (NoRoom free needed) n spare = (free ≡ spare) × (needed ≡ n) × (spare < n)
-Refuses Memory n spare = n ≤ spare
+abbrev pub RefusesTake : TakeError → ℕ → ℕ → Type 0
+RefusesTake (NoRoom free needed) n spare = (free ≡ spare) × (needed ≡ n) × (spare < n)
+RefusesTake Memory n spare = n ≤ spare
 
 -- how many more stores a list takes without memory
 abbrev pub room : {S Z : Type 0} → Vec S Z → ℕ

@@ -1,6 +1,6 @@
 ghost use Rattle.std.specs.Prelude.{◌≡◌, ◌+◌, ◌-◌, ◌<◌, ◌≤◌, [], ◌∷◌, ◌++◌, length, map, All, IfOk, OnOk, OnErr, IfErr, vec_len, vec_capacity};
 ghost use Rattle.cq_store.specs.Stores.{StoreState};
-ghost use Rattle.cq_store.specs.Workers.{spares, taken, kept, room, Refuses};
+ghost use Rattle.cq_store.specs.Workers.{spares, taken, kept, room, RefusesTake};
 
 use crate::store::{BoxedStore, Store};
 use cq_value::NoMemory;
@@ -99,7 +99,7 @@ impl<S: Store> Worker<S> {
         ensures kept { OnOk result (map S.state self.new.stores.items ≡ kept n (map S.state self.old.stores.items)) }
         ensures enough { OnOk result (n ≤ length (spares (map S.state self.old.stores.items))) }
         ensures room { OnOk result (room self.new.stores ≡ room self.old.stores + n) }
-        ensures refused { IfErr result (λ e. Refuses e n (length (spares (map S.state self.old.stores.items)))) }
+        ensures refused { IfErr result (λ e. RefusesTake e n (length (spares (map S.state self.old.stores.items)))) }
         ensures err { OnErr result (self.new ≡ self.old) }
     {
         let free = count_spares(&self.stores);
