@@ -53,7 +53,8 @@ impl FaultStore {
         Ok(())
     }
 
-    /// `scan`, with what exactly fails: the calls whose numbers are listed, and others only for want of memory.
+    /// What `scan` does, with the exact calls that fail: those whose numbers are listed. Others give a copy of the rows, but
+    /// for want of memory.
     pub fn counted_scan(&mut self) -> Result<Numbered, StoreError>
         ensures ok { IfOk result (λ t. (fails_next self.old ≡ false) × (t ≡ self.old.rows) × (self.new ≡ counted self.old)) }
         ensures err { IfErr result (λ e. RefusesCall e self.old self.new) }
@@ -62,7 +63,8 @@ impl FaultStore {
         self.inner.read().map_err(|_| StoreError::Memory)
     }
 
-    /// `stage`, with what exactly fails: the calls whose numbers are listed, and others only for want of memory.
+    /// What `stage` does, with the exact calls that fail: those whose numbers are listed. Others stage the changes, but for
+    /// want of memory.
     pub fn counted_stage(&mut self, changes: &Changes) -> Result<(), StoreError>
         requires shard { 0 < self.old.shard }
         requires nothing { self.old.staged ≡ [] }

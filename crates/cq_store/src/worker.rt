@@ -23,6 +23,7 @@ pub struct Worker<S = BoxedStore> {
     stores: Vec<S>,
 }
 
+/// How many stores are spare.
 fn count_spares<S: Store>(stores: &[S]) -> u64
     ensures { result ≡ length (spares (map S.state stores.now)) }
 {
@@ -106,6 +107,7 @@ impl<S: Store> Worker<S> {
         if free < n {
             return Err(TakeError::NoRoom { free, needed: n });
         }
+        // Both lists have their memory before a store moves.
         let alloc = *self.stores.allocator();
         let Ok(mut taken) = Vec::with_capacity(alloc, n as usize) else {
             return Err(TakeError::Memory);
