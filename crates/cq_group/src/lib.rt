@@ -1,0 +1,8 @@
+//! One shard group: its journal, and the stores of its shards, which hold what the journal's entries leave.
+#![tactic(auto)]
+
+mod gate;
+mod group;
+
+pub use gate::{Gate, IdleGate, Point};
+pub use group::{Capture, Closed, GroupError, GroupState, GroupTable, Staged, Tables};

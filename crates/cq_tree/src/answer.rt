@@ -1,0 +1,70 @@
+use crate::statement::Statement;
+use cq_value::{Items, Names, Rows};
+
+/// The success of a statement that gives no table.
+#[derive(Clone, Copy, Debug, PartialEq, Eq)]
+pub enum Tag {
+    CreateTable,
+    Insert(u64),
+}
+
+/// What a limit is on.
+#[derive(Clone, Copy, Debug, PartialEq, Eq)]
+pub enum What {
+    /// Row ids of one table in one shard group.
+    Ids,
+}
+
+/// Why a statement was refused. Each has the number that its text begins with.
+#[derive(Clone, Copy, Debug, PartialEq, Eq)]
+pub enum Fault {
+    /// 24: want of memory.
+    Memory,
+    /// 30: an inserted row has a primary key that is taken.
+    Duplicate,
+    /// 33: a limit would be passed.
+    Limit { what: What, number: u64 },
+    /// 35: the statement is none that is built.
+    NotBuilt,
+}
+
+/// What a statement is answered.
+#[derive(Debug, Drop)]
+pub enum Answer {
+    Tag(Tag),
+    Table { names: Names, rows: Rows },
+    Failed(Fault),
+}
+
+/// The session's settings: whether repartition joins are enabled, the shard count of a new distributed table, and the most
+/// connections of a node's pool.
+#[derive(Clone, Copy, Debug, PartialEq, Eq)]
+pub struct Settings {
+    pub repartition: bool,
+    pub shard_count: u32,
+    pub pool: u32,
+}
+
+/// A statement with its answer. `bound` is None where it was refused before it was bound.
+#[derive(Debug, Drop)]
+pub struct Answered {
+    pub session: u32,
+    pub statement: u64,
+    pub settings: Settings,
+    pub bound: Option<Statement>,
+    pub answer: Answer,
+}
+
+pub type AnsweredList = Items<Answered>;
+
+/// The tasks of one block on one worker: the sizes of the rounds in which they ran, and how many rows each gave.
+#[derive(Debug, Drop)]
+pub struct Wave {
+    pub session: u32,
+    pub statement: u64,
+    pub node: u32,
+    pub sizes: Items<u32>,
+    pub rows: Items<u64>,
+}
+
+pub type Waves = Items<Wave>;
