@@ -38,6 +38,6 @@ abbrev pub counted : FaultState → FaultState
 counted s = record s { calls = one_more s.calls }
 
 -- what an error tells: a call whose number is listed failed, or another found no memory
-abbrev pub Refuses : StoreError → FaultState → FaultState → Type 0
-Refuses Failed old new = (fails_next old ≡ true) × (new ≡ failed old) × Rose old.faults new.faults
-Refuses Memory old new = (fails_next old ≡ false) × (new ≡ counted old)
+abbrev pub RefusesCall : StoreError → FaultState → FaultState → Type 0
+RefusesCall Failed old new = (fails_next old ≡ true) × (new ≡ failed old) × Rose old.faults new.faults
+RefusesCall Memory old new = (fails_next old ≡ false) × (new ≡ counted old)

@@ -1,7 +1,7 @@
 ghost use Rattle.std.specs.Prelude.{◌≡◌, ◌<◌, [], false, OnOk, IfOk, IfErr};
 ghost use Rattle.cq_value.specs.Changes.{Fit};
 ghost use Rattle.cq_value.specs.Tables.{empty_table};
-ghost use Rattle.cq_store.specs.Faults.{FaultState, held, fails_next, counted, Refuses};
+ghost use Rattle.cq_store.specs.Faults.{FaultState, held, fails_next, counted, RefusesCall};
 
 use crate::mem::MemStore;
 use crate::store::{Store, StoreError};
@@ -43,7 +43,7 @@ impl FaultStore {
     /// Counts a call, and fails where its number is listed.
     fn count_call(&mut self) -> Result<(), StoreError>
         ensures ok { OnOk result ((fails_next self.old ≡ false) × (self.new ≡ counted self.old)) }
-        ensures err { IfErr result (λ e. (e ≡ StoreError.Failed) × Refuses e self.old self.new) }
+        ensures err { IfErr result (λ e. (e ≡ StoreError.Failed) × RefusesCall e self.old self.new) }
     {
         self.calls = self.calls.saturating_add(1);
         if self.fails.contains(&self.calls) {
@@ -53,22 +53,24 @@ impl FaultStore {
         Ok(())
     }
 
-    /// `scan`, with what exactly fails: the calls whose numbers are listed, and others only for want of memory.
+    /// What `scan` does, with the exact calls that fail: those whose numbers are listed. Others give a copy of the rows, but
+    /// for want of memory.
     pub fn counted_scan(&mut self) -> Result<Numbered, StoreError>
         ensures ok { IfOk result (λ t. (fails_next self.old ≡ false) × (t ≡ self.old.rows) × (self.new ≡ counted self.old)) }
-        ensures err { IfErr result (λ e. Refuses e self.old self.new) }
+        ensures err { IfErr result (λ e. RefusesCall e self.old self.new) }
     {
         self.count_call()?;
         self.inner.read().map_err(|_| StoreError::Memory)
     }
 
-    /// `stage`, with what exactly fails: the calls whose numbers are listed, and others only for want of memory.
+    /// What `stage` does, with the exact calls that fail: those whose numbers are listed. Others stage the changes, but for
+    /// want of memory.
     pub fn counted_stage(&mut self, changes: &Changes) -> Result<(), StoreError>
         requires shard { 0 < self.old.shard }
         requires nothing { self.old.staged ≡ [] }
         requires fits { Fit self.old.rows changes.now }
         ensures ok { OnOk result ((fails_next self.old ≡ false) × (self.new ≡ record (counted self.old) { staged = changes.now })) }
-        ensures err { IfErr result (λ e. Refuses e self.old self.new) }
+        ensures err { IfErr result (λ e. RefusesCall e self.old self.new) }
     {
         self.count_call()?;
         self.inner

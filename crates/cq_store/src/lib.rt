@@ -4,6 +4,8 @@
 mod fault;
 mod mem;
 mod store;
+#[cfg(test)]
+mod tests;
 mod worker;
 
 pub use fault::FaultStore;

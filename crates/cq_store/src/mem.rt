@@ -31,6 +31,7 @@ impl Model for MemStore {
     ghost invariant = { λ s. Fit s.rows.table s.staged × (adds_in s.staged ≤ s.rows.room) };
 }
 
+/// How many of the changes add a row.
 fn count_adds(changes: &Changes) -> u64
     ensures { result ≡ adds_in changes.now }
 {
@@ -88,6 +89,7 @@ impl Store for MemStore {
     }
 
     fn faults(&self) -> u64 {
+        // The check looks into a store only where one of its fields is read.
         let _ = &self.node;
         0
     }
