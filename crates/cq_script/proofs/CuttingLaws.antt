@@ -175,6 +175,16 @@ all_statements bytes = of_pieces (pieces bytes)
 pub cut_last : (bytes : List ℕ) (given : List (List ℕ)) (text : List ℕ) → Cut bytes given text → given ++ last_statement text ≡ statements bytes
 cut_last bytes given text c = ap (λ v. v ++ last_statement text) c.whole ∙ ap (λ t. whole_statements bytes ++ last_statement t) c.rest ∙ sym (all_statements bytes)
 
+-- so the last statement is the text that was begun
+pub cut_some : (bytes : List ℕ) (given : List (List ℕ)) (text : List ℕ) → Cut bytes given text → text ≢ [] → given ++ text ∷ [] ≡ statements bytes
+cut_some bytes given [] c some = absurd (some refl)
+cut_some bytes given (b ∷ bs) c some = cut_last bytes given (b ∷ bs) c
+
+-- if there is any
+pub cut_empty : (bytes : List ℕ) (given : List (List ℕ)) (text : List ℕ) → Cut bytes given text → text ≡ [] → given ≡ statements bytes
+cut_empty bytes given [] c empty = sym (append-nil given) ∙ cut_last bytes given [] c
+cut_empty bytes given (b ∷ bs) c empty = cc
+
 -- what a cutter does
 
 pub strip_keeps : (text : List ℕ) → NoEnd text → NoEnd (statement_of text)

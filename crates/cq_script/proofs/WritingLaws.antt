@@ -29,7 +29,7 @@ wrote_then old mid new xs ys a b = record {
     both (Some w) = ap Some (append_assoc w xs ys)
 
 -- the first a + n bytes are the first a, and n of the rest
-take_plus : (bytes : List ℕ) (a n : ℕ) → take (a + n) bytes ≡ take a bytes ++ take n (drop a bytes)
+pub take_plus : (bytes : List ℕ) (a n : ℕ) → take (a + n) bytes ≡ take a bytes ++ take n (drop a bytes)
 take_plus bytes zero n = ap (λ (m : ℕ). take m bytes) (omega arith)
 take_plus [] (suc a) n = grind (arith, common_steps)
 take_plus (b ∷ bytes) (suc a) n = let e : suc a + n ≡ suc (a + n) = omega arith in rw e (ap (λ v. b ∷ v) (take_plus bytes a n))

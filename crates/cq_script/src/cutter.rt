@@ -1,5 +1,5 @@
-ghost use Rattle.std.specs.Prelude.{◌≡◌, ◌≢◌, ◌<◌, [], ◌∷◌, ◌++◌, length, true, IfOk, OnOk, OnErr, MatchOption, IsTrue, ◌↔◌};
-ghost use Rattle.cq_script.specs.Scripts.{is_end as is_end_byte, is_blank as is_blank_byte, statement_of, NoEnd, IsBegun, Cut, Gives};
+ghost use Rattle.std.specs.Prelude.{◌≡◌, ◌≢◌, [], ◌∷◌, ◌++◌, IfOk, OnOk, OnErr, MatchOption};
+ghost use Rattle.cq_script.specs.Scripts.{is_blank as is_blank_byte, statement_of, NoEnd, IsBegun, Cut, Gives};
 
 use cq_value::NoMemory;
 use std::alloc::Global;

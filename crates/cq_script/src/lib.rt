@@ -10,6 +10,8 @@ mod schedule;
 mod sink;
 mod source;
 mod standard;
+#[cfg(test)]
+mod tests;
 
 pub use cutter::{Cutter, Step};
 pub use fatal::{Fatal, MOST_BYTES};

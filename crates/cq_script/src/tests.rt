@@ -1,0 +1,191 @@
+//! Scripts and texts worked out by hand, sources and sinks that fail in mid-stream, and each call that may want memory,
+//! once with ample memory.
+
+ghost use Rattle.std.specs.Prelude.{◌≡◌, ◌<◌, ℕ, List, ◌++◌, map, IfOk, OnOk};
+ghost use Rattle.cq_script.specs.Scripts.{Cut, statements};
+
+use crate::cutter::Cutter;
+use crate::fatal::Fatal;
+use crate::memory::{MemSink, MemSource};
+use crate::rendering::render;
+use crate::sink::{Sink, SinkError, emit};
+use crate::source::{Failed, Source};
+use crate::standard::{ReadSource, WriteSink};
+use cq_tree::{Answer, Fault, Tag, What};
+use cq_value::{Items, Names, NoMemory, Row, Rows, Text, Value};
+use std::alloc::Global;
+use std::test::Fail;
+
+/// Cuts a piece of a script, and puts the statements last.
+fn feed(cutter: &mut Cutter, piece: &[u8], list: &mut Items<Vec<u8>>) -> Result<(), NoMemory>
+    ensures { OnOk result ((taken : List ℕ) → Cut taken (map (λ v. v.items) list.old) cutter.old → Cut (taken ++ piece.now) (map (λ v. v.items) list.new) cutter.new) }
+{
+    let mut left = piece;
+    while let Some(step) = cutter.next_in(left)? {
+        list.put(step.statement)?;
+        left = step.left;
+    }
+    Ok(())
+}
+
+/// The statements of a script that comes in pieces of a size.
+fn statements_in(alloc: Global, script: &[u8], size: usize) -> Result<Items<Vec<u8>>, NoMemory>
+    requires { 0 < size }
+    ensures { IfOk result (λ list. map (λ v. v.items) list ≡ statements script.now) }
+{
+    let mut list = Items::new(alloc);
+    let mut cutter = Cutter::new(alloc);
+    let mut at = 0;
+    while at < script.len() {
+        let end = at + size.min(script.len() - at);
+        feed(&mut cutter, &script[at..end], &mut list)?;
+        at = end;
+    }
+    if let Some(last) = cutter.finish() {
+        list.put(last)?;
+    }
+    Ok(list)
+}
+
+#[test]
+fn scripts_are_cut(rt: HostRuntime) -> Result<(), Fail> {
+    let alloc = rt.alloc();
+    let script = b" \t\r\nSELECT 1 ;;\n ; ;INSERT \n2;last ";
+    for size in [1usize, 2, 3, 7, 4096] {
+        let list = statements_in(alloc, script, size)?;
+        let list = list.as_slice();
+        assert_eq!(rt; list.len(), 3, "pieces of {size}");
+        assert_eq!(rt;
+            list[0].as_slice(),
+            b"SELECT 1 ".as_slice(),
+            "pieces of {size}"
+        );
+        assert_eq!(rt;
+            list[1].as_slice(),
+            b"INSERT \n2".as_slice(),
+            "pieces of {size}"
+        );
+        assert_eq!(rt; list[2].as_slice(), b"last ".as_slice(), "pieces of {size}");
+    }
+    assert_eq!(rt; statements_in(alloc, b" \n;; \t", 2)?.len(), 0);
+    Ok(())
+}
+
+#[test]
+fn a_source_fails_and_goes_on(rt: HostRuntime) -> Result<(), Fail> {
+    let alloc = rt.alloc();
+    let mut fails = Vec::new(alloc);
+    fails.push(2)?;
+    let mut source = MemSource::new(b"abcde".to_vec(alloc)?, fails);
+    let mut room = [0u8; 3];
+    assert_eq!(rt; source.take(&mut room), Ok(3));
+    assert_eq!(rt; room.as_slice(), b"abc".as_slice());
+    assert_eq!(rt; source.take(&mut room), Err(Failed));
+    assert_eq!(rt; source.take(&mut room), Ok(2));
+    assert_eq!(rt; room.as_slice(), b"dec".as_slice());
+    assert_eq!(rt; source.take(&mut room), Ok(0));
+    Ok(())
+}
+
+#[test]
+fn a_sink_fails_and_goes_on(rt: HostRuntime) -> Result<(), Fail> {
+    let alloc = rt.alloc();
+    let mut fails = Vec::new(alloc);
+    fails.push(1)?;
+    let mut sink = MemSink::new(alloc, fails);
+    assert_eq!(rt; emit(&mut sink, b"lost"), Err(SinkError::Failed));
+    assert_eq!(rt; emit(&mut sink, b"abc"), Ok(()));
+    assert_eq!(rt; emit(&mut sink, b""), Ok(()));
+    assert_eq!(rt; emit(&mut sink, b"de"), Ok(()));
+    assert_eq!(rt; sink.bytes.as_slice(), b"abcde".as_slice());
+    Ok(())
+}
+
+#[test]
+fn readers_and_writers(rt: HostRuntime) -> Result<(), Fail> {
+    let alloc = rt.alloc();
+    let mut source = ReadSource::new(b"abc".as_slice());
+    let mut room = [0u8; 2];
+    assert_eq!(rt; source.take(&mut room), Ok(2));
+    assert_eq!(rt; room.as_slice(), b"ab".as_slice());
+    assert_eq!(rt; source.take(&mut room), Ok(1));
+    assert_eq!(rt; source.take(&mut room), Ok(0));
+    let mut sink = WriteSink::new(Vec::new(alloc));
+    assert_eq!(rt; emit(&mut sink, b"abc"), Ok(()));
+    Ok(())
+}
+
+fn names(alloc: Global, first: &'static str, second: &'static str) -> Result<Names, Fail> {
+    let mut names = Names::new(alloc);
+    names.put(Text::of_string(String::from_str(alloc, first)?))?;
+    names.put(Text::of_string(String::from_str(alloc, second)?))?;
+    Ok(names)
+}
+
+fn row(alloc: Global, first: Value, second: &'static str) -> Result<Row, Fail> {
+    let mut row = Row::new(alloc);
+    row.put(first)?;
+    row.put(Value::Text(Text::of_string(String::from_str(alloc, second)?)))?;
+    Ok(row)
+}
+
+#[test]
+fn tables_are_rendered(rt: HostRuntime) -> Result<(), Fail> {
+    let alloc = rt.alloc();
+    let empty = Answer::Table {
+        names: names(alloc, "k", "v")?,
+        rows: Rows::new(alloc),
+    };
+    assert_eq!(rt;
+        render(alloc, &empty)?.as_slice(),
+        b"k|v\n(0 rows)\n".as_slice()
+    );
+    let mut rows = Rows::new(alloc);
+    rows.put(row(alloc, Value::Int(-7), "a|b\\c\nd")?)?;
+    let one = Answer::Table {
+        names: names(alloc, "k|", "v")?,
+        rows,
+    };
+    assert_eq!(rt;
+        render(alloc, &one)?.as_slice(),
+        b"k\\||v\n-7|a\\|b\\\\c\\nd\n(1 row)\n".as_slice()
+    );
+    let mut rows = Rows::new(alloc);
+    rows.put(row(alloc, Value::Null, "\\N")?)?;
+    rows.put(row(alloc, Value::Int(10), "")?)?;
+    let two = Answer::Table {
+        names: names(alloc, "k", "v")?,
+        rows,
+    };
+    assert_eq!(rt;
+        render(alloc, &two)?.as_slice(),
+        b"k|v\n\\N|\\\\N\n10|\n(2 rows)\n".as_slice()
+    );
+    Ok(())
+}
+
+#[test]
+fn other_answers_are_rendered(rt: HostRuntime) -> Result<(), Fail> {
+    let alloc = rt.alloc();
+    let limit = Fault::Limit {
+        what: What::Ids,
+        number: 4294967296,
+    };
+    for (answer, want) in [
+        (Answer::Tag(Tag::CreateTable), "CREATE TABLE\n"),
+        (Answer::Tag(Tag::Insert(12)), "INSERT 0 12\n"),
+        (Answer::Failed(Fault::Memory), "ERROR 24 out of memory\n"),
+        (Answer::Failed(Fault::Duplicate), "ERROR 30 duplicate key\n"),
+        (Answer::Failed(limit), "ERROR 33 limit ids 4294967296\n"),
+        (Answer::Failed(Fault::NotBuilt), "ERROR 35 not built\n"),
+    ] {
+        assert_eq!(rt; render(alloc, &answer)?.as_slice(), want.as_bytes());
+    }
+    assert_eq!(rt; Fatal::Usage.line(), b"FATAL usage\n".as_slice());
+    assert_eq!(rt; Fatal::Read.line(), b"FATAL read\n".as_slice());
+    assert_eq!(rt;
+        Fatal::LimitBytes.line(),
+        b"FATAL limit bytes 16777216\n".as_slice()
+    );
+    Ok(())
+}
