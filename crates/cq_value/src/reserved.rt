@@ -1,4 +1,5 @@
-ghost use Rattle.std.specs.Prelude.{◌≡◌, ◌<◌, ◌≤◌, ◌+◌, [], ◌∷◌, ◌++◌, length, OnOk};
+ghost use Rattle.std.specs.Prelude.{◌≡◌, ◌<◌, ◌≤◌, ◌+◌, [], ◌∷◌, ◌++◌, length, slice_index_or, slice_set, IsOk, OnOk};
+ghost use Rattle.std.specs.List.{remove};
 
 use crate::text::NoMemory;
 use std::alloc::Global;
@@ -30,11 +31,12 @@ impl<T> Reserved<T> {
         }
     }
 
-    /// Makes room for at least n items.
+    /// Makes room for at least n items. Takes no memory where there is that room.
     pub fn reserve(&mut self, n: u64) -> Result<(), NoMemory>
         ensures list { self.new.list ≡ self.old.list }
         ensures room { OnOk result (n ≤ self.new.room) }
         ensures kept { self.old.room ≤ self.new.room }
+        ensures enough { n ≤ self.old.room → IsOk result }
     {
         match self.items.reserve(n as usize) {
             Ok(()) => Ok(()),
@@ -61,5 +63,26 @@ impl<T> Reserved<T> {
         ensures { result.now ≡ self.now.list }
     {
         self.items.as_slice()
+    }
+
+    /// Takes the item at a place out, and so leaves room for one more. Takes no memory.
+    pub fn remove(&mut self, place: u64) -> T
+        requires { place < length self.old.list }
+        ensures value { result ≡ slice_index_or self.old.list place result }
+        ensures list { self.new.list ≡ remove self.old.list place }
+        ensures room { self.new.room ≡ self.old.room + 1 }
+    {
+        self.items.remove(place as usize)
+    }
+}
+
+impl<T: Drop> Reserved<T> {
+    /// Puts another item in a place. Takes no memory.
+    pub fn set(&mut self, place: u64, item: T)
+        requires { place < length self.old.list }
+        ensures list { self.new.list ≡ slice_set self.old.list place item }
+        ensures room { self.new.room ≡ self.old.room }
+    {
+        self.items[place as usize] = item;
     }
 }
