@@ -134,15 +134,15 @@ fn create(
 
 /// Distributes a table: it is local, the column is its first, and the count from 1 to 128.
 #[tactic(auto, unfolding(crate::specs::Reading::bound_distribute))]
-fn distribute(table: Text, column: Text, shards: i128, catalog: &Catalog) -> Result<Statement, Stop>
-    ensures { Finds (bound_distribute table column shards catalog.now) result }
+fn distribute(table: Text, column: Text, shards: i128, catalog: &Catalog) -> Option<Statement>
+    ensures { result ≡ bound_distribute table column shards catalog.now }
 {
-    let info = local_table(&table, catalog).ok_or(Stop::NoStatement)?;
+    let info = local_table(&table, catalog)?;
     if !begins_with(&column, &info.columns) {
-        return Err(Stop::NoStatement);
+        return None;
     }
-    let count = shard_count(shards).ok_or(Stop::NoStatement)?;
-    Ok(Statement::Distribute {
+    let count = shard_count(shards)?;
+    Some(Statement::Distribute {
         table,
         column,
         count: Some(count),
@@ -204,7 +204,7 @@ pub fn bound(alloc: Global, form: Form, catalog: &Catalog) -> Result<Statement, 
             table,
             column,
             shards,
-        } => distribute(table, column, shards, catalog),
+        } => distribute(table, column, shards, catalog).ok_or(Stop::NoStatement),
         Form::Insert {
             table,
             first,

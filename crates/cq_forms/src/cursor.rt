@@ -1,7 +1,7 @@
 ghost use Rattle.std.specs.Prelude.{◌≡◌, ◌≤◌, ◌<◌, [], length, Some, None, MatchResult, IsAscii, option_map};
 ghost use Rattle.std.specs.List.{prefix_len};
 ghost use Rattle.std.specs.Char.{is_ascii_digit};
-ghost use Rattle.cq_forms.specs.Cursor.{Takes, Finds};
+ghost use Rattle.cq_forms.specs.Cursor.{Takes};
 ghost use Rattle.cq_forms.specs.Forms.{after, name_at, number_at, digits_at as digits_in, is_name_byte, begins_name};
 ghost use Rattle.cq_forms.specs.declared.cursor.Stop.TheVariants.{NoStatement};
 
@@ -132,7 +132,9 @@ impl<'a> Cursor<'a> {
     /// Takes a number.
     #[tactic(auto, unfolding(crate::specs::Forms::number_at))]
     pub fn number(&mut self) -> Result<i128, Stop>
-        ensures { Takes (number_at self.old.rest.now) result self.new.rest.now }
+        ensures { MatchResult result
+            (λ number. number_at self.old.rest.now ≡ Some (number, self.new.rest.now))
+            (λ stop. (stop ≡ NoStatement) × (number_at self.old.rest.now ≡ None)) }
     {
         if self.rest.starts_with(b"-") {
             let (number, rest) = digits_at(&self.rest[1..]).ok_or(Stop::NoStatement)?;

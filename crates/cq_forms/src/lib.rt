@@ -16,3 +16,6 @@ mod form;
 mod reading;
 
 pub use reading::read_statement;
+
+#[cfg(test)]
+mod tests;
