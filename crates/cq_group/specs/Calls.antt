@@ -1,9 +1,9 @@
 -- What a call makes of the stores of a group.
-use Rattle.std.specs.Prelude.{◌≡◌, ◌≤◌, ◌⊎◌, ℕ, ⊤, false, List, [], ◌∷◌, take, drop}
+use Rattle.std.specs.Prelude.{◌≡◌, ◌<◌, ◌≤◌, ◌⊎◌, ℕ, ⊤, false, List, [], ◌∷◌, take, drop}
 use Rattle.std.specs.List.{AllZip}
 use Rattle.cq_value.specs.declared.change.Change.{Change}
 use Rattle.cq_value.specs.Tables.{Table, empty_table}
-use Rattle.cq_value.specs.Changes.{applied}
+use Rattle.cq_value.specs.Changes.{applied, Fit}
 use Rattle.cq_store.specs.Stores.{StoreState, Becomes, Rose}
 use Rattle.cq_group.specs.Groups.{stores_of}
 use Rattle.cq_group.specs.declared.group.GroupError.{GroupError}
@@ -82,6 +82,12 @@ pub record Failed (node shard before after : ℕ) (old new : StoreState) : Type 
 abbrev pub Blames : {X : Type 0} → (X → StoreState) → GroupError → List X → List X → Type 0
 Blames state Memory old new = ⊤
 Blames state (Worker node shard before after) old new = SomeZip (Lifted state (Failed node shard before after)) old new
+
+-- changes can be staged in a store: it keeps a shard, nothing is staged, and they fit its rows
+pub record Takes (changes : List Change) (s : StoreState) : Type 0 where
+  pub shard : 0 < s.shard
+  pub nothing : s.staged ≡ []
+  pub fits : Fit s.rows changes
 
 -- the rows of the first store
 abbrev pub first_rows : {X : Type 0} → (X → StoreState) → List X → Table

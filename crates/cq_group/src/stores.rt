@@ -1,7 +1,7 @@
 ghost use Rattle.std.specs.Prelude.{◌≡◌, ◌<◌, [], ◌∷◌, OnOk, OnErr, IfOk, IfErr};
-ghost use Rattle.std.specs.List.{AllZip};
+ghost use Rattle.std.specs.List.{AllZip, AllByRecursion};
 ghost use Rattle.cq_value.specs.Changes.{Fit};
-ghost use Rattle.cq_group.specs.Calls.{Rests, Discards, Commits, Stages, Lifted, Blames};
+ghost use Rattle.cq_group.specs.Calls.{Rests, Discards, Commits, Stages, Lifted, Blames, Takes};
 
 use crate::group::GroupError;
 use cq_store::{Store, StoreError};
@@ -46,6 +46,25 @@ pub(crate) fn stage_store<S: Store>(store: &mut S, changes: &Changes) -> Result<
         }),
         Err(StoreError::Memory) => Err(GroupError::Memory),
     }
+}
+
+/// Stages changes in each of the stores. `Err`: one of them failed, or there was no memory, and nothing is staged.
+pub(crate) fn stage_stores<S: Store>(
+    stores: &mut Vec<S>,
+    changes: &Changes,
+) -> Result<(), GroupError>
+    requires { AllByRecursion (λ x. Takes changes.now (S.state x)) stores.old.items }
+    ensures ok { OnOk result (AllZip (Lifted S.state (Stages changes.now)) stores.old.items stores.new.items) }
+    ensures err { OnErr result (AllZip (Lifted S.state Rests) stores.old.items stores.new.items) }
+    ensures blame { IfErr result (λ e. Blames S.state e stores.old.items stores.new.items) }
+{
+    for place in 0..stores.len() {
+        if let Err(error) = stage_store(&mut stores[place], changes) {
+            discard_stores(stores);
+            return Err(error);
+        }
+    }
+    Ok(())
 }
 
 /// Drops what is staged in the stores.
