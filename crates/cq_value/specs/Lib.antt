@@ -4,4 +4,5 @@ pub mod Lending
 pub mod Order
 pub mod Placement
 pub mod Rooms
+pub mod Sizes
 pub mod Tables

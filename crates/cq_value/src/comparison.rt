@@ -1,4 +1,6 @@
 ghost use Rattle.std.specs.Prelude.{◌≡◌, ◌↔◌, IsTrue};
+ghost use Rattle.std.specs.Cmp.{IsTotalOrder};
+ghost use Rattle.cq_value.specs.declared.value.Value.{Value};
 ghost use Rattle.cq_value.specs.Order.{Comparable, compared, value_cmp};
 
 use crate::value::Value;
@@ -59,3 +61,10 @@ pub fn same(a: &Value, b: &Value) -> bool
         },
     }
 }
+
+/// What the order promises: it is total, and finds two values equal exactly where they are one value. Does nothing.
+#[tactic(auto, using(crate::proofs::OrderLaws::value_cmp_total, crate::proofs::OrderLaws::value_cmp_same))]
+pub fn order_laws()
+    ensures total { IsTotalOrder value_cmp }
+    ensures same { (a b : Value) → (value_cmp a b ≡ Ordering.Equal) ↔ (a ≡ b) }
+{}

@@ -5,21 +5,29 @@
 mod boxed;
 mod change;
 mod comparison;
+mod duplicate;
 mod items;
 mod numbered;
 mod placement;
 mod reserved;
+mod reserved_table;
 mod schema;
+mod size;
+#[cfg(test)]
+mod tests;
 mod text;
 mod value;
 
 pub use boxed::Boxed;
 pub use change::{Change, Changes};
-pub use comparison::{compare, order, same};
+pub use comparison::{compare, order, order_laws, same};
+pub use duplicate::Duplicate;
 pub use items::Items;
 pub use numbered::Numbered;
 pub use placement::{shard_index, token};
 pub use reserved::Reserved;
+pub use reserved_table::ReservedTable;
 pub use schema::{Column, Columns, Kind, Kinds, Names, Positions, Shape, With};
+pub use size::row_size;
 pub use text::{NoMemory, Text};
 pub use value::{Results, Row, Rows, Truth, Value};

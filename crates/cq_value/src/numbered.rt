@@ -1,6 +1,8 @@
-ghost use Rattle.std.specs.Prelude.{◌≡◌, ◌<◌, ◌≤◌, ◌+◌, ◌^◌, [], ◌∷◌, ◌++◌, length, slice_index_or, IfOk, OnOk, OnErr};
-ghost use Rattle.cq_value.specs.Tables.{Table, empty_table, with_row};
+ghost use Rattle.std.specs.Prelude.{◌≡◌, ◌<◌, ◌≤◌, ◌+◌, ◌^◌, [], true, length, slice_index_or, IfOk, OnOk, OnErr};
+ghost use Rattle.cq_value.specs.Changes.{has_id};
+ghost use Rattle.cq_value.specs.Tables.{empty_table, with_row, with_new_row, without_row};
 
+use crate::reserved_table::ReservedTable;
 use crate::text::NoMemory;
 use crate::value::Row;
 use std::alloc::Global;
@@ -9,18 +11,15 @@ use std::marker::Model;
 /// A numbered table: rows with ids, which ascend and are below the next id.
 #[derive(Debug, Drop)]
 pub struct Numbered {
-    next: u64,
-    pairs: Vec<(u64, Row)>,
+    inner: ReservedTable,
 }
 
 impl Model for Numbered {
-    ghost use Rattle.cq_value.specs.Tables.{Table, IsAscending};
+    ghost use Rattle.cq_value.specs.Tables.{Table};
 
     ghost Value = { Table };
 
-    ghost view = { λ t. record { next = t.next; pairs = t.pairs.items } };
-
-    ghost invariant = { λ t. IsAscending t.pairs.items t.next };
+    ghost view = { λ t. t.inner.table };
 }
 
 impl Numbered {
@@ -29,30 +28,36 @@ impl Numbered {
         ensures { result ≡ empty_table }
     {
         Numbered {
-            next: 0,
-            pairs: Vec::new(alloc),
+            inner: ReservedTable::new(alloc),
         }
+    }
+
+    /// The table of a table with room.
+    pub fn from_reserved(inner: ReservedTable) -> Numbered
+        ensures { result ≡ inner.table }
+    {
+        Numbered { inner }
     }
 
     /// The next id.
     pub fn next(&self) -> u64
         ensures { result ≡ self.now.next }
     {
-        self.next
+        self.inner.next()
     }
 
     /// How many rows there are.
     pub fn len(&self) -> u64
         ensures { result ≡ length self.now.pairs }
     {
-        self.pairs.len() as u64
+        self.inner.len()
     }
 
     /// The ids with their rows, in order.
     pub fn pairs(&self) -> &[(u64, Row)]
         ensures { result.now ≡ self.now.pairs }
     {
-        self.pairs.as_slice()
+        self.inner.pairs()
     }
 
     /// The id at a place, from 0.
@@ -60,7 +65,7 @@ impl Numbered {
         requires { place < length self.now.pairs }
         ensures { result ≡ (slice_index_or self.now.pairs place (0, [])).0 }
     {
-        self.pairs[place as usize].0
+        self.inner.pairs()[place as usize].0
     }
 
     /// The row at a place, from 0.
@@ -68,7 +73,14 @@ impl Numbered {
         requires { place < length self.now.pairs }
         ensures { result.now ≡ (slice_index_or self.now.pairs place (0, [])).1 }
     {
-        &self.pairs[place as usize].1
+        &self.inner.pairs()[place as usize].1
+    }
+
+    /// An equal table.
+    pub fn copy(&self, alloc: Global) -> Result<Numbered, NoMemory>
+        ensures { IfOk result (λ t. t ≡ self.now) }
+    {
+        self.inner.copy(alloc)
     }
 
     /// Sets the next id, which doesn't fall.
@@ -76,7 +88,7 @@ impl Numbered {
         requires { self.old.next ≤ next }
         ensures { self.new ≡ record { next = next; pairs = self.old.pairs } }
     {
-        self.next = next;
+        self.inner.raise(next);
     }
 
     /// Puts a row last under a new id. The next id is the one after it.
@@ -86,12 +98,28 @@ impl Numbered {
         ensures ok { OnOk result (self.new ≡ with_row self.old id row) }
         ensures err { OnErr result (self.new ≡ self.old) }
     {
-        match self.pairs.push((id, row)) {
-            Ok(()) => {
-                self.next = id + 1;
-                Ok(())
-            }
-            Err(_) => Err(NoMemory),
-        }
+        self.inner.reserve(1)?;
+        self.inner.add(id, row);
+        Ok(())
+    }
+
+    /// Puts another row under an id.
+    pub fn put(&mut self, id: u64, row: Row) -> Result<(), NoMemory>
+        requires { has_id self.old id ≡ true }
+        ensures ok { OnOk result (self.new ≡ with_new_row self.old id row) }
+        ensures err { OnErr result (self.new ≡ self.old) }
+    {
+        self.inner.put(id, row);
+        Ok(())
+    }
+
+    /// Takes an id's row out.
+    pub fn remove(&mut self, id: u64) -> Result<(), NoMemory>
+        requires { has_id self.old id ≡ true }
+        ensures ok { OnOk result (self.new ≡ without_row self.old id) }
+        ensures err { OnErr result (self.new ≡ self.old) }
+    {
+        self.inner.remove(id);
+        Ok(())
     }
 }

@@ -1,4 +1,5 @@
-ghost use Rattle.std.specs.Prelude.{◌≡◌, ◌<◌, ◌≤◌, ◌+◌, [], ◌∷◌, ◌++◌, length, OnOk};
+ghost use Rattle.std.specs.Prelude.{◌≡◌, ◌<◌, ◌≤◌, ◌+◌, [], ◌∷◌, ◌++◌, length, slice_index_or, slice_set, OnOk};
+ghost use Rattle.std.specs.List.{remove};
 
 use crate::text::NoMemory;
 use std::alloc::Global;
@@ -61,5 +62,26 @@ impl<T> Reserved<T> {
         ensures { result.now ≡ self.now.list }
     {
         self.items.as_slice()
+    }
+
+    /// Takes the item at a place out, and so leaves room for one more. Takes no memory.
+    pub fn remove(&mut self, place: u64) -> T
+        requires { place < length self.old.list }
+        ensures value { result ≡ slice_index_or self.old.list place result }
+        ensures list { self.new.list ≡ remove self.old.list place }
+        ensures room { self.new.room ≡ self.old.room + 1 }
+    {
+        self.items.remove(place as usize)
+    }
+}
+
+impl<T: Drop> Reserved<T> {
+    /// Puts another item in a place. Takes no memory.
+    pub fn set(&mut self, place: u64, item: T)
+        requires { place < length self.old.list }
+        ensures list { self.new.list ≡ slice_set self.old.list place item }
+        ensures room { self.new.room ≡ self.old.room }
+    {
+        self.items[place as usize] = item;
     }
 }

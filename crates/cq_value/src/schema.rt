@@ -1,5 +1,8 @@
+ghost use Rattle.std.specs.Prelude.{◌≡◌, IfOk};
+
 use crate::items::Items;
-use crate::text::Text;
+use crate::text::{NoMemory, Text};
+use std::alloc::Global;
 
 /// A column's type: `bigint` has 64 bits, `integer` 32, `text` is UTF-8 and compared by bytes.
 #[derive(Clone, Copy, Debug, PartialEq, Eq)]
@@ -16,6 +19,19 @@ pub struct Column {
     pub kind: Kind,
 }
 
+impl Column {
+    /// An equal column.
+    pub fn copy(&self, alloc: Global) -> Result<Column, NoMemory>
+        ensures { IfOk result (λ c. c ≡ self.now) }
+    {
+        let name = self.name.copy(alloc)?;
+        Ok(Column {
+            name,
+            kind: self.kind,
+        })
+    }
+}
+
 /// What a new distributed table is co-located with (Citus, `create_distributed_table`): by default the tables of the
 /// same column type and shard count, none, or the named table.
 #[derive(Debug, Drop)]
@@ -30,6 +46,17 @@ pub enum With {
 pub struct Shape {
     pub key: Positions,
     pub kinds: Kinds,
+}
+
+impl Shape {
+    /// An equal shape.
+    pub fn copy(&self, alloc: Global) -> Result<Shape, NoMemory>
+        ensures { IfOk result (λ s. s ≡ self.now) }
+    {
+        let key = self.key.copy(alloc)?;
+        let kinds = self.kinds.copy(alloc)?;
+        Ok(Shape { key, kinds })
+    }
 }
 
 /// Places from 0, of columns, tables, groups or nodes.

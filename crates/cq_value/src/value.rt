@@ -40,16 +40,3 @@ impl Value {
         }
     }
 }
-
-impl Items<Value> {
-    /// An equal row.
-    pub fn copy(&self, alloc: Global) -> Result<Row, NoMemory>
-        ensures { IfOk result (λ r. r ≡ self.now) }
-    {
-        let mut row = Row::new(alloc);
-        for value in self.as_slice() {
-            row.put(value.copy(alloc)?)?;
-        }
-        Ok(row)
-    }
-}
