@@ -2,3 +2,4 @@ pub mod Through
 pub mod Zips
 pub mod Turns
 pub mod Staging
+pub mod TableLaws

@@ -1,11 +1,13 @@
 -- What a call makes of the stores of a group.
-use Rattle.std.specs.Prelude.{◌≡◌, ◌<◌, ◌≤◌, ◌⊎◌, ℕ, ⊤, false, List, [], ◌∷◌, take, drop}
-use Rattle.std.specs.List.{AllZip}
+use Rattle.std.specs.Prelude.{◌≡◌, ◌<◌, ◌≤◌, ◌⊎◌, ℕ, ⊤, false, List, [], ◌∷◌, length, take, drop}
+use Rattle.std.specs.List.{AllZip, AllByRecursion}
 use Rattle.cq_value.specs.declared.change.Change.{Change}
 use Rattle.cq_value.specs.Tables.{Table, empty_table}
 use Rattle.cq_value.specs.Changes.{applied, Fit}
 use Rattle.cq_store.specs.Stores.{StoreState, Becomes, Rose}
-use Rattle.cq_group.specs.Groups.{stores_of}
+use Rattle.cq_tree.specs.declared.journal.Reply.{Reply}
+use Rattle.cq_tree.specs.declared.journal.Reply.TheVariants.{Count, Duplicate}
+use Rattle.cq_group.specs.Groups.{stores_of, IsTableQuiet}
 use Rattle.cq_group.specs.declared.group.GroupError.{GroupError}
 use Rattle.cq_group.specs.declared.group.GroupError.TheVariants.{Worker, Memory}
 use Rattle.cq_group.specs.declared.group.GroupTable.{GroupTable}
@@ -93,6 +95,19 @@ pub record Takes (changes : List Change) (s : StoreState) : Type 0 where
 abbrev pub first_rows : {X : Type 0} → (X → StoreState) → List X → Table
 first_rows state [] = empty_table
 first_rows state (x ∷ xs) = (state x).rows
+
+-- a table's next id is its stores', which keep a shard, hold the same rows, and have nothing staged
+pub record AreAlike {X : Type 0} (state : X → StoreState) (t : GroupTable X) : Type 0 where
+  pub some_store : 0 < length t.stores.items
+  pub numbered : t.next ≡ (first_rows state t.stores.items).next
+  pub shards : AllByRecursion (λ (x : X). 0 < (state x).shard) t.stores.items
+  pub rows : AllByRecursion (λ (x : X). (state x).rows ≡ first_rows state t.stores.items) t.stores.items
+  pub nothing : IsTableQuiet state t
+
+-- how many rows a reply counts
+abbrev pub count_of : Reply → ℕ
+count_of (Count n) = n
+count_of Duplicate = 0
 
 -- the first n elements are related to what they became, and the others are as before
 pub record IsThrough {X : Type 0} (R : X → X → Type 0) (n : ℕ) (xs ys : List X) : Type 0 where

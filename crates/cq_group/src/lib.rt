@@ -4,6 +4,7 @@
 mod gate;
 mod group;
 mod stores;
+mod table;
 
 pub use gate::{Gate, IdleGate, Point};
 pub use group::{Capture, Closed, GroupError, GroupState, GroupTable, Staged, Tables};
