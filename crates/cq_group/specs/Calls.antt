@@ -1,13 +1,15 @@
 -- What a call makes of the stores of a group.
-use Rattle.std.specs.Prelude.{◌≡◌, ◌<◌, ◌≤◌, ◌⊎◌, ℕ, ⊤, false, List, [], ◌∷◌, length, take, drop}
+use Rattle.std.specs.Prelude.{◌≡◌, ◌<◌, ◌≤◌, ◌⊎◌, ℕ, ⊤, false, List, [], ◌∷◌, length, take, drop, nat_eq, if◌then◌else◌}
 use Rattle.std.specs.List.{AllZip, AllByRecursion}
 use Rattle.cq_value.specs.declared.change.Change.{Change}
-use Rattle.cq_value.specs.Tables.{Table, empty_table}
+use Rattle.cq_value.specs.declared.value.Value.{Value}
+use Rattle.cq_value.specs.Tables.{Table, empty_table, rows_of}
 use Rattle.cq_value.specs.Changes.{applied, Fit}
+use Rattle.cq_history.specs.Journals.{replay}
 use Rattle.cq_store.specs.Stores.{StoreState, Becomes, Rose}
 use Rattle.cq_tree.specs.declared.journal.Reply.{Reply}
 use Rattle.cq_tree.specs.declared.journal.Reply.TheVariants.{Count, Duplicate}
-use Rattle.cq_group.specs.Groups.{stores_of, IsTableQuiet}
+use Rattle.cq_group.specs.Groups.{stores_of, IsTableQuiet, shapes, entries_of}
 use Rattle.cq_group.specs.declared.group.GroupError.{GroupError}
 use Rattle.cq_group.specs.declared.group.GroupError.TheVariants.{Worker, Memory}
 use Rattle.cq_group.specs.declared.group.GroupTable.{GroupTable}
@@ -53,9 +55,8 @@ pub record IsRestingTable {X : Type 0} (R : X → X → Type 0) (old new : Group
   pub same : IsSameTable R old new
   pub next : new.next ≡ old.next
 
--- a group as it was, but for its stores, which are related one by one
+-- a group as it was, but for its journal and its stores, which are related one by one
 pub record IsSameBut {X : Type 0} (R : X → X → Type 0) (old new : GroupState X) : Type 0 where
-  pub journal : new.journal ≡ old.journal
   pub node : new.node ≡ old.node
   pub nodes : new.nodes ≡ old.nodes
   pub room : new.room ≡ old.room
@@ -90,6 +91,14 @@ pub record Takes (changes : List Change) (s : StoreState) : Type 0 where
   pub shard : 0 < s.shard
   pub nothing : s.staged ≡ []
   pub fits : Fit s.rows changes
+
+-- the node that a read is made on: the group's, or in a reference group the near one
+abbrev pub node_read : {X : Type 0} → GroupState X → ℕ → ℕ
+node_read g near = if nat_eq g.node 0 then near else g.node
+
+-- a table's number and the rows that the group's entries leave of it
+abbrev pub captured : {X : Type 0} → GroupState X → ℕ → ℕ × List (List Value)
+captured g table = (table, rows_of (replay table (shapes g table) (entries_of g)))
 
 -- the rows of the first store
 abbrev pub first_rows : {X : Type 0} → (X → StoreState) → List X → Table

@@ -3,6 +3,8 @@
 
 mod gate;
 mod group;
+mod place;
+mod read;
 mod stores;
 mod table;
 
