@@ -6,3 +6,4 @@ pub mod TableLaws
 pub mod JournalLaws
 pub mod GroupLaws
 pub mod PlaceLaws
+pub mod ReadLaws

@@ -22,6 +22,11 @@ all_at P [] n x h low is = absurd (omega arith)
 all_at P (y ∷ ys) zero x h low is = subst P (sym is) h.0
 all_at P (y ∷ ys) (suc n) x h low is = all_at P ys n x h.1 (omega arith) is
 
+pub all_get : {X : Type 0} (P : X → Type 0) (xs : List X) (n : ℕ) (d : X) → AllByRecursion P xs → n < length xs → P (get_or xs n d)
+all_get P [] n d h low = absurd (omega arith)
+all_get P (y ∷ ys) zero d h low = h.0
+all_get P (y ∷ ys) (suc n) d h low = all_get P ys n d h.1 (omega arith)
+
 -- a table that isn't the one of this number
 other_table : {X : Type 0} (u : GroupTable X) (us : List (GroupTable X)) (number : ℕ) (shape : Shape) → shape_at (map outline us) u.table ≡ None → shape_at (map outline us) number ≡ Some shape →
     nat_eq u.table number ≡ false

@@ -9,7 +9,7 @@ use Rattle.cq_history.specs.Journals.{replay}
 use Rattle.cq_store.specs.Stores.{StoreState, Becomes, Rose}
 use Rattle.cq_tree.specs.declared.journal.Reply.{Reply}
 use Rattle.cq_tree.specs.declared.journal.Reply.TheVariants.{Count, Duplicate}
-use Rattle.cq_group.specs.Groups.{stores_of, IsTableQuiet, shapes, entries_of}
+use Rattle.cq_group.specs.Groups.{stores_of, IsTableQuiet, IsSameGroup, IsSteady, shapes, entries_of}
 use Rattle.cq_group.specs.declared.group.GroupError.{GroupError}
 use Rattle.cq_group.specs.declared.group.GroupError.TheVariants.{Worker, Memory}
 use Rattle.cq_group.specs.declared.group.GroupTable.{GroupTable}
@@ -62,9 +62,11 @@ pub record IsSameBut {X : Type 0} (R : X → X → Type 0) (old new : GroupState
   pub room : new.room ≡ old.room
   pub tables : AllZip (IsRestingTable R) old.tables.items new.tables.items
 
--- each store of the group goes on
-abbrev pub AllGoOn : {X : Type 0} → (X → StoreState) → GroupState X → GroupState X → Type 0
-AllGoOn state old new = AllZip (Lifted state GoesOn) (stores_of old) (stores_of new)
+-- a call leaves the group as it is, but for its entries: each of its stores goes on, and so a steady group stays steady
+pub record GroupGoesOn {X : Type 0} (state : X → StoreState) (old new : GroupState X) : Type 0 where
+  pub same : IsSameGroup old new
+  pub stores : AllZip (Lifted state GoesOn) (stores_of old) (stores_of new)
+  pub steady : IsSteady state old → IsSteady state new
 
 -- R holds of the elements at some place of two lists
 abbrev pub SomeZip : {X : Type 0} → (X → X → Type 0) → List X → List X → Type 0
