@@ -7,3 +7,5 @@ pub mod JournalLaws
 pub mod GroupLaws
 pub mod PlaceLaws
 pub mod ReadLaws
+pub mod WriteLaws
+pub mod CommitLaws

@@ -5,13 +5,17 @@ use Rattle.cq_value.specs.declared.change.Change.{Change}
 use Rattle.cq_value.specs.declared.value.Value.{Value}
 use Rattle.cq_value.specs.Tables.{Table, empty_table, rows_of}
 use Rattle.cq_value.specs.Changes.{applied, Fit}
+use Rattle.cq_tree.specs.declared.journal.ShardOp.{ShardOp}
+use Rattle.cq_meaning.specs.Effects.{inserts}
 use Rattle.cq_history.specs.Journals.{replay}
 use Rattle.cq_store.specs.Stores.{StoreState, Becomes, Rose}
 use Rattle.cq_tree.specs.declared.journal.Reply.{Reply}
 use Rattle.cq_tree.specs.declared.journal.Reply.TheVariants.{Count, Duplicate}
-use Rattle.cq_group.specs.Groups.{stores_of, IsTableQuiet, IsSameGroup, IsSteady, shapes, entries_of}
+use Rattle.cq_group.specs.Groups.{stores_of, IsTableQuiet, IsQuiet, IsReady, IsSameGroup, IsSteady, shapes, entries_of}
 use Rattle.cq_group.specs.declared.group.GroupError.{GroupError}
 use Rattle.cq_group.specs.declared.group.GroupError.TheVariants.{Worker, Memory}
+use Rattle.cq_group.specs.declared.group.Staged.{Staged}
+use Rattle.cq_group.specs.declared.group.Staged.TheVariants.{Ready, Refused, NoIds}
 use Rattle.cq_group.specs.declared.group.GroupTable.{GroupTable}
 use Rattle.cq_group.specs.declared.group.GroupState.{GroupState}
 
@@ -101,6 +105,17 @@ node_read g near = if nat_eq g.node 0 then near else g.node
 -- a table's number and the rows that the group's entries leave of it
 abbrev pub captured : {X : Type 0} → GroupState X → ℕ → ℕ × List (List Value)
 captured g table = (table, rows_of (replay table (shapes g table) (entries_of g)))
+
+-- the next row id that a group's entries leave of a table
+abbrev pub next_id : {X : Type 0} → GroupState X → ℕ → ℕ
+next_id g table = (replay table (shapes g table) (entries_of g)).next
+
+-- what staging a write came to: it is ready and counts its rows, or it is refused, or its ids don't suffice; nothing is
+-- staged for a write that isn't made
+abbrev pub IsStaged : {X : Type 0} → (X → StoreState) → GroupState X → ShardOp → Staged → Type 0
+IsStaged state g op (Ready reply) = (reply ≡ Count (length (inserts op))) × IsReady state g op reply
+IsStaged state g op (Refused reply) = (reply ≡ Duplicate) × IsReady state g op reply × IsQuiet state g
+IsStaged state g op NoIds = IsQuiet state g
 
 -- the rows of the first store
 abbrev pub first_rows : {X : Type 0} → (X → StoreState) → List X → Table

@@ -1,7 +1,8 @@
-ghost use Rattle.std.specs.Prelude.{◌≡◌, ◌+◌, ◌<◌, ◌≤◌, ◌^◌, true, [], length, map, OnOk, OnErr, IfOk, IfErr};
+ghost use Rattle.std.specs.Prelude.{◌≡◌, ◌+◌, ◌<◌, ◌≤◌, ◌^◌, ◌↔◌, IsTrue, true, [], length, map, OnOk, OnErr, IfOk, IfErr};
 ghost use Rattle.std.specs.List.{AllByRecursion, HoldsAt};
 ghost use Rattle.cq_value.specs.Tables.{rows_of};
 ghost use Rattle.cq_meaning.specs.Effects.{reply_of, inserts};
+ghost use Rattle.cq_history.specs.Standing.{most_ids};
 ghost use Rattle.cq_engine.specs.WriteEffects.{IsEffect};
 ghost use Rattle.cq_group.specs.Groups.{IsStagedIn, IsTableQuiet};
 ghost use Rattle.cq_group.specs.Calls.{Rests, Discards, Commits, Stages, KeepsRows, Lifted, Blames, Takes, IsSameTable, IsRestingTable, AreAlike, first_rows, count_of};
@@ -13,6 +14,9 @@ use cq_store::Store;
 use cq_tree::{Reply, ShardOp};
 use cq_value::{NoMemory, Numbered, Rows};
 use std::alloc::Global;
+
+/// The most row ids of one table in one shard group.
+const MOST_IDS: u64 = 4_294_967_296;
 
 /// The rows of a numbered table, without their ids.
 fn rows_alone(alloc: Global, table: &Numbered) -> Result<Rows, NoMemory>
@@ -47,6 +51,16 @@ impl<S: Store> GroupTable<S> {
         match rows_alone(alloc, &table) {
             Ok(rows) => Ok(rows),
             Err(NoMemory) => Err(GroupError::Memory),
+        }
+    }
+
+    /// Whether the row ids that are left are fewer than the rows of a write.
+    pub(crate) fn lacks_ids(&self, op: &ShardOp) -> bool
+        requires { self.now.next ≤ most_ids }
+        ensures { IsTrue result ↔ (most_ids < self.now.next + length (inserts op.now)) }
+    {
+        match op {
+            ShardOp::Insert { rows, .. } => rows.len() > MOST_IDS - self.next,
         }
     }
 
