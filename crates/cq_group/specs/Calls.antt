@@ -1,0 +1,141 @@
+-- What a call makes of the stores of a group.
+use Rattle.std.specs.Prelude.{◌≡◌, ◌<◌, ◌≤◌, ◌⊎◌, ℕ, ⊤, false, List, [], ◌∷◌, length, take, drop, nat_eq, if◌then◌else◌}
+use Rattle.std.specs.List.{AllZip, AllByRecursion}
+use Rattle.cq_value.specs.declared.change.Change.{Change}
+use Rattle.cq_value.specs.declared.value.Value.{Value}
+use Rattle.cq_value.specs.Tables.{Table, empty_table, rows_of}
+use Rattle.cq_value.specs.Changes.{applied, Fit}
+use Rattle.cq_tree.specs.declared.journal.ShardOp.{ShardOp}
+use Rattle.cq_meaning.specs.Effects.{inserts}
+use Rattle.cq_history.specs.Journals.{replay}
+use Rattle.cq_store.specs.Stores.{StoreState, Becomes, Rose}
+use Rattle.cq_tree.specs.declared.journal.Reply.{Reply}
+use Rattle.cq_tree.specs.declared.journal.Reply.TheVariants.{Count, Duplicate}
+use Rattle.cq_group.specs.Groups.{stores_of, IsTableQuiet, IsQuiet, IsReady, IsSameGroup, IsSteady, shapes, entries_of}
+use Rattle.cq_group.specs.declared.group.GroupError.{GroupError}
+use Rattle.cq_group.specs.declared.group.GroupError.TheVariants.{Worker, Memory}
+use Rattle.cq_group.specs.declared.group.Staged.{Staged}
+use Rattle.cq_group.specs.declared.group.Staged.TheVariants.{Ready, Refused, NoIds}
+use Rattle.cq_group.specs.declared.group.GroupTable.{GroupTable}
+use Rattle.cq_group.specs.declared.group.GroupState.{GroupState}
+
+-- nothing but the count of faults changes
+abbrev pub Rests : StoreState → StoreState → Type 0
+Rests old new = Becomes old old new
+
+-- the staged changes are dropped
+abbrev pub Discards : StoreState → StoreState → Type 0
+Discards old new = Becomes old (record old { staged = [] }) new
+
+-- the staged changes are made
+abbrev pub Commits : StoreState → StoreState → Type 0
+Commits old new = Becomes old (record old { rows = applied old.rows old.staged; staged = [] }) new
+
+-- these changes are staged
+abbrev pub Stages : List Change → StoreState → StoreState → Type 0
+Stages changes old new = Becomes old (record old { staged = changes }) new
+
+-- the rows stay, whatever is staged
+abbrev pub KeepsRows : StoreState → StoreState → Type 0
+KeepsRows old new = Becomes old (record old { staged = new.staged }) new
+
+-- the store is on its node, under its shard id, and its count of faults didn't fall
+abbrev pub GoesOn : StoreState → StoreState → Type 0
+GoesOn old new = Becomes old (record old { rows = new.rows; staged = new.staged }) new
+
+-- two stores whose states are related
+abbrev pub Lifted : {X : Type 0} → (X → StoreState) → (StoreState → StoreState → Type 0) → X → X → Type 0
+Lifted state R x y = R (state x) (state y)
+
+-- a table as it was, but for its next id and its stores, which are related one by one
+pub record IsSameTable {X : Type 0} (R : X → X → Type 0) (old new : GroupTable X) : Type 0 where
+  pub table : new.table ≡ old.table
+  pub shape : new.shape ≡ old.shape
+  pub shard : new.shard ≡ old.shard
+  pub stores : AllZip R old.stores.items new.stores.items
+
+-- a table as it was, with its next id, but for its stores
+pub record IsRestingTable {X : Type 0} (R : X → X → Type 0) (old new : GroupTable X) : Type 0 where
+  pub same : IsSameTable R old new
+  pub next : new.next ≡ old.next
+
+-- a group as it was, but for its journal and its stores, which are related one by one
+pub record IsSameBut {X : Type 0} (R : X → X → Type 0) (old new : GroupState X) : Type 0 where
+  pub node : new.node ≡ old.node
+  pub nodes : new.nodes ≡ old.nodes
+  pub room : new.room ≡ old.room
+  pub tables : AllZip (IsRestingTable R) old.tables.items new.tables.items
+
+-- a call leaves the group as it is, but for its entries: each of its stores goes on, and so a steady group stays steady
+pub record GroupGoesOn {X : Type 0} (state : X → StoreState) (old new : GroupState X) : Type 0 where
+  pub same : IsSameGroup old new
+  pub stores : AllZip (Lifted state GoesOn) (stores_of old) (stores_of new)
+  pub steady : IsSteady state old → IsSteady state new
+
+-- R holds of the elements at some place of two lists
+abbrev pub SomeZip : {X : Type 0} → (X → X → Type 0) → List X → List X → Type 0
+SomeZip R [] ys = ⊥
+SomeZip R (x ∷ xs) [] = ⊥
+SomeZip R (x ∷ xs) (y ∷ ys) = R x y ⊎ SomeZip R xs ys
+
+-- a store that isn't steady, on this node and under this shard id, whose count of faults rose from one number to another
+pub record Failed (node shard before after : ℕ) (old new : StoreState) : Type 0 where
+  pub of_node : old.node ≡ node
+  pub of_shard : old.shard ≡ shard
+  pub unsteady : old.steady ≡ false
+  pub from : old.faults ≤ before
+  pub rose : Rose before after
+  pub to : after ≤ new.faults
+
+-- where an error names a worker, it is one of the stores, and failed
+abbrev pub Blames : {X : Type 0} → (X → StoreState) → GroupError → List X → List X → Type 0
+Blames state Memory old new = ⊤
+Blames state (Worker node shard before after) old new = SomeZip (Lifted state (Failed node shard before after)) old new
+
+-- changes can be staged in a store: it keeps a shard, nothing is staged, and they fit its rows
+pub record Takes (changes : List Change) (s : StoreState) : Type 0 where
+  pub shard : 0 < s.shard
+  pub nothing : s.staged ≡ []
+  pub fits : Fit s.rows changes
+
+-- the node that a read is made on: the group's, or in a reference group the near one
+abbrev pub node_read : {X : Type 0} → GroupState X → ℕ → ℕ
+node_read g near = if nat_eq g.node 0 then near else g.node
+
+-- a table's number and the rows that the group's entries leave of it
+abbrev pub captured : {X : Type 0} → GroupState X → ℕ → ℕ × List (List Value)
+captured g table = (table, rows_of (replay table (shapes g table) (entries_of g)))
+
+-- the next row id that a group's entries leave of a table
+abbrev pub next_id : {X : Type 0} → GroupState X → ℕ → ℕ
+next_id g table = (replay table (shapes g table) (entries_of g)).next
+
+-- what staging a write came to: it is ready and counts its rows, or it is refused, or its ids don't suffice; nothing is
+-- staged for a write that isn't made
+abbrev pub IsStaged : {X : Type 0} → (X → StoreState) → GroupState X → ShardOp → Staged → Type 0
+IsStaged state g op (Ready reply) = (reply ≡ Count (length (inserts op))) × IsReady state g op reply
+IsStaged state g op (Refused reply) = (reply ≡ Duplicate) × IsReady state g op reply × IsQuiet state g
+IsStaged state g op NoIds = IsQuiet state g
+
+-- the rows of the first store
+abbrev pub first_rows : {X : Type 0} → (X → StoreState) → List X → Table
+first_rows state [] = empty_table
+first_rows state (x ∷ xs) = (state x).rows
+
+-- a table's next id is its stores', which keep a shard, hold the same rows, and have nothing staged
+pub record AreAlike {X : Type 0} (state : X → StoreState) (t : GroupTable X) : Type 0 where
+  pub some_store : 0 < length t.stores.items
+  pub numbered : t.next ≡ (first_rows state t.stores.items).next
+  pub shards : AllByRecursion (λ (x : X). 0 < (state x).shard) t.stores.items
+  pub rows : AllByRecursion (λ (x : X). (state x).rows ≡ first_rows state t.stores.items) t.stores.items
+  pub nothing : IsTableQuiet state t
+
+-- how many rows a reply counts
+abbrev pub count_of : Reply → ℕ
+count_of (Count n) = n
+count_of Duplicate = 0
+
+-- the first n elements are related to what they became, and the others are as before
+pub record IsThrough {X : Type 0} (R : X → X → Type 0) (n : ℕ) (xs ys : List X) : Type 0 where
+  pub done : AllZip R (take n xs) (take n ys)
+  pub rest : drop n ys ≡ drop n xs
