@@ -1,0 +1,4 @@
+pub mod Runs
+pub mod Quotes
+pub mod Steps
+pub mod Texts

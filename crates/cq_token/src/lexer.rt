@@ -1,0 +1,30 @@
+ghost use Rattle.cq_token.specs.Tokens.{Gives, tokens as tokens_of};
+
+use crate::error::LexError;
+use crate::piece::piece_at;
+use crate::token::{Piece, Token, Tokens};
+use std::alloc::Global;
+
+/// The tokens of the text in order, or the first refusal that the text shows: what the definition says, unless memory
+/// is wanting.
+pub fn tokens(alloc: Global, text: &[u8]) -> Result<Tokens, LexError>
+    ensures { Gives result (tokens_of text.now) }
+{
+    let mut found = Tokens::new(alloc);
+    let mut at = 0;
+    'text: while at < text.len() {
+        match piece_at(alloc, at as u64, &text[at..])? {
+            Piece::Skip { more } => at += 1 + more,
+            Piece::Token { kind, more } => {
+                let token = Token {
+                    kind,
+                    start: at as u64,
+                    end: (at + 1 + more) as u64,
+                };
+                found.put(token)?;
+                at += 1 + more;
+            }
+        }
+    }
+    Ok(found)
+}
