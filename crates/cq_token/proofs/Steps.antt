@@ -15,7 +15,7 @@ abbrev pub put_all : List Token → Result (List Token) LexError → Result (Lis
 put_all front (Ok ts) = Ok (front ++ ts)
 put_all front (Err e) = Err e
 
-skip : (n at : ℕ) (z : List ℕ) → n ≤ length z → tokens_from n at z ≡ tokens_from 0 (at + n) (drop n z)
+pub skip : (n at : ℕ) (z : List ℕ) → n ≤ length z → tokens_from n at z ≡ tokens_from 0 (at + n) (drop n z)
 unfolding tokens_from
 skip zero at z le = let e : at ≡ at + 0 = omega arith in ap (λ i. tokens_from 0 i z) e
 skip (suc n) at [] le = absurd (omega arith)

@@ -1,3 +1,4 @@
 pub mod Bytes
 pub mod Signs
+pub mod Spans
 pub mod Tokens

@@ -1,3 +1,5 @@
+ghost use Rattle.std.specs.Prelude.{false, length, IfOk};
+ghost use Rattle.cq_token.specs.Spans.{Cut, InOrder};
 ghost use Rattle.cq_token.specs.Tokens.{Gives, tokens as tokens_of};
 
 use crate::error::LexError;
@@ -8,7 +10,9 @@ use std::alloc::Global;
 /// The tokens of the text in order, or the first refusal that the text shows: what the definition says, unless memory
 /// is wanting.
 pub fn tokens(alloc: Global, text: &[u8]) -> Result<Tokens, LexError>
-    ensures { Gives result (tokens_of text.now) }
+    ensures value { Gives result (tokens_of text.now) }
+    ensures cut { IfOk result (λ found. Cut false 0 found text.now) }
+    ensures order { IfOk result (λ found. InOrder 0 found (length text.now)) }
 {
     let mut found = Tokens::new(alloc);
     let mut at = 0;

@@ -1,14 +1,16 @@
-use Rattle.std.proofs.Common.{◌≡◌, ◌≢◌, ◌∙◌, ◌+◌, ◌-◌, ◌≤◌, ◌<◌, ℕ, List, ◌∷◌, [], length, drop, take, ap, sym, subst, arith, rules, Ok, Err, refl}
+use Rattle.std.proofs.Common.{◌≡◌, ◌≢◌, ◌∙◌, ◌+◌, ◌-◌, ◌≤◌, ◌<◌, ℕ, List, ◌∷◌, [], length, drop, take, ap, sym, subst, arith, rules, Ok, Err, refl, false}
 use Rattle.cq_token.specs.declared.error.LexError.TheVariants.{Memory}
 use Rattle.cq_token.specs.declared.token.Token.{Token}
 use Rattle.cq_token.specs.declared.token.Piece.{Piece}
 use Rattle.cq_token.specs.declared.token.Piece.TheVariants.{Skip, Token as Found}
 use Rattle.cq_token.specs.Tokens.{tokens, tokens_from, IsWithin}
 use Rattle.cq_token.proofs.Steps.{put_all, put_one, at_end, past_skip, past_token, turn, in_text, stops, IsPiece}
+use Rattle.cq_token.specs.Spans.{InOrder}
+use Rattle.cq_token.proofs.Laws.{tokens_cut, in_order}
 use Rattle.cq_token.proofs.lexer.tokens.Goals as goal
 
-pub returns-in_err-more : goal.returns-in_err-more
-returns-in_err-more c =
+pub returns-in_err-more-clause-value : goal.returns-in_err-more-clause-value
+returns-in_err-more-clause-value c =
     let text = c.args.text.now in
     let at = c.text.at in
     let e = c.in_err-more.field-0.0 in
@@ -41,5 +43,15 @@ text-preserved c =
     (c.text.invariant.0 ∙ ap (put_all c.text.found) (past_token at more c.in-Token.kind text c.text-test.true le is)
     ∙ put_one c.text.found token after ∙ ap (λ l. put_all l after) (sym pushed), le)
 
-pub returns : goal.returns
-returns c = c.text.invariant.0 ∙ at_end c.text.found c.text.at c.args.text.now (omega arith)
+pub returns-clause-value : goal.returns-clause-value
+returns-clause-value c = c.text.invariant.0 ∙ at_end c.text.found c.text.at c.args.text.now (omega arith)
+
+pub returns-clause-cut : goal.returns-clause-cut
+returns-clause-cut c = tokens_cut c.args.text.now c.text.found (c.text.invariant.0 ∙ at_end c.text.found c.text.at c.args.text.now (omega arith))
+
+pub returns-clause-order : goal.returns-clause-order
+returns-clause-order c =
+    let text = c.args.text.now in
+    let all : 0 + length text ≡ length text = omega arith in
+    let h = tokens_cut text c.text.found (c.text.invariant.0 ∙ at_end c.text.found c.text.at text (omega arith)) in
+    subst (InOrder 0 c.text.found) all (in_order false 0 text c.text.found h)
