@@ -18,20 +18,20 @@ behind_none (Some found) = let e : 0 + found.1 ≡ found.1 = omega arith in ap (
 isnt : (b n : ℕ) → b ≢ n → (b == n) ≡ false
 isnt b n ne = grind (arith, nat_tests)
 
-no_quote : (b : ℕ) (bs : List ℕ) → b ≢ 39 → quoted (b ∷ bs) ≡ behind (b ∷ []) 1 (quoted bs)
+pub no_quote : (b : ℕ) (bs : List ℕ) → b ≢ 39 → quoted (b ∷ bs) ≡ behind (b ∷ []) 1 (quoted bs)
 unfolding quoted
 no_quote b [] ne = rw (isnt b 39 ne) refl
 no_quote b (c ∷ bs) ne = rw (isnt b 39 ne) refl
 
-two_quotes : (b c : ℕ) (bs : List ℕ) → b ≡ 39 → c ≡ 39 → quoted (b ∷ c ∷ bs) ≡ behind (39 ∷ []) 2 (quoted bs)
+pub two_quotes : (b c : ℕ) (bs : List ℕ) → b ≡ 39 → c ≡ 39 → quoted (b ∷ c ∷ bs) ≡ behind (39 ∷ []) 2 (quoted bs)
 unfolding quoted
 two_quotes b c bs e f = rw (eq-eqb b 39 e, eq-eqb c 39 f) refl
 
-one_quote : (b c : ℕ) (bs : List ℕ) → b ≡ 39 → c ≢ 39 → quoted (b ∷ c ∷ bs) ≡ Some ([], 1)
+pub one_quote : (b c : ℕ) (bs : List ℕ) → b ≡ 39 → c ≢ 39 → quoted (b ∷ c ∷ bs) ≡ Some ([], 1)
 unfolding quoted
 one_quote b c bs e ne = rw (eq-eqb b 39 e, isnt c 39 ne) refl
 
-last_quote : (b : ℕ) → b ≡ 39 → quoted (b ∷ []) ≡ Some ([], 1)
+pub last_quote : (b : ℕ) → b ≡ 39 → quoted (b ∷ []) ≡ Some ([], 1)
 unfolding quoted
 last_quote b e = rw (eq-eqb b 39 e) refl
 
