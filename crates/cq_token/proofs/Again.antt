@@ -14,7 +14,7 @@ use Rattle.cq_token.specs.declared.token.Piece.{Piece}
 use Rattle.cq_token.specs.declared.token.Piece.TheVariants.{Skip, Token as Found}
 use Rattle.cq_token.specs.declared.error.LexError.{LexError}
 use Rattle.cq_token.specs.declared.error.LexError.TheVariants.{BadCharacter}
-use Rattle.cq_token.specs.declared.print.Word.{Word}
+use Rattle.cq_token.specs.declared.printer.Word.{Word}
 use Rattle.cq_token.specs.declared.sign.Sign.{Sign}
 use Rattle.cq_token.specs.declared.sign.Sign.TheVariants as s
 use Rattle.cq_token.specs.Bytes.{is_blank, begins_name, is_in_name}

@@ -40,7 +40,7 @@ blank_first b (c ∷ z) last h = rw (no_dash b h, h) refl
 closes : (b : ℕ) (z : List ℕ) (last : Bool) → is_in_line b ≡ false → is_gap true (b ∷ z) last ≡ is_gap false z last
 closes b z last h = ap (λ o. is_gap o z last) h
 
-one_more : (n b : ℕ) (z : List ℕ) → take (1 + n) (b ∷ z) ≡ b ∷ take n z
+pub one_more : (n b : ℕ) (z : List ℕ) → take (1 + n) (b ∷ z) ≡ b ∷ take n z
 one_more n b z = let e : 1 + n ≡ suc n = omega arith in rw e refl
 
 one_less : (n b : ℕ) (z : List ℕ) → drop (1 + n) (b ∷ z) ≡ drop n z
@@ -111,7 +111,7 @@ comment_step m at b rest ts ih le is h =
     (prepend false true at (at + 1 + more) (b ∷ take more rest) (drop more rest) ts place (λ y last. comment_first b rest y last is)
     (ih true (at + 1 + more) (drop more rest) ts (left_of more m rest le) (line_ends rest) (sym (skip more (at + 1) rest within) ∙ h)))
 
-first_of : (t : Token) (o : Result (List Token) LexError) (ts : List Token) → put_first t o ≡ Ok ts → (us : List Token) × ((o ≡ Ok us) × (t ∷ us ≡ ts))
+pub first_of : (t : Token) (o : Result (List Token) LexError) (ts : List Token) → put_first t o ≡ Ok ts → (us : List Token) × ((o ≡ Ok us) × (t ∷ us ≡ ts))
 first_of t (Ok us) ts h = (us, (refl, cc h))
 first_of t (Err e) ts h = absurd (cc h)
 

@@ -2,6 +2,7 @@ pub mod Runs
 pub mod Pieces
 pub mod Again
 pub mod Doubled
+pub mod Made
 pub mod Laws
 pub mod Quotes
 pub mod Steps

@@ -6,7 +6,7 @@ use Rattle.std.specs.Str.{is_utf8}
 use Rattle.cq_token.specs.declared.token.Token.{Token}
 use Rattle.cq_token.specs.declared.token.TokenKind.{TokenKind}
 use Rattle.cq_token.specs.declared.token.TokenKind.TheVariants as kind
-use Rattle.cq_token.specs.declared.print.Word.{Word}
+use Rattle.cq_token.specs.declared.printer.Word.{Word}
 use Rattle.cq_token.specs.declared.error.LexError.{LexError}
 use Rattle.cq_token.specs.declared.sign.Sign.{Sign}
 use Rattle.cq_token.specs.declared.sign.Sign.TheVariants as s

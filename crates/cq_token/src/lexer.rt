@@ -1,4 +1,6 @@
 ghost use Rattle.std.specs.Prelude.{false, length, IfOk};
+ghost use Rattle.std.specs.List.{AllByRecursion};
+ghost use Rattle.cq_token.specs.Printed.{IsKind};
 ghost use Rattle.cq_token.specs.Spans.{Cut, InOrder};
 ghost use Rattle.cq_token.specs.Tokens.{Gives, tokens as tokens_of};
 
@@ -12,6 +14,7 @@ use std::alloc::Global;
 pub fn tokens(alloc: Global, text: &[u8]) -> Result<Tokens, LexError>
     ensures value { Gives result (tokens_of text.now) }
     ensures cut { IfOk result (λ found. Cut false 0 found text.now) }
+    ensures kinds { IfOk result (λ found. AllByRecursion (λ token. IsKind token.kind) found) }
     ensures order { IfOk result (λ found. InOrder 0 found (length text.now)) }
 {
     let mut found = Tokens::new(alloc);

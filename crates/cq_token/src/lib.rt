@@ -5,12 +5,12 @@ mod bytes;
 mod error;
 mod lexer;
 mod piece;
-mod print;
+mod printer;
 mod sign;
 mod token;
 
 pub use error::LexError;
 pub use lexer::tokens;
-pub use print::{Word, write_word};
+pub use printer::{Word, print, write_word};
 pub use sign::Sign;
 pub use token::{Token, TokenKind, Tokens};

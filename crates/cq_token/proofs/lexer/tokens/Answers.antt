@@ -6,6 +6,7 @@ use Rattle.cq_token.specs.declared.token.Piece.TheVariants.{Skip, Token as Found
 use Rattle.cq_token.specs.Tokens.{tokens, tokens_from, IsWithin}
 use Rattle.cq_token.proofs.Steps.{put_all, put_one, at_end, past_skip, past_token, turn, in_text, stops, IsPiece}
 use Rattle.cq_token.specs.Spans.{InOrder}
+use Rattle.cq_token.proofs.Made.{tokens_made}
 use Rattle.cq_token.proofs.Laws.{tokens_cut, in_order}
 use Rattle.cq_token.proofs.lexer.tokens.Goals as goal
 
@@ -55,3 +56,6 @@ returns-clause-order c =
     let all : 0 + length text ≡ length text = omega arith in
     let h = tokens_cut text c.text.found (c.text.invariant.0 ∙ at_end c.text.found c.text.at text (omega arith)) in
     subst (InOrder 0 c.text.found) all (in_order false 0 text c.text.found h)
+
+pub returns-clause-kinds : goal.returns-clause-kinds
+returns-clause-kinds c = tokens_made c.args.text.now c.text.found (c.text.invariant.0 ∙ at_end c.text.found c.text.at c.args.text.now (omega arith))

@@ -2,7 +2,7 @@ ghost use Rattle.std.specs.Prelude.{◌≡◌, ◌++◌, [], ◌∷◌, if◌the
 ghost use Rattle.std.specs.List.{AllByRecursion};
 ghost use Rattle.std.specs.Char.{to_ascii_uppercase};
 ghost use Rattle.cq_token.specs.Tokens as lexed;
-ghost use Rattle.cq_token.specs.Printed.{IsKind, ReadAs, sign_bytes, doubled, spelled, printed, kinds};
+ghost use Rattle.cq_token.specs.Printed.{IsKind, ReadAs, kind_bytes, sign_bytes, doubled, spelled, printed, kinds};
 
 use crate::sign::Sign;
 use crate::token::TokenKind;
@@ -91,15 +91,45 @@ fn push_quoted(out: &mut String, content: &str) -> Result<(), NoMemory>
     push(out, "'")
 }
 
-/// Writes a word behind what was written. Before a blank or the end of a text it is read again as the same token, if
-/// it is one that a text can have. For want of memory part of it may be written.
-pub fn write_word(alloc: Global, out: &mut String, word: &Word) -> Result<(), NoMemory>
-    ensures written { OnOk result (string_bytes out.new ≡ string_bytes out.old ++ spelled word.now) }
+fn push_kind(alloc: Global, out: &mut String, kind: &TokenKind, upper: bool) -> Result<(), NoMemory>
+    ensures { OnOk result (string_bytes out.new ≡ string_bytes out.old ++ kind_bytes upper kind.now) }
 {
-    match &word.kind {
-        TokenKind::Name(name) => push_name(alloc, out, name.as_str(), word.upper),
+    match kind {
+        TokenKind::Name(name) => push_name(alloc, out, name.as_str(), upper),
         TokenKind::Number(n) => push_number(alloc, out, *n),
         TokenKind::Text(content) => push_quoted(out, content.as_str()),
         TokenKind::Sign(sign) => push(out, sign_text(*sign)),
     }
+}
+
+/// Writes a word behind what was written. Before a blank or the end of a text it is read again as the same token, if
+/// it is one that a text can have. For want of memory a part of it may be written.
+pub fn write_word(alloc: Global, out: &mut String, word: &Word) -> Result<(), NoMemory>
+    ensures written { OnOk result (string_bytes out.new ≡ string_bytes out.old ++ spelled word.now) }
+    ensures again { IsKind word.now.kind → ReadAs word.now.kind (spelled word.now) }
+{
+    push_kind(alloc, out, &word.kind, word.upper)
+}
+
+fn joined(alloc: Global, words: &[Word]) -> Result<String, NoMemory>
+    ensures { IfOk result (λ out. string_bytes out ≡ printed words.now) }
+{
+    let mut out = String::new(alloc);
+    if let Some((first, rest)) = words.split_first() {
+        write_word(alloc, &mut out, first)?;
+        for word in rest {
+            push(&mut out, " ")?;
+            write_word(alloc, &mut out, word)?;
+        }
+    }
+    Ok(out)
+}
+
+/// The text of the words, with one blank between them. It is read again as these tokens, if they are such that a text
+/// can have.
+pub fn print(alloc: Global, words: &[Word]) -> Result<Text, NoMemory>
+    ensures written { IfOk result (λ text. text ≡ printed words.now) }
+    ensures again { AllByRecursion (λ word. IsKind word.kind) words.now → kinds (lexed.tokens (printed words.now)) ≡ Ok (map (λ word. word.kind) words.now) }
+{
+    joined(alloc, words).map(Text::of_string)
 }

@@ -2,7 +2,7 @@ use Rattle.std.proofs.Common.{◌≡◌, ◌∙◌, ◌++◌, List, ℕ, Some, N
 use Rattle.std.proofs.lemmas.Str.Pattern.{split_parts}
 use Rattle.cq_token.specs.Printed.{doubled}
 use Rattle.cq_token.proofs.Doubled.{plain, pushed, utf8_after, on_ok}
-use Rattle.cq_token.proofs.print.push_doubled.Goals as goal
+use Rattle.cq_token.proofs.printer.push_doubled.Goals as goal
 
 pub quotes-preserved : goal.quotes-preserved
 quotes-preserved c =
