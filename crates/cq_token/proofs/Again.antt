@@ -88,7 +88,6 @@ all_back : (bs : List ℕ) → map to_ascii_lowercase (map to_ascii_uppercase bs
 all_back [] = refl
 all_back (b ∷ bs) = rw (back b) (ap (λ l. to_ascii_lowercase b ∷ l) (all_back bs))
 
-
 name_read : (upper : Bool) (name : List ℕ) → IsName name → ReadAs (kind.Name name) (kind_bytes upper (kind.Name name))
 name_read upper [] h = absurd h
 name_read false (b ∷ bs) h = subst (λ (n : List ℕ). ReadAs (kind.Name n) (b ∷ bs)) h.2 (name_again b bs h.0 h.1)

@@ -77,7 +77,8 @@ line_ends (b ∷ z) = by_end (prefix_len is_in_line z) b z (is_in_line b) refl (
 -- a gap goes on with these bytes before it
 prepend : (i j : Bool) (at k : ℕ) (pre z : List ℕ) (ts : List Token) → k ≡ at + length pre → ((y : List ℕ) (last : Bool) → is_gap i (pre ++ y) last ≡ is_gap j y last) → Cut j k ts z → Cut i at ts (pre ++ z)
 prepend i j at k pre z [] e same cut = same z true ∙ cut
-prepend i j at k pre z (t ∷ ts) e same cut = (record {
+prepend i j at k pre z (t ∷ ts) e same cut = (
+  record {
     gap = pre ++ cut.0.gap;
     word = cut.0.word;
     rest = cut.0.rest;
@@ -86,7 +87,9 @@ prepend i j at k pre z (t ∷ ts) e same cut = (record {
     start = omega (arith, cut.0.start, length-append pre cut.0.gap);
     end = cut.0.end;
     some = cut.0.some;
-  }, cut.1)
+  },
+  cut.1,
+)
 
 split : (b more : ℕ) (rest : List ℕ) → b ∷ (take more rest ++ drop more rest) ≡ b ∷ rest
 split b more rest = ap (λ z. b ∷ z) (take-append-drop more rest)
@@ -117,7 +120,8 @@ first_of t (Err e) ts h = absurd (cc h)
 
 token_step : (m : ℕ) (at b more : ℕ) (k : TokenKind) (rest : List ℕ) (us : List Token) → IH m → length rest ≤ m → more ≤ length rest
     → tokens_from more (at + 1) rest ≡ Ok us → Cut false at (record { kind = k; start = at; end = at + 1 + more } ∷ us) (b ∷ rest)
-token_step m at b more k rest us ih le within h = (record {
+token_step m at b more k rest us ih le within h = (
+  record {
     gap = [];
     word = b ∷ take more rest;
     rest = drop more rest;
@@ -126,7 +130,9 @@ token_step m at b more k rest us ih le within h = (record {
     start = omega arith;
     end = omega (arith, length-take-le more rest within);
     some = omega arith;
-  }, ih false (at + 1 + more) (drop more rest) us (left_of more m rest le) tt (sym (skip more (at + 1) rest within) ∙ h))
+  },
+  ih false (at + 1 + more) (drop more rest) us (left_of more m rest le) tt (sym (skip more (at + 1) rest within) ∙ h),
+)
 
 by_piece : (m : ℕ) (at b : ℕ) (rest : List ℕ) (ts : List Token) (p : Result Piece LexError) → IH m → length rest ≤ m → Sound b rest p
     → with_piece at p (λ left. tokens_from left (at + 1) rest) ≡ Ok ts → Cut false at ts (b ∷ rest)

@@ -40,9 +40,11 @@ text-preserved c =
     let is : IsPiece at bytes (Ok (Found c.in-Token.kind more)) = subst (λ (p : Piece). IsPiece at bytes (Ok p)) c.in-Token.is c.in_ok-more.ensures.value in
     let within : more ≤ length bytes - 1 = subst (λ (p : Piece). IsWithin (length bytes - 1) (Ok p)) c.in-Token.is c.in_ok-more.ensures.within in
     let le = in_text at more text c.text-test.true within in
-    let pushed = c.in_ok-put-in-Token.ensures.ok in
-    (c.text.invariant.0 ∙ ap (put_all c.text.found) (past_token at more c.in-Token.kind text c.text-test.true le is)
-    ∙ put_one c.text.found token after ∙ ap (λ l. put_all l after) (sym pushed), le)
+    let pushed = c.in_ok-put-in-Token.ensures.ok in (
+      c.text.invariant.0 ∙ ap (put_all c.text.found) (past_token at more c.in-Token.kind text c.text-test.true le is)
+          ∙ put_one c.text.found token after ∙ ap (λ l. put_all l after) (sym pushed),
+      le,
+    )
 
 pub returns-clause-value : goal.returns-clause-value
 returns-clause-value c = c.text.invariant.0 ∙ at_end c.text.found c.text.at c.args.text.now (omega arith)

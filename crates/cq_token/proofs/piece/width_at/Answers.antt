@@ -12,5 +12,6 @@ returns-then-bytes-at-eq39-clause-value c = past_quotes c.args.at c.args.bytes.n
 pub returns-else-at-bytes-clause-value : goal.returns-else-at-bytes-clause-value
 returns-else-at-bytes-clause-value c =
     elim c.else-at-bytes.branch [
-      else-at-bytes-via-then-at-bytes+else-bytes-at-eq39 w ↦ at_quote c.args.at c.args.bytes.now (omega arith) (omega arith) w.if-bytes-at-eq39.false
-    | else-at-bytes-via-else-at-bytes w ↦ at_last_quote c.args.at c.args.bytes.now c.requires (omega arith) (omega arith) ]
+      | else-at-bytes-via-then-at-bytes+else-bytes-at-eq39 w ↦ at_quote c.args.at c.args.bytes.now (omega arith) (omega arith) w.if-bytes-at-eq39.false
+      | else-at-bytes-via-else-at-bytes w ↦ at_last_quote c.args.at c.args.bytes.now c.requires (omega arith) (omega arith)
+    ]

@@ -9,9 +9,11 @@ quotes-preserved c =
     let before = c.in-Some.before.now in
     let after = c.in-Some.after.now in
     let rest = c.quotes.rest.now in
-    let parts = split_parts 39 rest (Some (c.in-Some.before, c.in-Some.after)) c.in-Some.ensures.cases (omega arith) in
-    (pushed (string_bytes c.quotes.out) (string_bytes c.push.new.out) (string_bytes c.push-in-Some.new.out) before after rest c.in_ok-push.ensures c.in_ok-push-2.ensures parts.0 parts.1
-    ∙ c.quotes.invariant.0, utf8_after before after rest c.quotes.invariant.1 parts.0)
+    let parts = split_parts 39 rest (Some (c.in-Some.before, c.in-Some.after)) c.in-Some.ensures.cases (omega arith) in (
+      pushed (string_bytes c.quotes.out) (string_bytes c.push.new.out) (string_bytes c.push-in-Some.new.out) before after rest c.in_ok-push.ensures c.in_ok-push-2.ensures parts.0 parts.1
+          ∙ c.quotes.invariant.0,
+      utf8_after before after rest c.quotes.invariant.1 parts.0,
+    )
 
 pub returns : goal.returns
 returns c =
