@@ -1,5 +1,5 @@
 -- A text is cut into its tokens, with blanks and comments between.
-use Rattle.std.proofs.Common.{◌≡◌, ℕ, zero, suc, ◌+◌, ◌-◌, ◌<◌, ◌≤◌, List, [], ◌∷◌, ◌++◌, append_assoc, length, drop, take, Bool, true, false, not, ◌&&◌, ◌||◌, ◌==◌, if◌then◌else◌, Result, Ok, Err, refl, sym, ◌∙◌, ap, subst, arith, length-append, length-drop, cond}
+use Rattle.std.proofs.Common.{◌≡◌, ℕ, zero, suc, ◌+◌, ◌≤◌, List, [], ◌∷◌, ◌++◌, append_assoc, length, drop, take, Bool, true, false, ◌&&◌, ◌==◌, if◌then◌else◌, Result, Ok, Err, refl, sym, ◌∙◌, ap, subst, arith, length-append, length-drop, cond}
 use Rattle.std.proofs.lemmas.List.{take-append-drop, length-take-le}
 use Rattle.std.proofs.lemmas.List.Sums.{prefix_len-le-length}
 use Rattle.std.proofs.lemmas.Bool.Decides.{nat_tests}
@@ -11,8 +11,8 @@ use Rattle.cq_token.specs.declared.token.Piece.TheVariants.{Skip, Token as Found
 use Rattle.cq_token.specs.declared.error.LexError.{LexError}
 use Rattle.cq_token.specs.Bytes.{is_blank, is_in_line}
 use Rattle.cq_token.specs.Tokens.{piece_at, tokens, tokens_from, with_piece, put_first, begins_comment}
-use Rattle.cq_token.specs.Spans.{is_gap, Parts, Cut, InOrder}
-use Rattle.cq_token.proofs.Pieces.{Skipped, blank, comment, Sound, sound}
+use Rattle.cq_token.specs.Spans.{is_gap, Cut, InOrder}
+use Rattle.cq_token.proofs.Pieces.{blank, comment, Sound, sound}
 use Rattle.cq_token.proofs.Steps.{skip}
 
 -- ---- gaps

@@ -1,20 +1,18 @@
 -- What a token of a text may be.
-use Rattle.std.proofs.Common.{◌≡◌, ℕ, zero, suc, ◌+◌, ◌≤◌, ◌==◌, List, [], ◌∷◌, length, drop, take, map, fold, Bool, true, false, cond, if◌then◌else◌, nat_le, Option, Some, None, Result, Ok, Err, refl, sym, ◌∙◌, ap, subst, arith}
+use Rattle.std.proofs.Common.{◌≡◌, ℕ, zero, suc, ◌+◌, ◌==◌, List, [], ◌∷◌, take, map, fold, Bool, true, false, cond, if◌then◌else◌, nat_le, Option, Some, None, Result, Ok, Err, refl, ap, subst, arith}
 use Rattle.std.proofs.lemmas.Bool.Decides.{nat_tests}
 use Rattle.std.specs.List.{prefix_len, AllByRecursion}
 use Rattle.std.specs.Char.{is_ascii_digit, to_ascii_lowercase}
 use Rattle.std.specs.Str.{is_utf8}
 use Rattle.cq_token.specs.declared.token.Token.{Token}
-use Rattle.cq_token.specs.declared.token.TokenKind.{TokenKind}
-use Rattle.cq_token.specs.declared.token.TokenKind.TheVariants as kind
 use Rattle.cq_token.specs.declared.token.Piece.{Piece}
 use Rattle.cq_token.specs.declared.token.Piece.TheVariants.{Skip, Token as Found}
 use Rattle.cq_token.specs.declared.error.LexError.{LexError}
 use Rattle.cq_token.specs.declared.sign.Sign.{Sign}
 use Rattle.cq_token.specs.Bytes.{is_blank, begins_name, is_in_name}
 use Rattle.cq_token.specs.Signs.{sign_of, pair_of}
-use Rattle.cq_token.specs.Tokens.{tokens, tokens_from, piece_at, with_piece, put_first, name_at, number_at, number_of, value_of, with_digit, greatest_number, text_of, quoted, sign_at, one_sign, pair_or_one, begins_comment}
-use Rattle.cq_token.specs.Printed.{IsName, IsKind}
+use Rattle.cq_token.specs.Tokens.{tokens, tokens_from, piece_at, with_piece, name_at, number_at, number_of, with_digit, greatest_number, text_of, quoted, sign_at, one_sign, pair_or_one, begins_comment}
+use Rattle.cq_token.specs.Printed.{IsKind}
 use Rattle.cq_token.proofs.Pieces.{by_if}
 use Rattle.cq_token.proofs.Laws.{first_of, one_more}
 

@@ -10,7 +10,7 @@ use Rattle.cq_token.specs.declared.error.LexError.{LexError}
 use Rattle.cq_token.specs.declared.sign.Sign.{Sign}
 use Rattle.cq_token.specs.Bytes.{is_blank, is_in_line, is_in_name, begins_name}
 use Rattle.cq_token.specs.Signs.{sign_of, pair_of}
-use Rattle.cq_token.specs.Tokens.{piece_at, name_at, number_at, number_of, value_of, text_of, quoted, behind, sign_at, one_sign, pair_or_one, begins_comment}
+use Rattle.cq_token.specs.Tokens.{piece_at, name_at, number_at, number_of, text_of, quoted, behind, sign_at, one_sign, pair_or_one, begins_comment}
 
 pub data Skipped (b : ℕ) (rest : List ℕ) (more : ℕ) : Type 0 where
   blank : is_blank b ≡ true → more ≡ 0 → Skipped b rest more

@@ -1,4 +1,4 @@
--- What a byte may do in a text of SQL.
+-- What a byte may do in a text of SQL (the project's own rules, after PostgreSQL documentation, "Lexical Structure").
 use Rattle.std.specs.Prelude.{ℕ, Bool, not, ◌||◌, ◌==◌}
 use Rattle.std.specs.Char.{is_ascii_digit, is_ascii_alphabetic}
 

@@ -1,10 +1,9 @@
 -- The tokens of a text.
-use Rattle.std.specs.Prelude.{◌≡◌, ◌≢◌, ◌≤◌, ℕ, zero, suc, ◌+◌, ◌-◌, ◌*◌, Bool, true, false, ◌&&◌, if◌then◌else◌, ◌==◌, nat_le, List, [], ◌∷◌, ◌++◌, map, fold, take, length, Option, Some, None, Result, Ok, Err}
+use Rattle.std.specs.Prelude.{◌≡◌, ◌≢◌, ◌≤◌, ℕ, zero, suc, ◌+◌, ◌-◌, ◌*◌, Bool, false, ◌&&◌, if◌then◌else◌, ◌==◌, nat_le, List, [], ◌∷◌, ◌++◌, map, fold, take, Option, Some, None, Result, Ok, Err}
 use Rattle.std.specs.List.{prefix_len}
 use Rattle.std.specs.Char.{is_ascii_digit, to_ascii_lowercase}
 use Rattle.std.specs.Str.{is_utf8}
 use Rattle.cq_token.specs.declared.token.Token.{Token}
-use Rattle.cq_token.specs.declared.token.TokenKind.{TokenKind}
 use Rattle.cq_token.specs.declared.token.TokenKind.TheVariants as kind
 use Rattle.cq_token.specs.declared.token.Piece.{Piece}
 use Rattle.cq_token.specs.declared.token.Piece.TheVariants.{Skip, Token as Found}
@@ -46,7 +45,7 @@ abbrev pub behind : List ℕ → ℕ → Option (List ℕ × ℕ) → Option (Li
 behind content n None = None
 behind content n (Some found) = Some (content ++ found.0, n + found.1)
 
--- behind an opening quote: the text's content, and how many bytes it takes with its closing quote; a doubled quote is one of the content
+-- behind an opening quote, 39: the text's content, and how many bytes it takes with its closing quote; a doubled quote is one of the content
 unfoldable pub quoted : List ℕ → Option (List ℕ × ℕ)
 quoted [] = None
 quoted (b ∷ []) = if b == 39 then Some ([], 1) else None
@@ -72,7 +71,7 @@ unfoldable pub sign_at : ℕ → ℕ → List ℕ → Result Piece LexError
 sign_at at b [] = one_sign at (sign_of b)
 sign_at at b (c ∷ rest) = pair_or_one at b (pair_of b c)
 
--- two dashes
+-- two dashes, 45
 abbrev pub begins_comment : ℕ → List ℕ → Bool
 begins_comment b [] = false
 begins_comment b (c ∷ rest) = b == 45 && c == 45

@@ -9,8 +9,8 @@ use crate::piece::piece_at;
 use crate::token::{Piece, Token, Tokens};
 use std::alloc::Global;
 
-/// The tokens of the text in order, or the first refusal that the text shows: what the definition says, unless memory
-/// is wanting.
+/// The tokens of the text in order: they cut it, with blanks and comments between, and each is one that can be printed
+/// and read again. Otherwise the first refusal that the text shows, or want of memory.
 pub fn tokens(alloc: Global, text: &[u8]) -> Result<Tokens, LexError>
     ensures value { Gives result (tokens_of text.now) }
     ensures cut { IfOk result (λ found. Cut false 0 found text.now) }

@@ -13,6 +13,6 @@ mod token;
 
 pub use error::LexError;
 pub use lexer::tokens;
-pub use printer::{Word, print, write_word};
+pub use printer::{Word, print, spell};
 pub use sign::Sign;
 pub use token::{Token, TokenKind, Tokens};

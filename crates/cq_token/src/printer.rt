@@ -102,13 +102,14 @@ fn push_kind(alloc: Global, out: &mut String, kind: &TokenKind, upper: bool) -> 
     }
 }
 
-/// Writes a word behind what was written. Before a blank or the end of a text it is read again as the same token, if
-/// it is one that a text can have. For want of memory a part of it may be written.
-pub fn write_word(alloc: Global, out: &mut String, word: &Word) -> Result<(), NoMemory>
-    ensures written { OnOk result (string_bytes out.new ≡ string_bytes out.old ++ spelled word.now) }
+/// The word as it is written: a name in its case, a number's digits, a text between quotes with its quotes doubled, a
+/// sign. Before a blank or the end of a text it is read again as the same token, if it is one that a text can have.
+pub fn spell(alloc: Global, word: &Word) -> Result<Text, NoMemory>
+    ensures written { IfOk result (λ text. text ≡ spelled word.now) }
     ensures again { IsKind word.now.kind → ReadAs word.now.kind (spelled word.now) }
 {
-    push_kind(alloc, out, &word.kind, word.upper)
+    let mut out = String::new(alloc);
+    push_kind(alloc, &mut out, &word.kind, word.upper).map(|()| Text::of_string(out))
 }
 
 fn joined(alloc: Global, words: &[Word]) -> Result<String, NoMemory>
@@ -116,10 +117,10 @@ fn joined(alloc: Global, words: &[Word]) -> Result<String, NoMemory>
 {
     let mut out = String::new(alloc);
     if let Some((first, rest)) = words.split_first() {
-        write_word(alloc, &mut out, first)?;
+        push_kind(alloc, &mut out, &first.kind, first.upper)?;
         for word in rest {
             push(&mut out, " ")?;
-            write_word(alloc, &mut out, word)?;
+            push_kind(alloc, &mut out, &word.kind, word.upper)?;
         }
     }
     Ok(out)

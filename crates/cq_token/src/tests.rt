@@ -1,6 +1,6 @@
 //! Texts with the tokens and refusals that the rules of SQL give them, worked out by hand.
 
-use crate::{LexError, Sign, Token, TokenKind, Word, print, tokens};
+use crate::{LexError, Sign, Token, TokenKind, Word, print, spell, tokens};
 use cq_value::Text;
 use std::alloc::Global;
 use std::test::Fail;
@@ -122,5 +122,10 @@ fn printed(rt: HostRuntime) -> Result<(), Fail> {
         return Ok(());
     };
     assert_eq!(rt; printed.as_str(), "SELECT 4711 => 'it''s' a_1$");
+    let Ok(spelled) = spell(alloc, &word(TokenKind::Sign(Sign::NotEqual), false)) else {
+        assert!(rt; false);
+        return Ok(());
+    };
+    assert_eq!(rt; spelled.as_str(), "<>");
     Ok(())
 }

@@ -1,4 +1,4 @@
-use Rattle.std.proofs.Common.{◌≡◌, ◌≢◌, ◌∙◌, ◌+◌, ◌-◌, ◌≤◌, ◌<◌, ℕ, List, ◌∷◌, [], length, drop, take, ap, sym, subst, arith, rules, Ok, Err, refl, false}
+use Rattle.std.proofs.Common.{◌≡◌, ◌≢◌, ◌∙◌, ◌+◌, ◌-◌, ◌≤◌, length, drop, take, ap, sym, subst, arith, Ok, Err, false}
 use Rattle.cq_token.specs.declared.error.LexError.TheVariants.{Memory}
 use Rattle.cq_token.specs.declared.token.Token.{Token}
 use Rattle.cq_token.specs.declared.token.Piece.{Piece}

@@ -1,4 +1,4 @@
-use Rattle.std.proofs.Common.{◌≡◌, ◌∙◌, true, subst, ap, List, ℕ, rules}
+use Rattle.std.proofs.Common.{◌∙◌, true, subst, ap, List, ℕ}
 use Rattle.std.proofs.lemmas.Str.{IsUtf8-string_bytes}
 use Rattle.std.specs.Str.{IsUtf8}
 use Rattle.cq_token.proofs.Texts.{answer, good_text, bad_text}

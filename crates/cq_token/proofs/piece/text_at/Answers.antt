@@ -1,4 +1,4 @@
-use Rattle.std.proofs.Common.{◌≡◌, ◌∙◌, ap, arith, rules}
+use Rattle.std.proofs.Common.{◌∙◌, ap, arith}
 use Rattle.cq_token.specs.Tokens.{text_of, behind}
 use Rattle.cq_token.proofs.Quotes.{unclosed}
 use Rattle.cq_token.proofs.piece.text_at.Goals as goal

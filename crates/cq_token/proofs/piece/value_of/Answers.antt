@@ -1,4 +1,4 @@
-use Rattle.std.proofs.Common.{◌≡◌, sym, arith, rules}
+use Rattle.std.proofs.Common.{sym, arith}
 use Rattle.cq_token.proofs.Runs.{too_large, past_greatest, no_larger}
 use Rattle.cq_token.proofs.piece.value_of.Goals as goal
 

@@ -1,4 +1,4 @@
-use Rattle.std.proofs.Common.{◌≡◌, arith, rules}
+use Rattle.std.proofs.Common.{arith}
 use Rattle.cq_token.proofs.Quotes.{past_byte, past_quotes, at_quote, at_last_quote}
 use Rattle.cq_token.proofs.piece.width_at.Goals as goal
 use Rattle.cq_token.proofs.piece.width_at.Goals.{else-at-bytes-via-then-at-bytes+else-bytes-at-eq39, else-at-bytes-via-else-at-bytes}

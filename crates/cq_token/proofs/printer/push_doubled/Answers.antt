@@ -1,4 +1,4 @@
-use Rattle.std.proofs.Common.{◌≡◌, ◌∙◌, ◌++◌, List, ℕ, Some, None, string_bytes, flat_map, ap, sym, arith}
+use Rattle.std.proofs.Common.{◌≡◌, ◌∙◌, ◌++◌, Some, None, string_bytes, flat_map, ap, sym, arith}
 use Rattle.std.proofs.lemmas.Str.Pattern.{split_parts}
 use Rattle.cq_token.specs.Printed.{doubled}
 use Rattle.cq_token.proofs.Doubled.{plain, pushed, utf8_after, on_ok}
