@@ -1,0 +1,9 @@
+pub mod Runs
+pub mod Pieces
+pub mod Again
+pub mod Doubled
+pub mod Made
+pub mod Laws
+pub mod Quotes
+pub mod Steps
+pub mod Texts

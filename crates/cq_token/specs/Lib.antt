@@ -1,0 +1,5 @@
+pub mod Bytes
+pub mod Printed
+pub mod Signs
+pub mod Spans
+pub mod Tokens

@@ -1,0 +1,186 @@
+ghost use Rattle.std.specs.Prelude.{◌≡◌, ◌<◌, ◌≤◌, ◌+◌, ◌-◌, [], ◌∷◌, drop, length, slice_index, map, List, ℕ, true, Some, IfSome, MatchOption};
+ghost use Rattle.std.specs.Char.{to_ascii_lowercase};
+ghost use Rattle.std.specs.Str.{IsAscii};
+ghost use Rattle.cq_token.specs.Bytes as of_bytes;
+ghost use Rattle.cq_token.specs.Signs as of_signs;
+ghost use Rattle.cq_token.specs.Tokens as spec;
+ghost use Rattle.cq_token.specs.Tokens.{Gives, IsWithin, behind};
+
+use crate::bytes::{begins_name, digits_len, is_blank, line_len, name_len};
+use crate::error::LexError;
+use crate::sign::{pair_of, sign_of};
+use crate::token::{Piece, TokenKind};
+use cq_value::Text;
+use std::alloc::Global;
+
+const GREATEST_NUMBER: u64 = 9223372036854775807;
+
+/// The text of these bytes in lower case.
+fn folded(alloc: Global, name: &[u8]) -> Result<Text, LexError>
+    requires { IsAscii name.now }
+    ensures { Gives result (Ok (map to_ascii_lowercase name.now)) }
+{
+    let name = std::str::from_utf8(name).unwrap();
+    match name.to_ascii_lowercase(alloc) {
+        Ok(folded) => Ok(Text::of_string(folded)),
+        Err(_) => Err(LexError::Memory),
+    }
+}
+
+/// The name at the front, which the first byte begins.
+#[tactic(auto, unfolding(crate::specs::Tokens::name_at))]
+fn name_at(alloc: Global, bytes: &[u8]) -> Result<Piece, LexError>
+    requires { (b : ℕ) × (rest : List ℕ) × (bytes.now ≡ b ∷ rest) × (of_bytes.begins_name b ≡ true) }
+    ensures value { (b : ℕ) (rest : List ℕ) → bytes.now ≡ b ∷ rest → Gives result (spec.name_at b rest) }
+    ensures within { IsWithin (length bytes.now - 1) result }
+{
+    let more = name_len(&bytes[1..]);
+    let name = folded(alloc, &bytes[..1 + more])?;
+    Ok(Piece::Token {
+        kind: TokenKind::Name(name),
+        more,
+    })
+}
+
+/// The number that digits write, if it isn't too large.
+fn value_of(digits: &[u8]) -> Option<u64>
+    ensures { result ≡ spec.value_of digits.now }
+{
+    let mut value: u64 = 0;
+    for byte in digits {
+        let digit = u64::from(byte.saturating_sub(b'0'));
+        if value > (GREATEST_NUMBER - digit) / 10 {
+            return None;
+        }
+        value = 10 * value + digit;
+    }
+    Some(value)
+}
+
+/// The number at the front, which the first byte begins.
+#[tactic(auto, unfolding(crate::specs::Tokens::number_at))]
+fn number_at(at: u64, bytes: &[u8]) -> Result<Piece, LexError>
+    requires { 1 ≤ length bytes.now }
+    ensures value { (b : ℕ) (rest : List ℕ) → bytes.now ≡ b ∷ rest → result ≡ spec.number_at at b rest }
+    ensures within { IsWithin (length bytes.now - 1) result }
+{
+    let more = digits_len(&bytes[1..]);
+    match value_of(&bytes[..1 + more]) {
+        Some(value) => Ok(Piece::Token {
+            kind: TokenKind::Number(value),
+            more,
+        }),
+        None => Err(LexError::TooLarge { at }),
+    }
+}
+
+/// The text of this content, whose bytes behind the opening quote are so many.
+fn closed(at: u64, content: Vec<u8>, more: usize) -> Result<Piece, LexError>
+    ensures value { result ≡ spec.text_of at (Some (content.items, more)) }
+    ensures within { IsWithin more result }
+{
+    match String::from_utf8(content) {
+        Ok(text) => Ok(Piece::Token {
+            kind: TokenKind::Text(Text::of_string(text)),
+            more,
+        }),
+        Err(_) => Err(LexError::BadCharacter { at }),
+    }
+}
+
+/// How many bytes a text's byte at the place takes: two for a doubled quote. At the closing quote there is none.
+fn width_at(bytes: &[u8], at: usize) -> Option<usize>
+    requires { at < length bytes.now }
+    ensures value { MatchOption result (spec.quoted (drop at bytes.now) ≡ Some ([], 1)) (λ width. spec.quoted (drop at bytes.now) ≡ behind (slice_index bytes.now at ∷ []) width (spec.quoted (drop (at + width) bytes.now))) }
+    ensures within { IfSome result (λ width. (1 ≤ width) × (at + width ≤ length bytes.now)) }
+{
+    if bytes[at] != b'\'' {
+        Some(1)
+    } else if at + 1 < bytes.len() && bytes[at + 1] == b'\'' {
+        Some(2)
+    } else {
+        None
+    }
+}
+
+/// The text whose opening quote stands before the bytes.
+fn text_at(alloc: Global, at: u64, bytes: &[u8]) -> Result<Piece, LexError>
+    ensures value { Gives result (spec.text_of at (spec.quoted bytes.now)) }
+    ensures within { IsWithin (length bytes.now) result }
+{
+    let mut content = Vec::new(alloc);
+    let mut len = 0;
+    'text: while len < bytes.len() {
+        let Some(width) = width_at(bytes, len) else {
+            return closed(at, content, len + 1);
+        };
+        if content.push(bytes[len]).is_err() {
+            return Err(LexError::Memory);
+        }
+        len += width;
+    }
+    Err(LexError::OpenQuote { at })
+}
+
+fn one_sign(at: u64, byte: u8) -> Result<Piece, LexError>
+    ensures value { result ≡ spec.one_sign at (of_signs.sign_of byte) }
+    ensures within { IsWithin 0 result }
+{
+    match sign_of(byte) {
+        Some(sign) => Ok(Piece::Token {
+            kind: TokenKind::Sign(sign),
+            more: 0,
+        }),
+        None => Err(LexError::BadCharacter { at }),
+    }
+}
+
+/// The sign at the front.
+#[tactic(auto, unfolding(crate::specs::Tokens::sign_at))]
+fn sign_at(at: u64, byte: u8, rest: &[u8]) -> Result<Piece, LexError>
+    ensures value { result ≡ spec.sign_at at byte rest.now }
+    ensures within { IsWithin (length rest.now) result }
+{
+    let Some(second) = rest.first() else {
+        return one_sign(at, byte);
+    };
+    match pair_of(byte, *second) {
+        Some(sign) => Ok(Piece::Token {
+            kind: TokenKind::Sign(sign),
+            more: 1,
+        }),
+        None => one_sign(at, byte),
+    }
+}
+
+fn begins_comment(byte: u8, rest: &[u8]) -> bool
+    ensures { result ≡ spec.begins_comment byte rest.now }
+{
+    byte == b'-' && matches!(rest, [b'-', ..])
+}
+
+/// What stands at the front of the bytes, which begin at the place.
+#[tactic(auto, unfolding(crate::specs::Tokens::piece_at))]
+pub fn piece_at(alloc: Global, at: u64, bytes: &[u8]) -> Result<Piece, LexError>
+    requires { 1 ≤ length bytes.now }
+    ensures value { (b : ℕ) (rest : List ℕ) → bytes.now ≡ b ∷ rest → Gives result (spec.piece_at at b rest) }
+    ensures within { IsWithin (length bytes.now - 1) result }
+{
+    let byte = bytes[0];
+    let rest = &bytes[1..];
+    if is_blank(byte) {
+        Ok(Piece::Skip { more: 0 })
+    } else if begins_comment(byte, rest) {
+        Ok(Piece::Skip {
+            more: line_len(rest),
+        })
+    } else if begins_name(byte) {
+        name_at(alloc, bytes)
+    } else if byte.is_ascii_digit() {
+        number_at(at, bytes)
+    } else if byte == b'\'' {
+        text_at(alloc, at, rest)
+    } else {
+        sign_at(at, byte, rest)
+    }
+}
