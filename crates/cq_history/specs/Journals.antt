@@ -1,5 +1,5 @@
 -- The contents that a journal's entries leave, and when a journal is a legal history.
-use Rattle.std.specs.Prelude.{◌≡◌, ◌+◌, ℕ, ⊤, List, [], ◌∷◌, take, Some, slice_get, if◌then◌else◌, nat_eq}
+use Rattle.std.specs.Prelude.{◌≡◌, ℕ, ⊤, List, [], ◌∷◌, take, Some, slice_get, if◌then◌else◌, nat_eq}
 use Rattle.std.specs.List.{AllByRecursion}
 use Rattle.cq_value.specs.declared.schema.Shape.{Shape}
 use Rattle.cq_value.specs.Tables.{Table, empty_table, rows_of}
@@ -46,10 +46,9 @@ pub record IsLegal (cat : Catalog) (group : ℕ) (es : List Entry) : Type 0 wher
   pub replied : EachReplied (λ table. shape_of cat) es
   pub placed : AllByRecursion (λ (e : Entry). PlacesRows cat group e.kind) es
 
--- the journals of the shard groups from this one on are legal
-abbrev pub AllLegalFrom : Catalog → ℕ → List (List Entry) → Type 0
-AllLegalFrom cat group [] = ⊤
-AllLegalFrom cat group (es ∷ journals) = IsLegal cat group es × AllLegalFrom cat (group + 1) journals
+-- a fact of each journal and its group, in a list of journals in order of group
+abbrev pub EachJournal : (ℕ → List Entry → Type 0) → List (List Entry) → Type 0
+EachJournal P journals = (group : ℕ) (es : List Entry) → slice_get journals group ≡ Some es → P group es
 
 abbrev pub AllLegal : Catalog → List (List Entry) → Type 0
-AllLegal cat journals = AllLegalFrom cat 0 journals
+AllLegal cat journals = EachJournal (IsLegal cat) journals

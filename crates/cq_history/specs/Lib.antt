@@ -2,3 +2,4 @@ pub mod Journals
 pub mod Places
 pub mod Standing
 pub mod Log
+pub mod Between

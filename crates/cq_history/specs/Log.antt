@@ -6,7 +6,7 @@ use Rattle.cq_tree.specs.declared.journal.Entry.{Entry}
 use Rattle.cq_tree.specs.declared.statement.Statement.{Statement}
 use Rattle.cq_tree.specs.declared.statement.Statement.TheVariants.{CreateTable, Distribute}
 use Rattle.cq_tree.specs.declared.answer.Answer.{Answer}
-use Rattle.cq_tree.specs.declared.answer.Answer.TheVariants.{Tag, Table, Failed}
+use Rattle.cq_tree.specs.declared.answer.Answer.TheVariants.{Failed}
 use Rattle.cq_tree.specs.declared.answer.Answered.{Answered}
 use Rattle.cq_tree.specs.declared.answer.Settings.{Settings}
 use Rattle.cq_catalog.specs.declared.catalog.Catalog.{Catalog}

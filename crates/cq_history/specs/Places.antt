@@ -1,5 +1,5 @@
 -- The entries of a statement, their places, and the undistributed table at places of the journals.
-use Rattle.std.specs.Prelude.{◌≡◌, ◌+◌, ◌<◌, ℕ, Bool, ◌&&◌, List, [], ◌∷◌, ◌++◌, take, filter, length, if◌then◌else◌, nat_eq, nat_lt, Some, slice_get}
+use Rattle.std.specs.Prelude.{◌≡◌, ◌+◌, ℕ, Bool, ◌&&◌, List, [], ◌∷◌, ◌++◌, take, filter, length, if◌then◌else◌, nat_eq, nat_lt, Some, slice_get}
 use Rattle.cq_value.specs.Tables.{rows_of}
 use Rattle.cq_tree.specs.declared.journal.Who.{Who}
 use Rattle.cq_tree.specs.declared.journal.Entry.{Entry}
@@ -7,7 +7,7 @@ use Rattle.cq_tree.specs.declared.journal.EntryKind.{EntryKind}
 use Rattle.cq_catalog.specs.Tables.{shape_of}
 use Rattle.cq_catalog.specs.declared.catalog.Catalog.{Catalog}
 use Rattle.cq_meaning.specs.Values.{Row}
-use Rattle.cq_history.specs.Journals.{replay}
+use Rattle.cq_history.specs.Journals.{replay, EachJournal}
 
 -- whether an entry is of this statement
 abbrev pub made_by : Who → Entry → Bool
@@ -36,12 +36,12 @@ whole cat journals places = whole_from cat 0 journals places
 
 -- the statement has this one entry, in this group, and none elsewhere
 abbrev pub OneEntry : List (List Entry) → ℕ → Who → EntryKind → Type 0
-OneEntry journals group who kind = (g : ℕ) (es : List Entry) → slice_get journals g ≡ Some es →
-    filter (made_by who) es ≡ (if nat_eq g group then record { who = who; kind = kind } ∷ [] else [])
+OneEntry journals group who kind =
+    EachJournal (λ g es. filter (made_by who) es ≡ (if nat_eq g group then record { who = who; kind = kind } ∷ [] else [])) journals
 
 -- the statement has no entry
 abbrev pub NoEntry : List (List Entry) → Who → Type 0
-NoEntry journals who = (g : ℕ) (es : List Entry) → slice_get journals g ≡ Some es → filter (made_by who) es ≡ []
+NoEntry journals who = EachJournal (λ g es. filter (made_by who) es ≡ []) journals
 
 -- these places take the statement's own place in the group
 abbrev pub TakesPlace : List (List Entry) → ℕ → Who → (ℕ → ℕ) → Type 0

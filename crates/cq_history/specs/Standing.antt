@@ -1,12 +1,10 @@
 -- When an answer stands: its entries are those of its statement, and it is the statement's meaning over the undistributed
 -- table at every choice of places that takes the statement's own place in the group that it touches.
-use Rattle.std.specs.Prelude.{◌≡◌, ◌+◌, ◌<◌, ◌≤◌, ◌⊎◌, ⊤, ℕ, List, [], ◌∷◌, length, Option, Some, None, slice_get, codes}
-use Rattle.cq_value.specs.declared.value.Value.{Value}
+use Rattle.std.specs.Prelude.{◌≡◌, ◌+◌, ◌<◌, ◌≤◌, ◌⊎◌, ℕ, List, [], ◌∷◌, Option, Some, None, slice_get, codes}
 use Rattle.cq_value.specs.declared.value.Value.TheVariants as values
 use Rattle.cq_tree.specs.declared.journal.Who.{Who}
 use Rattle.cq_tree.specs.declared.journal.Entry.{Entry}
 use Rattle.cq_tree.specs.declared.journal.EntryKind.TheVariants.{Read, Write}
-use Rattle.cq_tree.specs.declared.journal.ShardOp.{ShardOp}
 use Rattle.cq_tree.specs.declared.journal.ShardOp.TheVariants.{Insert}
 use Rattle.cq_tree.specs.declared.journal.Reply.{Reply}
 use Rattle.cq_tree.specs.declared.journal.Reply.TheVariants.{Count, Duplicate}
@@ -24,7 +22,7 @@ use Rattle.cq_meaning.specs.Values.{Row, column}
 use Rattle.cq_meaning.specs.Queries.{Answers}
 use Rattle.cq_meaning.specs.Effects.{reply_of}
 use Rattle.cq_history.specs.Journals.{replay}
-use Rattle.cq_history.specs.Places.{earlier, whole, OneEntry, NoEntry, TakesPlace}
+use Rattle.cq_history.specs.Places.{before, earlier, whole, OneEntry, NoEntry, TakesPlace}
 
 -- the group that a row belongs to
 abbrev pub home_of : Catalog → Row → ℕ
@@ -44,11 +42,12 @@ pub record StandsQuery (cat : Catalog) (journals : List (List Entry)) (who : Who
 pub record StandsInsert (cat : Catalog) (journals : List (List Entry)) (who : Who) (table : ℕ) (row : Row) (reply : Reply) : Type 0 where
   pub entry : OneEntry journals (home_of cat row) who (Write (Insert table (row ∷ [])) reply)
   pub replied : (places : ℕ → ℕ) → TakesPlace journals (home_of cat row) who places → reply_of (Insert table (row ∷ [])) (whole cat journals places) (shape_of cat) ≡ reply
+  pub ids : (es : List Entry) → slice_get journals (home_of cat row) ≡ Some es → (replay 0 (shape_of cat) (before who es)).next + 1 ≤ most_ids
 
--- the row's group has no id left for so many rows, as the statement looks
-abbrev pub LacksIds : Catalog → List (List Entry) → Who → Row → Type 0
-LacksIds cat journals who row = (es : List Entry) → slice_get journals (home_of cat row) ≡ Some es →
-    most_ids < (replay 0 (shape_of cat) (earlier who es)).next + 1
+-- an INSERT that has no entry, since its row's group has no id left for the row as the statement looks
+pub record LacksIds (cat : Catalog) (journals : List (List Entry)) (who : Who) (row : Row) : Type 0 where
+  pub entry : NoEntry journals who
+  pub ids : (es : List Entry) → slice_get journals (home_of cat row) ≡ Some es → most_ids < (replay 0 (shape_of cat) (earlier who es)).next + 1
 
 -- the table of one column that `create_distributed_table` answers: its name, and one row with an empty text
 pub record IsDistributed (names : List (List ℕ)) (rows : List Row) : Type 0 where
@@ -64,7 +63,7 @@ Stands cat journals who (Some (statement.Distribute table column count with)) (a
 Stands cat journals who (Some (statement.Select q)) (answer.Table names rows) = StandsQuery cat journals who q names rows
 Stands cat journals who (Some (statement.Write (Insert table (row ∷ [])))) (answer.Tag (tag.Insert n)) = (n ≡ 1) × StandsInsert cat journals who table row (Count 1)
 Stands cat journals who (Some (statement.Write (Insert table (row ∷ [])))) (answer.Failed fault.Duplicate) = StandsInsert cat journals who table row Duplicate
-Stands cat journals who (Some (statement.Write (Insert table (row ∷ [])))) (answer.Failed (fault.Limit what.Ids n)) = (n ≡ most_ids) × NoEntry journals who × LacksIds cat journals who row
+Stands cat journals who (Some (statement.Write (Insert table (row ∷ [])))) (answer.Failed (fault.Limit what.Ids n)) = (n ≡ most_ids) × LacksIds cat journals who row
 Stands cat journals who (Some (statement.Select q)) (answer.Failed fault.Memory) = NoEntry journals who ⊎ OneEntry journals (group_of cat q.key) who Read
 Stands cat journals who bound (answer.Failed fault.Memory) = NoEntry journals who
 Stands cat journals who bound answer = ⊥

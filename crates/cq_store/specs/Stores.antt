@@ -1,5 +1,5 @@
 -- What a store holds: the rows of one shard, on one node, and the changes staged for them.
-use Rattle.std.specs.Prelude.{◌≡◌, ◌<◌, ◌≤◌, ◌⊎◌, ℕ, Bool, IsTrue, List, []}
+use Rattle.std.specs.Prelude.{◌≡◌, ◌<◌, ◌≤◌, ◌⊎◌, ℕ, Bool, true, IsTrue, List, []}
 use Rattle.cq_value.specs.declared.change.Change.{Change}
 use Rattle.cq_value.specs.Tables.{Table, empty_table}
 
@@ -28,3 +28,7 @@ pub record Becomes (old want new : StoreState) : Type 0 where
   pub state : new ≡ record want { faults = new.faults }
   pub counts : old.faults ≤ new.faults
   pub steady : IsTrue old.steady → new.faults ≡ old.faults
+
+-- a spare store of a node that never fails
+abbrev pub steady_spare : ℕ → StoreState
+steady_spare node = record { node = node; shard = 0; rows = empty_table; staged = []; faults = 0; steady = true }

@@ -1,0 +1,23 @@
+-- Fields with a bar between each two.
+use Rattle.std.proofs.Common.{◌≡◌, ◌≤◌, ◌-◌, ℕ, Result, Ok, Err, List, [], ◌∷◌, ◌++◌, length, take, drop, get_or, map, sym, ap, ◌∙◌, arith, append-nil, append_assoc}
+use Rattle.std.specs.Prelude.{flat_map, OnOk}
+use Rattle.std.specs.List.{join_with_byte}
+use Rattle.std.proofs.lemmas.Grind.{common_steps}
+
+joined : {X : Type 0} (text : X → List ℕ) (x : X) (xs : List X) → join_with_byte 124 (map text (x ∷ xs)) ≡ text x ++ flat_map (λ y. 124 ∷ text y) xs
+joined text x [] = sym (append-nil (text x))
+joined text x (y ∷ ys) = ap (λ v. text x ++ 124 ∷ v) (joined text y ys)
+
+-- the first field, and a bar and the text of each other
+joined_at : {X : Type 0} (text : X → List ℕ) (fields : List X) (x : X) → x ≡ get_or fields 0 x → 1 ≤ length fields → join_with_byte 124 (map text fields) ≡ text x ++ flat_map (λ y. 124 ∷ text y) (take (length fields - 1) (drop 1 fields))
+joined_at text [] x is some = absurd (omega (arith, some))
+joined_at text (y ∷ ys) x is some =
+    let rest : take (length (y ∷ ys) - 1) (drop 1 (y ∷ ys)) ≡ ys = grind (arith, common_steps) in
+    joined text y ys ∙ ap (λ v. text v ++ flat_map (λ z. 124 ∷ text z) ys) (sym is) ∙ ap (λ v. text x ++ flat_map (λ z. 124 ∷ text z) v) (sym rest)
+
+pub joined_after : {X E : Type 0} (text : X → List ℕ) (fields : List X) (x : X) (before first all : List ℕ) (r : Result (Unit {0}) E) → x ≡ get_or fields 0 x → 1 ≤ length fields → first ≡ before ++ text x →
+    OnOk r (all ≡ first ++ flat_map (λ y. 124 ∷ text y) (take (length fields - 1) (drop 1 fields))) → OnOk r (all ≡ before ++ join_with_byte 124 (map text fields))
+joined_after text fields x before first all (Err e) is some put h = h
+joined_after text fields x before first all (Ok u) is some put h =
+    h ∙ ap (λ v. v ++ flat_map (λ y. 124 ∷ text y) (take (length fields - 1) (drop 1 fields))) put
+    ∙ append_assoc before (text x) (flat_map (λ y. 124 ∷ text y) (take (length fields - 1) (drop 1 fields))) ∙ ap (λ v. before ++ v) (sym (joined_at text fields x is some))

@@ -1,0 +1,4 @@
+pub mod Schedules
+pub mod Scripts
+pub mod Streams
+pub mod Texts

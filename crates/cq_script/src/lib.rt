@@ -1,0 +1,20 @@
+//! What a script is: where its bytes come from and where the answers' bytes go, how it is cut into statements, and the
+//! text of each answer.
+#![tactic(auto)]
+
+mod cutter;
+mod fatal;
+mod memory;
+mod rendering;
+mod schedule;
+mod sink;
+mod source;
+mod standard;
+
+pub use cutter::{Cutter, Step};
+pub use fatal::{Fatal, MOST_BYTES};
+pub use memory::{MemSink, MemSource};
+pub use rendering::render;
+pub use sink::{Sink, SinkError, emit};
+pub use source::{Failed, Source};
+pub use standard::{ReadSource, WriteSink};

@@ -1,0 +1,123 @@
+ghost use Rattle.std.specs.Prelude.{◌≡◌, [], IfOk, OnOk, OnErr};
+ghost use Rattle.cq_value.specs.Changes.{Fit, adds_in};
+ghost use Rattle.cq_store.specs.Stores.{steady_spare};
+
+use crate::store::{Store, StoreError};
+use cq_value::{Change, Changes, Duplicate, NoMemory, Numbered, ReservedTable};
+use std::alloc::Global;
+use std::marker::Model;
+use std::mem;
+
+/// A store in memory, which never fails. While changes are staged its table has room for the rows that they add, so that
+/// a commit takes no memory.
+#[derive(Drop)]
+pub struct MemStore {
+    alloc: Global,
+    node: u32,
+    shard: u64,
+    rows: ReservedTable,
+    staged: Changes,
+}
+
+impl Model for MemStore {
+    ghost use Rattle.std.specs.Prelude.{◌≤◌, true};
+    ghost use Rattle.cq_value.specs.Changes.{Fit, adds_in};
+    ghost use Rattle.cq_store.specs.Stores.{StoreState};
+
+    ghost Value = { StoreState };
+
+    ghost view = { λ s. record { node = s.node; shard = s.shard; rows = s.rows.table; staged = s.staged; faults = 0; steady = true } };
+
+    ghost invariant = { λ s. Fit s.rows.table s.staged × (adds_in s.staged ≤ s.rows.room) };
+}
+
+/// How many of the changes add a row.
+fn count_adds(changes: &Changes) -> u64
+    ensures { result ≡ adds_in changes.now }
+{
+    changes
+        .as_slice()
+        .iter()
+        .filter(|change| matches!(change, Change::Add(..)))
+        .count() as u64
+}
+
+impl MemStore {
+    /// A spare store of a node.
+    pub fn new(alloc: Global, node: u32) -> MemStore
+        ensures { result ≡ steady_spare node }
+    {
+        MemStore {
+            alloc,
+            node,
+            shard: 0,
+            rows: ReservedTable::new(alloc),
+            staged: Changes::new(alloc),
+        }
+    }
+
+    /// A copy of the rows, without the changes staged.
+    pub(crate) fn read(&self) -> Result<Numbered, NoMemory>
+        ensures { IfOk result (λ t. t ≡ self.now.rows) }
+    {
+        self.rows.copy(self.alloc)
+    }
+
+    /// Stages a copy of changes, and makes room for the rows that they add.
+    pub(crate) fn stage_copy(&mut self, changes: &Changes) -> Result<(), NoMemory>
+        requires nothing { self.old.staged ≡ [] }
+        requires fits { Fit self.old.rows changes.now }
+        ensures ok { OnOk result (self.new ≡ record self.old { staged = changes.now }) }
+        ensures err { OnErr result (self.new ≡ self.old) }
+    {
+        let staged = changes.copy(self.alloc)?;
+        self.rows.reserve(count_adds(changes))?;
+        self.staged = staged;
+        Ok(())
+    }
+}
+
+impl Store for MemStore {
+    ghost state = { λ s. s };
+
+    fn node(&self) -> u32 {
+        self.node
+    }
+
+    fn shard(&self) -> u64 {
+        self.shard
+    }
+
+    fn faults(&self) -> u64 {
+        // The check looks into a store only where one of its fields is read.
+        let _ = &self.node;
+        0
+    }
+
+    fn adopt(&mut self, shard: u64) {
+        self.shard = shard;
+    }
+
+    fn scan(&mut self) -> Result<Numbered, StoreError> {
+        self.read().map_err(|_| StoreError::Memory)
+    }
+
+    fn stage(&mut self, changes: &Changes) -> Result<(), StoreError> {
+        self.stage_copy(changes).map_err(|_| StoreError::Memory)
+    }
+
+    fn commit(&mut self) {
+        let staged = mem::replace(&mut self.staged, Changes::new(self.alloc));
+        self.rows.apply_all(staged);
+    }
+
+    fn discard(&mut self) {
+        self.staged = Changes::new(self.alloc);
+    }
+
+    fn release(&mut self) {
+        self.shard = 0;
+        self.staged = Changes::new(self.alloc);
+        self.rows = ReservedTable::new(self.alloc);
+    }
+}
