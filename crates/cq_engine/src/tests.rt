@@ -73,19 +73,18 @@ fn queries(rt: HostRuntime) -> Result<(), Fail> {
     )?;
     table.put(row(alloc, Value::Text(Text::of_str(alloc, "1")?), Some(40))?)?;
     table.put(Row::new(alloc))?;
-    let none = selected(alloc, Value::Int(3), &table)?;
-    assert_eq!(rt; none.as_slice(), [].as_slice());
-    let one = selected(alloc, Value::Int(2), &table)?;
-    assert_eq!(rt; one.as_slice(), [Some(2), None].as_slice());
-    let two = selected(alloc, Value::Int(1), &table)?;
-    assert_eq!(rt;
-        two.as_slice(),
-        [Some(1), Some(10), Some(1), Some(30)].as_slice()
-    );
+    let cases: [(Option<i128>, &[Option<i128>]); 4] = [
+        (Some(3), &[]),
+        (Some(2), &[Some(2), None]),
+        (Some(1), &[Some(1), Some(10), Some(1), Some(30)]),
+        (None, &[]),
+    ];
+    for (key, wanted) in cases {
+        let kept = selected(alloc, value(key), &table)?;
+        assert_eq!(rt; kept.as_slice(), wanted);
+    }
     let text = selected(alloc, Value::Text(Text::of_str(alloc, "1")?), &table)?;
     assert_eq!(rt; text.as_slice(), [None, Some(40)].as_slice());
-    let null = selected(alloc, Value::Null, &table)?;
-    assert_eq!(rt; null.as_slice(), [].as_slice());
     Ok(())
 }
 
@@ -156,35 +155,23 @@ fn insertions(rt: HostRuntime) -> Result<(), Fail> {
 fn primary_keys(rt: HostRuntime) -> Result<(), Fail> {
     let alloc = rt.alloc();
     let there = [[Some(1), Some(10)]];
-    let taken = inserted(
-        &rt,
-        alloc,
-        &[0],
-        &there,
-        &[[Some(2), None], [Some(1), None]],
-    )?;
-    assert_eq!(rt; taken.reply, Reply::Duplicate);
-    assert_eq!(rt; taken.next, 1);
-    assert_eq!(rt; taken.changes.len(), 0);
-    let twice = inserted(
-        &rt,
-        alloc,
-        &[0],
-        &there,
-        &[[Some(2), None], [Some(2), None]],
-    )?;
-    assert_eq!(rt; twice.reply, Reply::Duplicate);
-    let keyless = inserted(
-        &rt,
-        alloc,
-        &[],
-        &there,
-        &[[Some(1), Some(10)], [Some(1), Some(10)]],
-    )?;
-    assert_eq!(rt; keyless.reply, Reply::Count(2));
-    let apart = inserted(&rt, alloc, &[0, 1], &there, &[[Some(1), Some(11)]])?;
-    assert_eq!(rt; apart.reply, Reply::Count(1));
-    let both = inserted(&rt, alloc, &[0, 1], &there, &[[Some(1), Some(10)]])?;
-    assert_eq!(rt; both.reply, Reply::Duplicate);
+    let cases: [(&[u32], &[[Option<i128>; 2]], Reply); 5] = [
+        (&[0], &[[Some(2), None], [Some(1), None]], Reply::Duplicate),
+        (&[0], &[[Some(2), None], [Some(2), None]], Reply::Duplicate),
+        (
+            &[],
+            &[[Some(1), Some(10)], [Some(1), Some(10)]],
+            Reply::Count(2),
+        ),
+        (&[0, 1], &[[Some(1), Some(11)]], Reply::Count(1)),
+        (&[0, 1], &[[Some(1), Some(10)]], Reply::Duplicate),
+    ];
+    for (key, new, reply) in cases {
+        let effect = inserted(&rt, alloc, key, &there, new)?;
+        assert_eq!(rt; effect.reply, reply);
+        let is_refused = reply == Reply::Duplicate;
+        assert_eq!(rt; effect.changes.len() == 0, is_refused);
+        assert_eq!(rt; effect.next == 1, is_refused);
+    }
     Ok(())
 }
