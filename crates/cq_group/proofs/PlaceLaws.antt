@@ -1,11 +1,12 @@
 -- One table of a group, by its place.
-use Rattle.std.proofs.Common.{◌≡◌, ◌≢◌, ◌∙◌, ◌⊎◌, ◌+◌, ℕ, zero, suc, ◌<◌, Bool, true, false, cond, nat_eq, List, [], ◌∷◌, length, get_or, map, Some, None, Option, inl, inr, refl, sym, ap, subst, eq-eqb, arith}
+use Rattle.std.proofs.Common.{◌≡◌, ◌≢◌, ◌∙◌, ◌⊎◌, ◌+◌, ℕ, zero, suc, ◌<◌, true, false, nat_eq, List, [], ◌∷◌, length, get_or, map, Some, None, inl, inr, refl, sym, ap, subst, eq-eqb, arith}
 use Rattle.std.proofs.Math.ListN.{set}
 use Rattle.std.specs.List.{AllZip, AllByRecursion, HoldsAt, flat_map}
+use Rattle.std.proofs.lemmas.Bool.{false≢true}
 use Rattle.std.proofs.lemmas.Bool.Decides.{eqb_tells}
 use Rattle.cq_value.specs.declared.value.Value.{Value}
 use Rattle.cq_value.specs.declared.schema.Shape.{Shape}
-use Rattle.cq_value.specs.Tables.{Table, rows_of}
+use Rattle.cq_value.specs.Tables.{rows_of}
 use Rattle.cq_tree.specs.declared.journal.Entry.{Entry}
 use Rattle.cq_history.specs.Journals.{replay}
 use Rattle.cq_store.specs.Stores.{StoreState}
@@ -13,7 +14,7 @@ use Rattle.cq_group.specs.declared.group.GroupError.{GroupError}
 use Rattle.cq_group.specs.declared.group.GroupError.TheVariants.{Worker, Memory}
 use Rattle.cq_group.specs.declared.group.GroupTable.{GroupTable}
 use Rattle.cq_group.specs.Groups.{outline, shape_at, AreDistinct, AreReplicasFrom}
-use Rattle.cq_group.specs.Calls.{GoesOn, Failed, Lifted, Blames, SomeZip, IsSameTable, IsRestingTable}
+use Rattle.cq_group.specs.Calls.{GoesOn, Failed, Lifted, Blames, SomeZip, IsRestingTable}
 use Rattle.cq_group.proofs.Zips.{zip_refl, zip_set, some_set, some_flat}
 use Rattle.cq_group.proofs.Turns.{keeps, keeps_go_on}
 
@@ -26,6 +27,13 @@ pub all_get : {X : Type 0} (P : X → Type 0) (xs : List X) (n : ℕ) (d : X) �
 all_get P [] n d h low = absurd (omega arith)
 all_get P (y ∷ ys) zero d h low = h.0
 all_get P (y ∷ ys) (suc n) d h low = all_get P ys n d h.1 (omega arith)
+
+pub not_same : (m n : ℕ) → nat_eq m n ≡ false → nat_eq n m ≡ false
+not_same m n other = by_cases (eqb_tells n m)
+  where
+    by_cases : ((nat_eq n m ≡ true) × (n ≡ m)) ⊎ ((nat_eq n m ≡ false) × (n ≢ m)) → nat_eq n m ≡ false
+    by_cases (inl same) = absurd (false≢true (sym other ∙ eq-eqb m n (sym same.1)))
+    by_cases (inr apart) = apart.0
 
 -- a table that isn't the one of this number
 other_table : {X : Type 0} (u : GroupTable X) (us : List (GroupTable X)) (number : ℕ) (shape : Shape) → shape_at (map outline us) u.table ≡ None → shape_at (map outline us) number ≡ Some shape →
@@ -84,7 +92,6 @@ pub table_refl : {X : Type 0} (R : X → X → Type 0) → ((x : X) → R x x) �
 table_refl R r t = record { same = record { table = refl; shape = refl; shard = refl; stores = zip_refl R r t.stores.items }; next = refl }
 
 module _ {X : Type 0} (state : X → StoreState) where
-
   -- the rows of a store of the table
   pub replica_rows : (first node : ℕ) (es : List Entry) (table : ℕ) (shape : Shape) (shard : ℕ) (xs : List X) (place : ℕ) (rows : List (List Value)) →
       AreReplicasFrom first node es table shape shard (map state xs) → place < length xs → HoldsAt (λ x. rows ≡ rows_of (state x).rows) xs place → rows ≡ rows_of (replay table shape es)
@@ -105,5 +112,5 @@ module _ {X : Type 0} (state : X → StoreState) where
       let G : X → X → Type 0 = Lifted state GoesOn in
       let items : GroupTable X → List X = λ v. v.stores.items in
       some_flat G F items ts (set ts place u)
-          (zip_set (λ a b. AllZip G (items a) (items b)) (λ a. zip_refl G go_on (items a)) ts place t u low is h)
-          (some_set (λ a b. SomeZip F (items a) (items b)) ts place t u low is k)
+      (zip_set (λ a b. AllZip G (items a) (items b)) (λ a. zip_refl G go_on (items a)) ts place t u low is h)
+      (some_set (λ a b. SomeZip F (items a) (items b)) ts place t u low is k)
