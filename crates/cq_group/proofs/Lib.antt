@@ -1,0 +1,4 @@
+pub mod Through
+pub mod Zips
+pub mod Turns
+pub mod Staging

@@ -1,11 +1,13 @@
 -- What a shard group keeps between two calls, and what a staged write adds to it.
-use Rattle.std.specs.Prelude.{◌≡◌, ◌+◌, ◌<◌, ◌≤◌, ℕ, ⊤, IsTrue, Bool, true, false, List, [], ◌∷◌, ◌++◌, length, map, nat_eq, if◌then◌else◌, IsSome, Option, Some, None}
-use Rattle.std.specs.List.{AllByRecursion}
+use Rattle.std.specs.Prelude.{◌≡◌, ◌+◌, ◌<◌, ◌≤◌, ℕ, ⊤, IsTrue, Bool, true, false, List, [], ◌∷◌, ◌++◌, length, map, nat_eq, if◌then◌else◌, IsSome, Option, Some, None, vec_capacity}
+use Rattle.std.specs.List.{AllByRecursion, AllZip, flat_map}
 use Rattle.cq_value.specs.declared.change.Change.{Change}
 use Rattle.cq_value.specs.declared.schema.Shape.{Shape}
 use Rattle.cq_value.specs.Tables.{rows_of}
 use Rattle.cq_value.specs.Changes.{applied}
 use Rattle.cq_tree.specs.declared.journal.Entry.{Entry}
+use Rattle.cq_tree.specs.declared.journal.EntryKind.{EntryKind}
+use Rattle.cq_tree.specs.declared.journal.EntryKind.TheVariants.{Read, Write}
 use Rattle.cq_tree.specs.declared.journal.Reply.{Reply}
 use Rattle.cq_tree.specs.declared.journal.Reply.TheVariants.{Count, Duplicate}
 use Rattle.cq_tree.specs.declared.journal.ShardOp.{ShardOp}
@@ -65,10 +67,12 @@ AreReplicasFrom place node entries table shape shard [] = ⊤
 AreReplicasFrom place node entries table shape shard (s ∷ ss) =
     IsReplica (node_at node place) entries table shape shard s × AreReplicasFrom (place + 1) node entries table shape shard ss
 
+-- a table's next id is its replay's, and it has all its stores, which hold the replay
 pub record IsTableKept {X : Type 0} (state : X → StoreState) (node copies : ℕ) (entries : List Entry) (t : GroupTable X) : Type 0 where
   pub numbered : t.next ≡ (replay t.table t.shape entries).next
   pub ids : t.next ≤ 4294967296
   pub some_shard : 0 < t.shard
+  pub some_store : 0 < copies
   pub complete : length t.stores.items ≡ copies
   pub replicas : AreReplicasFrom 0 node entries t.table t.shape t.shard (map state t.stores.items)
 
@@ -77,12 +81,24 @@ abbrev pub AreDistinct : List Outline → Type 0
 AreDistinct [] = ⊤
 AreDistinct (o ∷ os) = (shape_at os o.0 ≡ None) × AreDistinct os
 
--- what a group keeps, whatever is staged: each reply in its journal is that of the write's effect, and each table has its
--- stores, which hold the journal's replay
+-- a write's table is among these
+abbrev pub IsNamed : List Outline → EntryKind → Type 0
+IsNamed os Read = ⊤
+IsNamed os (Write op reply) = IsSome (shape_at os (table_of op))
+
+-- the group's stores, in order of its tables
+abbrev pub stores_of : {X : Type 0} → GroupState X → List X
+stores_of {X} g = flat_map (λ (t : GroupTable X). t.stores.items) g.tables.items
+
+-- what a group keeps, whatever is staged: each reply in its journal is that of the write's effect on a table that is there,
+-- each table has its stores, which hold the journal's replay, and there is room to hand the stores back
 pub record IsKept {X : Type 0} (state : X → StoreState) (g : GroupState X) : Type 0 where
   pub replied : EachReplied (shapes g) (entries_of g)
+  pub named : AllByRecursion (λ (e : Entry). IsNamed (outlines g) e.kind) (entries_of g)
   pub tables : AllByRecursion (IsTableKept state g.node (copies_of g) (entries_of g)) g.tables.items
   pub distinct : AreDistinct (outlines g)
+  pub room : length (stores_of g) ≤ vec_capacity g.room
+  pub unused : g.room.items ≡ []
 
 -- nothing is staged in a table's stores
 abbrev pub IsTableQuiet : {X : Type 0} → (X → StoreState) → GroupTable X → Type 0

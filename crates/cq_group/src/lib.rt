@@ -3,6 +3,7 @@
 
 mod gate;
 mod group;
+mod stores;
 
 pub use gate::{Gate, IdleGate, Point};
 pub use group::{Capture, Closed, GroupError, GroupState, GroupTable, Staged, Tables};

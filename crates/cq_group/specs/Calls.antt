@@ -1,0 +1,100 @@
+-- What a call makes of the stores of a group.
+use Rattle.std.specs.Prelude.{◌≡◌, ◌<◌, ◌≤◌, ◌⊎◌, ℕ, ⊤, false, List, [], ◌∷◌, take, drop}
+use Rattle.std.specs.List.{AllZip}
+use Rattle.cq_value.specs.declared.change.Change.{Change}
+use Rattle.cq_value.specs.Tables.{Table, empty_table}
+use Rattle.cq_value.specs.Changes.{applied, Fit}
+use Rattle.cq_store.specs.Stores.{StoreState, Becomes, Rose}
+use Rattle.cq_group.specs.Groups.{stores_of}
+use Rattle.cq_group.specs.declared.group.GroupError.{GroupError}
+use Rattle.cq_group.specs.declared.group.GroupError.TheVariants.{Worker, Memory}
+use Rattle.cq_group.specs.declared.group.GroupTable.{GroupTable}
+use Rattle.cq_group.specs.declared.group.GroupState.{GroupState}
+
+-- nothing but the count of faults changes
+abbrev pub Rests : StoreState → StoreState → Type 0
+Rests old new = Becomes old old new
+
+-- the staged changes are dropped
+abbrev pub Discards : StoreState → StoreState → Type 0
+Discards old new = Becomes old (record old { staged = [] }) new
+
+-- the staged changes are made
+abbrev pub Commits : StoreState → StoreState → Type 0
+Commits old new = Becomes old (record old { rows = applied old.rows old.staged; staged = [] }) new
+
+-- these changes are staged
+abbrev pub Stages : List Change → StoreState → StoreState → Type 0
+Stages changes old new = Becomes old (record old { staged = changes }) new
+
+-- the rows stay, whatever is staged
+abbrev pub KeepsRows : StoreState → StoreState → Type 0
+KeepsRows old new = Becomes old (record old { staged = new.staged }) new
+
+-- the store is on its node, under its shard id, and its count of faults didn't fall
+abbrev pub GoesOn : StoreState → StoreState → Type 0
+GoesOn old new = Becomes old (record old { rows = new.rows; staged = new.staged }) new
+
+-- two stores whose states are related
+abbrev pub Lifted : {X : Type 0} → (X → StoreState) → (StoreState → StoreState → Type 0) → X → X → Type 0
+Lifted state R x y = R (state x) (state y)
+
+-- a table as it was, but for its next id and its stores, which are related one by one
+pub record IsSameTable {X : Type 0} (R : X → X → Type 0) (old new : GroupTable X) : Type 0 where
+  pub table : new.table ≡ old.table
+  pub shape : new.shape ≡ old.shape
+  pub shard : new.shard ≡ old.shard
+  pub stores : AllZip R old.stores.items new.stores.items
+
+-- a table as it was, with its next id, but for its stores
+pub record IsRestingTable {X : Type 0} (R : X → X → Type 0) (old new : GroupTable X) : Type 0 where
+  pub same : IsSameTable R old new
+  pub next : new.next ≡ old.next
+
+-- a group as it was, but for its stores, which are related one by one
+pub record IsSameBut {X : Type 0} (R : X → X → Type 0) (old new : GroupState X) : Type 0 where
+  pub journal : new.journal ≡ old.journal
+  pub node : new.node ≡ old.node
+  pub nodes : new.nodes ≡ old.nodes
+  pub room : new.room ≡ old.room
+  pub tables : AllZip (IsRestingTable R) old.tables.items new.tables.items
+
+-- each store of the group goes on
+abbrev pub AllGoOn : {X : Type 0} → (X → StoreState) → GroupState X → GroupState X → Type 0
+AllGoOn state old new = AllZip (Lifted state GoesOn) (stores_of old) (stores_of new)
+
+-- R holds of the elements at some place of two lists
+abbrev pub SomeZip : {X : Type 0} → (X → X → Type 0) → List X → List X → Type 0
+SomeZip R [] ys = ⊥
+SomeZip R (x ∷ xs) [] = ⊥
+SomeZip R (x ∷ xs) (y ∷ ys) = R x y ⊎ SomeZip R xs ys
+
+-- a store that isn't steady, on this node and under this shard id, whose count of faults rose from one number to another
+pub record Failed (node shard before after : ℕ) (old new : StoreState) : Type 0 where
+  pub of_node : old.node ≡ node
+  pub of_shard : old.shard ≡ shard
+  pub unsteady : old.steady ≡ false
+  pub from : old.faults ≤ before
+  pub rose : Rose before after
+  pub to : after ≤ new.faults
+
+-- where an error names a worker, it is one of the stores, and failed
+abbrev pub Blames : {X : Type 0} → (X → StoreState) → GroupError → List X → List X → Type 0
+Blames state Memory old new = ⊤
+Blames state (Worker node shard before after) old new = SomeZip (Lifted state (Failed node shard before after)) old new
+
+-- changes can be staged in a store: it keeps a shard, nothing is staged, and they fit its rows
+pub record Takes (changes : List Change) (s : StoreState) : Type 0 where
+  pub shard : 0 < s.shard
+  pub nothing : s.staged ≡ []
+  pub fits : Fit s.rows changes
+
+-- the rows of the first store
+abbrev pub first_rows : {X : Type 0} → (X → StoreState) → List X → Table
+first_rows state [] = empty_table
+first_rows state (x ∷ xs) = (state x).rows
+
+-- the first n elements are related to what they became, and the others are as before
+pub record IsThrough {X : Type 0} (R : X → X → Type 0) (n : ℕ) (xs ys : List X) : Type 0 where
+  pub done : AllZip R (take n xs) (take n ys)
+  pub rest : drop n ys ≡ drop n xs

@@ -1,0 +1,86 @@
+ghost use Rattle.std.specs.Prelude.{◌≡◌, ◌<◌, [], ◌∷◌, OnOk, OnErr, IfOk, IfErr};
+ghost use Rattle.std.specs.List.{AllZip, AllByRecursion};
+ghost use Rattle.cq_value.specs.Changes.{Fit};
+ghost use Rattle.cq_group.specs.Calls.{Rests, Discards, Commits, Stages, Lifted, Blames, Takes};
+
+use crate::group::GroupError;
+use cq_store::{Store, StoreError};
+use cq_value::{Changes, Numbered};
+
+/// The rows of a store.
+pub(crate) fn scan_store<S: Store>(store: &mut S) -> Result<Numbered, GroupError>
+    ensures rows { IfOk result (λ t. t ≡ (S.state store.old).rows) }
+    ensures same { Lifted S.state Rests store.old store.new }
+    ensures blame { IfErr result (λ e. Blames S.state e (store.old ∷ []) (store.new ∷ [])) }
+{
+    let before = store.faults();
+    match store.scan() {
+        Ok(rows) => Ok(rows),
+        Err(StoreError::Failed) => Err(GroupError::Worker {
+            node: store.node(),
+            shard: store.shard(),
+            before,
+            after: store.faults(),
+        }),
+        Err(StoreError::Memory) => Err(GroupError::Memory),
+    }
+}
+
+/// Stages changes in a store.
+pub(crate) fn stage_store<S: Store>(store: &mut S, changes: &Changes) -> Result<(), GroupError>
+    requires shard { 0 < (S.state store.old).shard }
+    requires nothing { (S.state store.old).staged ≡ [] }
+    requires fits { Fit (S.state store.old).rows changes.now }
+    ensures ok { OnOk result (Lifted S.state (Stages changes.now) store.old store.new) }
+    ensures err { OnErr result (Lifted S.state Rests store.old store.new) }
+    ensures blame { IfErr result (λ e. Blames S.state e (store.old ∷ []) (store.new ∷ [])) }
+{
+    let before = store.faults();
+    match store.stage(changes) {
+        Ok(()) => Ok(()),
+        Err(StoreError::Failed) => Err(GroupError::Worker {
+            node: store.node(),
+            shard: store.shard(),
+            before,
+            after: store.faults(),
+        }),
+        Err(StoreError::Memory) => Err(GroupError::Memory),
+    }
+}
+
+/// Stages changes in each of the stores. `Err`: one of them failed, or there was no memory, and nothing is staged.
+pub(crate) fn stage_stores<S: Store>(
+    stores: &mut Vec<S>,
+    changes: &Changes,
+) -> Result<(), GroupError>
+    requires { AllByRecursion (λ x. Takes changes.now (S.state x)) stores.old.items }
+    ensures ok { OnOk result (AllZip (Lifted S.state (Stages changes.now)) stores.old.items stores.new.items) }
+    ensures err { OnErr result (AllZip (Lifted S.state Rests) stores.old.items stores.new.items) }
+    ensures blame { IfErr result (λ e. Blames S.state e stores.old.items stores.new.items) }
+{
+    for place in 0..stores.len() {
+        if let Err(error) = stage_store(&mut stores[place], changes) {
+            discard_stores(stores);
+            return Err(error);
+        }
+    }
+    Ok(())
+}
+
+/// Drops what is staged in the stores.
+pub(crate) fn discard_stores<S: Store>(stores: &mut Vec<S>)
+    ensures { AllZip (Lifted S.state Discards) stores.old.items stores.new.items }
+{
+    for place in 0..stores.len() {
+        stores[place].discard();
+    }
+}
+
+/// Makes the changes that are staged in the stores.
+pub(crate) fn commit_stores<S: Store>(stores: &mut Vec<S>)
+    ensures { AllZip (Lifted S.state Commits) stores.old.items stores.new.items }
+{
+    for place in 0..stores.len() {
+        stores[place].commit();
+    }
+}
