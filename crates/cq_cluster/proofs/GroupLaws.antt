@@ -1,8 +1,9 @@
 -- The groups of a table, in order, and the one store of each.
-use Rattle.std.proofs.Common.{◌≡◌, ◌≢◌, ◌⊎◌, inl, inr, ℕ, zero, suc, ◌+◌, ◌%◌, ◌<◌, ◌≤◌, List, [], ◌∷◌, ◌++◌, length, map, refl, sym, ap, subst, ◌∙◌, arith, Some, None, slice_get}
+use Rattle.std.proofs.Common.{◌≡◌, ◌≢◌, ◌⊎◌, inl, inr, ℕ, zero, suc, ◌+◌, ◌%◌, ◌<◌, ◌≤◌, List, [], ◌∷◌, ◌++◌, length, map, refl, sym, ap, subst, ◌∙◌, arith, Some, None, slice_get, All, append-nil}
 use Rattle.std.specs.Prelude.{IsTrue}
 use Rattle.std.proofs.Math.ListN.{set}
 use Rattle.std.proofs.lemmas.Bool.{ne_eqb}
+use Rattle.std.proofs.lemmas.List.Elements.{recursion_from_All, All-same, All-cons, All-nil}
 use Rattle.std.proofs.lemmas.Option.{slice_get_within}
 use Rattle.cq_value.specs.declared.schema.Shape.{Shape}
 use Rattle.cq_store.specs.Stores.{StoreState}
@@ -13,6 +14,7 @@ use Rattle.cq_history.specs.Journals.{replay}
 use Rattle.cq_group.specs.Groups.{Outline, outline, outlines, entries_of, stores_of, copies_of, node_at, AreReplicasFrom, IsTableKept, IsTableQuiet, IsKept, IsQuiet, IsSteady, IsSameGroup}
 use Rattle.cq_cluster.specs.Cluster.{node_of, shard_of, IsGroupAt, AreGroups}
 use Rattle.cq_cluster.specs.Ending.{IsShard}
+use Rattle.cq_cluster.specs.Moving.{IsSteadyOn, IsGroupOn, AreGroupsFrom}
 use Rattle.cq_cluster.proofs.ListLaws.{got_after, got_more, got_still, got_last, only_item}
 
 -- a group goes on as the same group of the table
@@ -72,8 +74,7 @@ store_of_group {X} state shape n g at =
     let used : g.node ≢ 0 = λ e. absurd (omega (arith, e, at.node)) in
     let on_node : node_at g.node 0 ≡ node_of n = rw (ne_eqb g.node 0 used) at.node in
     let held : replay t.table t.shape (entries_of g) ≡ replay 0 shape (entries_of g) =
-    ap (λ (o : Outline). replay o.0 o.1 (entries_of g)) one.2 in
-    (
+    ap (λ (o : Outline). replay o.0 o.1 (entries_of g)) one.2 in (
       x,
       ap (λ (ts : List (GroupTable X)). flat_map (λ (u : GroupTable X). u.stores.items) ts) one.1 ∙ ap (λ (xs : List X). xs ++ []) store.1,
       record {
@@ -84,3 +85,49 @@ store_of_group {X} state shape n g at =
       },
       only_holds (λ (y : X). IsTrue (state y).steady) t.stores.items x store.1 steady,
     )
+
+-- a group with no table has no store
+pub no_stores : {X : Type 0} (g : GroupState X) → outlines g ≡ [] → stores_of g ≡ []
+no_stores {X} g e = none g.tables.items e
+  where
+    none : (tables : List (GroupTable X)) → map outline tables ≡ [] → flat_map (λ (t : GroupTable X). t.stores.items) tables ≡ []
+    none [] e = refl
+    none (t ∷ tables) e = cc
+
+-- a group with one table, on a store that holds nothing yet
+pub group_opened : {X : Type 0} (state : X → StoreState) (shape : Shape) (n : ℕ) (g : GroupState X) (xs : List X)
+    → IsKept state g → g.journal.group ≡ n → g.journal.opening ≡ node_of n → g.node ≡ node_of n → outlines g ≡ (0, shape, shard_of n, 1) ∷ [] → stores_of g ≡ xs
+    → All (λ (x : X). (state x).staged ≡ []) xs → All (λ (x : X). IsTrue (state x).steady) xs → IsGroupAt state shape n g
+group_opened {X} state shape n g xs kept number opening node tables stores quiet steady =
+    let one = only_table g.tables.items (0, shape, shard_of n, 1) tables in
+    let all : stores_of g ≡ one.0.stores.items = ap (λ (ts : List (GroupTable X)). flat_map (λ (u : GroupTable X). u.stores.items) ts) one.1 ∙ append-nil one.0.stores.items in
+    let same : xs ≡ one.0.stores.items = sym stores ∙ all in
+    let here = λ (P : X → Type 0) (h : All P xs). recursion_from_All P one.0.stores.items (subst (λ (ys : List X). All P ys) same h) in
+    record {
+      kept = kept;
+      quiet = subst (λ (ts : List (GroupTable X)). AllByRecursion (IsTableQuiet state) ts) (sym one.1) (here (λ x. (state x).staged ≡ []) quiet, tt);
+      steady = subst (λ (ts : List (GroupTable X)). AllByRecursion (λ (t : GroupTable X). AllByRecursion (λ (x : X). IsTrue (state x).steady) t.stores.items) ts) (sym one.1) (here (λ x. IsTrue (state x).steady) steady, tt);
+      number = number;
+      opening = opening;
+      node = node;
+      tables = tables;
+    }
+
+-- the list of the one store of a group
+pub stores_of_group : {X : Type 0} (state : X → StoreState) (node : ℕ) (g : GroupState X) → IsGroupOn state node g → (length (stores_of g) ≡ 1) × All (λ (x : X). IsSteadyOn node (state x)) (stores_of g)
+stores_of_group {X} state node g on =
+    let store = store_of_group state on.0 on.1 g on.2 in
+    let P : X → Type 0 = λ x. IsSteadyOn node (state x) in
+    let at : P store.0 = record { of_node = store.2.of_node ∙ on.3; steady = store.3 } in
+    (ap length store.1, All-same P (stores_of g) (store.0 ∷ []) store.1 (All-cons P store.0 [] at (All-nil P)))
+
+-- the first of the groups from a number on, and the others
+pub groups_next : {X : Type 0} (state : X → StoreState) (shape : Shape) (n : ℕ) (g : GroupState X) (gs : List (GroupState X)) → AreGroupsFrom state shape n (g ∷ gs)
+    → IsGroupAt state shape n g × AreGroupsFrom state shape (n + 1) gs
+groups_next {X} state shape n g gs all = (
+  subst (λ (m : ℕ). IsGroupAt state shape m g) (let e : n + 0 ≡ n = omega arith in e) (all 0 g refl),
+  λ k h s. subst (λ (m : ℕ). IsGroupAt state shape m h) (let e : n + suc k ≡ n + 1 + k = omega arith in e) (all (suc k) h s),
+)
+
+pub groups_first : {X : Type 0} (state : X → StoreState) (shape : Shape) (gs : List (GroupState X)) → AreGroups state shape gs → AreGroupsFrom state shape 0 gs
+groups_first state shape gs all k g s = subst (λ (m : ℕ). IsGroupAt state shape m g) (let e : k ≡ 0 + k = omega arith in e) (all k g s)

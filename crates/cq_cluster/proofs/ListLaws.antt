@@ -36,6 +36,12 @@ got_last (y ∷ xs) a = got_last xs a
 pub there : {X Y : Type 0} (xs : List X) (ys : List Y) (k : ℕ) (d : X) (y : Y) → length ys ≡ length xs → slice_get ys k ≡ Some y → slice_get xs k ≡ Some (get_or xs k d)
 there xs ys k d y e s = slice_get-get_or xs k d (let within = slice_get_within ys k y s in omega (arith, within, e))
 
+-- a list that is long enough has an item there
+pub item_at : {X : Type 0} (xs : List X) (k : ℕ) → k < length xs → (x : X) × (slice_get xs k ≡ Some x)
+item_at [] k h = absurd (omega (arith, h))
+item_at (x ∷ xs) zero h = (x, refl)
+item_at (x ∷ xs) (suc k) h = item_at xs k (omega (arith, h))
+
 pub only_item : {X : Type 0} (xs : List X) → length xs ≡ 1 → (x : X) × (xs ≡ x ∷ [])
 only_item [] e = absurd (omega (arith, e))
 only_item (x ∷ []) e = (x, refl)

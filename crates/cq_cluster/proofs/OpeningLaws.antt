@@ -1,13 +1,14 @@
 -- How many stores wait in the workers' lists as groups take stores out of them and hand them back.
-use Rattle.std.proofs.Common.{◌≡◌, ◌≢◌, ◌⊎◌, inl, inr, ℕ, zero, suc, ◌+◌, ◌-◌, ◌%◌, ◌/◌, ◌<◌, ◌≤◌, List, [], ◌∷◌, ◌++◌, length, get_or, map, refl, sym, ap, subst, ◌∙◌, arith, Some, None, slice_get, All, length-set}
+use Rattle.std.proofs.Common.{◌≡◌, ◌≢◌, ◌⊎◌, inl, inr, ℕ, zero, suc, ◌+◌, ◌-◌, ◌%◌, ◌/◌, ◌<◌, ◌≤◌, List, [], ◌∷◌, ◌++◌, length, get_or, map, refl, sym, ap, subst, ◌∙◌, arith, Some, None, slice_get, All, length-set, length-append, Result, Ok, Err, OnOk, OnErr}
 use Rattle.std.proofs.Math.ListN.{set}
 use Rattle.std.proofs.lemmas.Bool.{cases_lt}
+use Rattle.std.proofs.lemmas.Option.{slice_get_read}
 use Rattle.cq_store.specs.Stores.{StoreState}
 use Rattle.cq_store.specs.Workers.{room}
 use Rattle.cq_store.specs.declared.worker.Worker.{Worker}
-use Rattle.cq_cluster.specs.Cluster.{nodes, groups_on, stores_in, IsWaiting, IsWorkerAt, AreWorkers, IsIdle, AreIdle}
-use Rattle.cq_cluster.specs.Moving.{AllWait, Lacks}
-use Rattle.cq_cluster.proofs.ListLaws.{got_after, got_other, there}
+use Rattle.cq_cluster.specs.Cluster.{nodes, node_of, groups_on, stores_in, IsWaiting, IsWorkerAt, AreWorkers, IsIdle, AreIdle}
+use Rattle.cq_cluster.specs.Moving.{AllWait, Lacks, AreInUse}
+use Rattle.cq_cluster.proofs.ListLaws.{got_after, got_other, item_at, there}
 
 -- before a group is opened the workers are as they were handed in
 pub workers_self : {X : Type 0} (state : X → StoreState) (workers : List (Worker X)) → AreIdle state workers → AreWorkers state workers 0 workers
@@ -26,11 +27,11 @@ workers_self state workers idle = record {
 pub idle_again : {X : Type 0} (state : X → StoreState) (entry workers : List (Worker X)) → AreIdle state entry → AreWorkers state entry 0 workers → AreIdle state workers
 idle_again {X} state entry workers idle now place w s = elim (cases_lt place nodes) [
   | inl h ↦
-    let at = now.used place w h s in
-    let before = there entry workers place w w now.same_length s in
-    let first = idle place (get_or entry place w) before in
-    let whole = ap (λ o. stores_in o) before in
-    record { node = at.node; stores = at.stores; enough = omega (arith, first.enough, at.total, whole) }
+      let at = now.used place w h s in
+      let before = there entry workers place w w now.same_length s in
+      let first = idle place (get_or entry place w) before in
+      let whole = ap (λ o. stores_in o) before in
+      record { node = at.node; stores = at.stores; enough = omega (arith, first.enough, at.total, whole) }
   | inr h ↦ idle place w (sym (now.unused place h) ∙ s)
 ]
 
@@ -96,3 +97,55 @@ none_taken state entry workers count place old new h s lacks all now =
       total = omega (arith, was.total, lacks.total);
       room = omega (arith, was.room, lacks.room);
     })
+
+-- the worker of a group, while stores of other groups are out: all its stores wait
+waits_in_use : {X : Type 0} (state : X → StoreState) (entry workers : List (Worker X)) (count group place : ℕ) (w : Worker X)
+    → place ≡ group % 2 → slice_get workers place ≡ Some w → AreWorkers state entry count workers → AllWait state w × (w.node ≡ node_of group)
+waits_in_use {X} state entry workers count group place w e s now =
+    let at = now.used place w (omega (arith, e)) s in
+    (subst (λ (m : ℕ). All (λ (x : X). IsWaiting m (state x)) w.stores.items) (sym at.node) at.stores, omega (arith, at.node, e))
+
+-- the worker of the next group has a store for it
+pub worker_of_next : {X : Type 0} (state : X → StoreState) (workers : List (Worker X)) (count place : ℕ) (w : Worker X)
+    → count < 128 → place ≡ count % 2 → nodes ≤ length workers → w ≡ get_or workers place w → AreInUse state count workers
+    → AllWait state w × (w.node ≡ node_of count) × (0 < length w.stores.items)
+worker_of_next state workers count place w few e both is (entry, idle, now) =
+    let s : slice_get workers place ≡ Some w = slice_get_read workers (length workers) place w refl (omega (arith, both, e)) is in
+    let wait = waits_in_use state entry workers count count place w e s now in
+    let before = there entry workers place w w now.same_length s in
+    let first = idle place (get_or entry place w) before in
+    let whole = ap (λ o. stores_in o) before in
+    let at = now.used place w (omega (arith, e)) s in
+    (wait.0, wait.1, omega (arith, first.enough, at.total, whole, few))
+
+-- the worker of the last group has room for its store
+pub worker_of_last : {X G : Type 0} (state : X → StoreState) (workers : List (Worker X)) (all rest : List G) (last : G) (place : ℕ) (w : Worker X)
+    → all ≡ rest ++ last ∷ [] → place ≡ length rest % 2 → nodes ≤ length workers → w ≡ get_or workers place w → AreInUse state (length all) workers
+    → AllWait state w × (w.node ≡ node_of (length rest)) × (0 < room w.stores)
+worker_of_last state workers all rest last place w more e both is (entry, idle, now) =
+    let s : slice_get workers place ≡ Some w = slice_get_read workers (length workers) place w refl (omega (arith, both, e)) is in
+    let wait = waits_in_use state entry workers (length all) (length rest) place w e s now in
+    let at = now.used place w (omega (arith, e)) s in
+    let count = ap length more ∙ length-append rest (last ∷ []) in
+    (wait.0, wait.1, omega (arith, at.room, e, count))
+
+-- the last group's store is back in the list of its worker
+pub last_back : {X G : Type 0} (state : X → StoreState) (entry workers : List (Worker X)) (all rest : List G) (last : G) (place : ℕ) (old new : Worker X)
+    → all ≡ rest ++ last ∷ [] → place ≡ length rest % 2 → nodes ≤ length workers → old ≡ get_or workers place old → Lacks 1 new old → AllWait state new
+    → AreWorkers state entry (length all) workers → AreWorkers state entry (length rest) (set workers place new)
+last_back state entry workers all rest last place old new more e both is lacks wait now =
+    let s : slice_get workers place ≡ Some old = slice_get_read workers (length workers) place old refl (omega (arith, both, e)) is in
+    let count = ap length more ∙ length-append rest (last ∷ []) in
+    one_back state entry workers (length rest) place old new e s lacks wait (subst (λ m. AreWorkers state entry m workers) count now)
+
+-- a call that opens the next group, or leaves the groups and puts the store back
+pub next_or_none : {X G T E : Type 0} (state : X → StoreState) (entry workers : List (Worker X)) (before after : List G) (count place : ℕ) (old new : Worker X) (r : Result T E)
+    → count ≡ length before → place ≡ count % 2 → nodes ≤ length workers → old ≡ get_or workers place old → AllWait state new
+    → OnOk r (Lacks 1 old new) → OnOk r (length after ≡ count + 1) → OnErr r (Lacks 0 old new) → OnErr r (after ≡ before)
+    → AreWorkers state entry count workers → AreWorkers state entry (length after) (set workers place new)
+next_or_none state entry workers before after count place old new (Ok x) n e both is all lacks more none same now =
+    let s : slice_get workers place ≡ Some old = slice_get_read workers (length workers) place old refl (omega (arith, both, e)) is in
+    subst (λ m. AreWorkers state entry m (set workers place new)) (sym more) (one_taken state entry workers count place old new e s lacks all now)
+next_or_none state entry workers before after count place old new (Err x) n e both is all lacks more none same now =
+    let s : slice_get workers place ≡ Some old = slice_get_read workers (length workers) place old refl (omega (arith, both, e)) is in
+    subst (λ m. AreWorkers state entry m (set workers place new)) (n ∙ ap length (sym same)) (none_taken state entry workers count place old new (omega (arith, e)) s none all now)

@@ -1,3 +1,4 @@
 pub mod Cluster
 pub mod Ending
 pub mod Moving
+pub mod Guess

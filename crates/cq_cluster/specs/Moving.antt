@@ -1,17 +1,35 @@
 -- How workers change as groups take stores out of their lists, and as they hand them back.
-use Rattle.std.specs.Prelude.{◌≡◌, ◌+◌, ◌<◌, ◌≤◌, ℕ, List, ◌++◌, length, map, All, IsTrue, Some, slice_get}
+use Rattle.std.specs.Prelude.{◌≡◌, ◌+◌, ◌<◌, ◌≤◌, ℕ, List, [], ◌++◌, length, map, All, IsTrue, Some, slice_get}
 use Rattle.cq_value.specs.declared.schema.Shape.{Shape}
 use Rattle.cq_tree.specs.declared.journal.Entry.{Entry}
 use Rattle.cq_store.specs.Stores.{StoreState}
 use Rattle.cq_store.specs.Workers.{room}
 use Rattle.cq_store.specs.declared.worker.Worker.{Worker}
-use Rattle.cq_cluster.specs.Cluster.{nodes, groups_on, IsWaiting, AreIdle, AreWorkers}
+use Rattle.cq_value.specs.Tables.{empty_table}
+use Rattle.cq_group.specs.declared.group.GroupState.{GroupState}
+use Rattle.cq_cluster.specs.Cluster.{nodes, node_of, groups_on, IsGroupAt, IsWaiting, AreIdle, AreWorkers}
 use Rattle.cq_cluster.specs.Ending.{journals_on, AreShards}
 
 -- a store on this node that never fails, in use or not
 pub record IsSteadyOn (node : ℕ) (s : StoreState) : Type 0 where
   pub of_node : s.node ≡ node
   pub steady : IsTrue s.steady
+
+-- a store that a shard is to be kept in: on this node, under this shard id, empty, and it never fails
+pub record IsAdopted (node shard : ℕ) (s : StoreState) : Type 0 where
+  pub of_node : s.node ≡ node
+  pub of_shard : s.shard ≡ shard
+  pub empty : s.rows ≡ empty_table
+  pub nothing : s.staged ≡ []
+  pub steady : IsTrue s.steady
+
+-- a group of a table, on this node
+abbrev pub IsGroupOn : {X : Type 0} → (X → StoreState) → ℕ → GroupState X → Type 0
+IsGroupOn state node g = (shape : Shape) × (group : ℕ) × IsGroupAt state shape group g × (node_of group ≡ node)
+
+-- the groups of a table from this one on, in order
+abbrev pub AreGroupsFrom : {X : Type 0} → (X → StoreState) → Shape → ℕ → List (GroupState X) → Type 0
+AreGroupsFrom {X} state shape first groups = (k : ℕ) (g : GroupState X) → slice_get groups k ≡ Some g → IsGroupAt state shape (first + k) g
 
 -- each store of the worker waits
 abbrev pub AllWait : {X : Type 0} → (X → StoreState) → Worker X → Type 0
