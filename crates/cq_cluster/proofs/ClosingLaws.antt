@@ -15,7 +15,7 @@ use Rattle.cq_group.specs.declared.group.GroupState.{GroupState}
 use Rattle.cq_group.specs.Groups.{entries_of, stores_of}
 use Rattle.cq_cluster.specs.Cluster.{nodes, node_of, groups_on, stores_in, IsWaiting, IsWorkerAt, AreWorkers, IsGroupAt, AreGroups}
 use Rattle.cq_cluster.specs.Ending.{IsShard, journals_on, AreShards, IsWorkerFinal, IsFinal, AreJournals}
-use Rattle.cq_cluster.specs.Moving.{AreGroupsFrom, AreOpen, HasBack, HaveBack}
+use Rattle.cq_cluster.specs.Moving.{AreGroupsFrom, HaveRoom, HasBack, HaveBack}
 use Rattle.cq_cluster.proofs.ListLaws.{got_after, got_other, got_more, item_at, there}
 use Rattle.cq_cluster.proofs.GroupLaws.{store_of_group, groups_first, groups_next}
 
@@ -138,7 +138,7 @@ journals_numbered js n j all e number opening k i s = elim (got_more js j k i s)
 
 -- the next group's worker is there, on the group's node, with room for its store
 pub still_open : {X : Type 0} (state : X → StoreState) (shape : Shape) (js : List (List Entry)) (first workers : List (Worker X)) (count : ℕ)
-    → AreOpen count first → HaveBack state shape js first workers → length js < count
+    → HaveRoom count first → HaveBack state shape js first workers → length js < count
     → (w : Worker X) × (slice_get workers (length js % 2) ≡ Some w) × (w.node ≡ node_of (length js)) × (0 < room w.stores)
 still_open state shape js first workers count ready back h =
     let place = length js % 2 in
@@ -173,7 +173,7 @@ pub closes_at : {X : Type 0} (state : X → StoreState) (all rest : List (GroupS
 closes_at state all rest first workers done g shape closes at = (groups_next state shape (length done) g rest (closes.groups shape at)).0
 
 pub closes_worker : {X : Type 0} (state : X → StoreState) (all rest : List (GroupState X)) (first workers : List (Worker X)) (done : List (List Entry)) (g : GroupState X) (shape : Shape)
-    → Closes state all first done (g ∷ rest) workers → AreGroups state shape all → AreOpen (length all) first
+    → Closes state all first done (g ∷ rest) workers → AreGroups state shape all → HaveRoom (length all) first
     → (w : Worker X) × (slice_get workers (g.node - 1) ≡ Some w) × (w.node ≡ g.node) × (0 < room w.stores)
 closes_worker {X} state all rest first workers done g shape closes at ready =
     let here = closes_at state all rest first workers done g shape closes at in

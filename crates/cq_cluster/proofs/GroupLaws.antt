@@ -1,9 +1,9 @@
 -- The groups of a table, in order, and the one store of each.
-use Rattle.std.proofs.Common.{◌≡◌, ◌≢◌, ◌⊎◌, inl, inr, ℕ, zero, suc, ◌+◌, ◌%◌, ◌<◌, ◌≤◌, List, [], ◌∷◌, ◌++◌, length, map, refl, sym, ap, subst, ◌∙◌, arith, Some, None, slice_get, All, append-nil}
+use Rattle.std.proofs.Common.{nat_eq, false, All, append-nil, ◌≡◌, ◌≢◌, ◌⊎◌, inl, inr, ℕ, zero, suc, ◌+◌, ◌%◌, ◌<◌, ◌≤◌, List, [], ◌∷◌, ◌++◌, length, map, refl, sym, ap, subst, ◌∙◌, arith, Some, None, slice_get, All, append-nil}
 use Rattle.std.specs.Prelude.{IsTrue}
 use Rattle.std.proofs.Math.ListN.{set}
 use Rattle.std.proofs.lemmas.Bool.{ne_eqb}
-use Rattle.std.proofs.lemmas.List.Elements.{recursion_from_All, All-same, All-cons, All-nil}
+use Rattle.std.proofs.lemmas.List.Elements.{recursion_from_All, All-same, All-weaker, All-head, All-cons, All-nil}
 use Rattle.std.proofs.lemmas.Option.{slice_get_within}
 use Rattle.cq_value.specs.declared.schema.Shape.{Shape}
 use Rattle.cq_store.specs.Stores.{StoreState}
@@ -12,9 +12,11 @@ use Rattle.cq_group.specs.declared.group.GroupState.{GroupState}
 use Rattle.std.specs.List.{AllByRecursion, flat_map}
 use Rattle.cq_history.specs.Journals.{replay}
 use Rattle.cq_group.specs.Groups.{Outline, outline, outlines, entries_of, stores_of, copies_of, node_at, AreReplicasFrom, IsTableKept, IsTableQuiet, IsKept, IsQuiet, IsSteady, IsSameGroup}
+use Rattle.cq_cluster.specs.Guess.{AreFresh, AreFreshFrom, first_shard}
+use Rattle.cq_tree.specs.declared.journal.Journal.{Journal}
 use Rattle.cq_cluster.specs.Cluster.{node_of, shard_of, IsGroupAt, AreGroups}
 use Rattle.cq_cluster.specs.Ending.{IsShard}
-use Rattle.cq_cluster.specs.Moving.{IsSteadyOn, IsGroupOn, AreGroupsFrom}
+use Rattle.cq_cluster.specs.Moving.{IsAdopted, IsSteadyOn, IsGroupOn, AreGroupsFrom}
 use Rattle.cq_cluster.proofs.ListLaws.{got_after, got_more, got_still, got_last, only_item}
 
 -- a group goes on as the same group of the table
@@ -86,31 +88,55 @@ store_of_group {X} state shape n g at =
       only_holds (λ (y : X). IsTrue (state y).steady) t.stores.items x store.1 steady,
     )
 
--- a group with no table has no store
-pub no_stores : {X : Type 0} (g : GroupState X) → outlines g ≡ [] → stores_of g ≡ []
-no_stores {X} g e = none g.tables.items e
-  where
-    none : (tables : List (GroupTable X)) → map outline tables ≡ [] → flat_map (λ (t : GroupTable X). t.stores.items) tables ≡ []
-    none [] e = refl
-    none (t ∷ tables) e = cc
+-- a list of one adopted store is that of a new table, in a group on its node
+pub fresh_store : {X : Type 0} (state : X → StoreState) (g : GroupState X) (node shard : ℕ) (xs : List X)
+    → length xs ≡ 1 → All (λ (x : X). IsAdopted node shard (state x)) xs → g.node ≡ node → 0 < node → 0 < shard → AreFresh state g.node (copies_of g) xs
+fresh_store {X} state g node shard xs one all at used some =
+    let store = only_item xs one in
+    let x = store.0 in
+    let adopted : IsAdopted node shard (state x) = All-head (λ (y : X). IsAdopted node shard (state y)) x [] (subst (λ (ys : List X). All (λ (y : X). IsAdopted node shard (state y)) ys) store.1 all) in
+    let off : nat_eq g.node 0 ≡ false = ne_eqb g.node 0 (λ e. absurd (omega (arith, e, at, used))) in
+    let first : first_shard state xs ≡ shard = ap (λ (ys : List X). first_shard state ys) store.1 ∙ adopted.of_shard in
+    let on_node : node_at g.node 0 ≡ g.node = rw off refl in
+    let copies : copies_of g ≡ 1 = rw off refl in
+    record {
+      complete = one ∙ sym copies;
+      adopted = omega (arith, first, some);
+      each = subst (λ (ys : List X). AreFreshFrom 0 g.node (first_shard state ys) (map state ys)) (sym store.1) (
+        record { of_node = adopted.of_node ∙ sym at ∙ sym on_node; of_shard = refl; empty = adopted.empty; nothing = adopted.nothing },
+        tt,
+      );
+    }
 
--- a group with one table, on a store that holds nothing yet
-pub group_opened : {X : Type 0} (state : X → StoreState) (shape : Shape) (n : ℕ) (g : GroupState X) (xs : List X)
-    → IsKept state g → g.journal.group ≡ n → g.journal.opening ≡ node_of n → g.node ≡ node_of n → outlines g ≡ (0, shape, shard_of n, 1) ∷ [] → stores_of g ≡ xs
-    → All (λ (x : X). (state x).staged ≡ []) xs → All (λ (x : X). IsTrue (state x).steady) xs → IsGroupAt state shape n g
-group_opened {X} state shape n g xs kept number opening node tables stores quiet steady =
-    let one = only_table g.tables.items (0, shape, shard_of n, 1) tables in
-    let all : stores_of g ≡ one.0.stores.items = ap (λ (ts : List (GroupTable X)). flat_map (λ (u : GroupTable X). u.stores.items) ts) one.1 ∙ append-nil one.0.stores.items in
-    let same : xs ≡ one.0.stores.items = sym stores ∙ all in
-    let here = λ (P : X → Type 0) (h : All P xs). recursion_from_All P one.0.stores.items (subst (λ (ys : List X). All P ys) same h) in
+pub shard_of_first : {X : Type 0} (state : X → StoreState) (node shard : ℕ) (xs : List X) → length xs ≡ 1 → All (λ (x : X). IsAdopted node shard (state x)) xs → first_shard state xs ≡ shard
+shard_of_first {X} state node shard xs one all =
+    let store = only_item xs one in
+    let adopted = All-head (λ (y : X). IsAdopted node shard (state y)) store.0 [] (subst (λ (ys : List X). All (λ (y : X). IsAdopted node shard (state y)) ys) store.1 all) in
+    ap (λ (ys : List X). first_shard state ys) store.1 ∙ adopted.of_shard
+
+-- a group to which the first table was added, on an adopted store
+pub group_opened : {X : Type 0} (state : X → StoreState) (shape : Shape) (n : ℕ) (empty g : GroupState X) (xs : List X)
+    → empty.journal.group ≡ n → empty.journal.opening ≡ node_of n → empty.node ≡ node_of n → empty.tables.items ≡ [] → IsQuiet state empty
+    → length xs ≡ 1 → All (λ (x : X). IsAdopted (node_of n) (shard_of n) (state x)) xs
+    → IsKept state g → (IsQuiet state empty → IsQuiet state g) → g.journal ≡ empty.journal → g.node ≡ empty.node
+    → outlines g ≡ outlines empty ++ (0, shape, first_shard state xs, length xs) ∷ [] → stores_of g ≡ stores_of empty ++ xs → IsGroupAt state shape n g
+group_opened {X} state shape n empty g xs number opening node none still one all kept quiet journal same tables stores =
+    let of_table = λ (ts : List (GroupTable X)). flat_map (λ (u : GroupTable X). u.stores.items) ts in
+    let o : Outline = (0, shape, first_shard state xs, length xs) in
+    let is : o ≡ (0, shape, shard_of n, 1) = rw (shard_of_first state (node_of n) (shard_of n) xs one all, one) refl in
+    let outlined : outlines g ≡ (0, shape, shard_of n, 1) ∷ [] = tables ∙ ap (λ (ts : List (GroupTable X)). map outline ts ++ o ∷ []) none ∙ ap (λ (p : Outline). p ∷ []) is in
+    let table = only_table g.tables.items (0, shape, shard_of n, 1) outlined in
+    let held : xs ≡ table.0.stores.items = sym (stores ∙ ap (λ (ts : List (GroupTable X)). of_table ts ++ xs) none) ∙ ap of_table table.1 ∙ append-nil table.0.stores.items in
+    let P : X → Type 0 = λ x. IsTrue (state x).steady in
+    let steady = recursion_from_All P table.0.stores.items (subst (λ (ys : List X). All P ys) held (All-weaker (λ (x : X). IsAdopted (node_of n) (shard_of n) (state x)) P (λ x at. at.steady) xs all)) in
     record {
       kept = kept;
-      quiet = subst (λ (ts : List (GroupTable X)). AllByRecursion (IsTableQuiet state) ts) (sym one.1) (here (λ x. (state x).staged ≡ []) quiet, tt);
-      steady = subst (λ (ts : List (GroupTable X)). AllByRecursion (λ (t : GroupTable X). AllByRecursion (λ (x : X). IsTrue (state x).steady) t.stores.items) ts) (sym one.1) (here (λ x. IsTrue (state x).steady) steady, tt);
-      number = number;
-      opening = opening;
-      node = node;
-      tables = tables;
+      quiet = quiet still;
+      steady = subst (λ (ts : List (GroupTable X)). AllByRecursion (λ (t : GroupTable X). AllByRecursion P t.stores.items) ts) (sym table.1) (steady, tt);
+      number = ap (λ (j : Journal). j.group) journal ∙ number;
+      opening = ap (λ (j : Journal). j.opening) journal ∙ opening;
+      node = same ∙ node;
+      tables = outlined;
     }
 
 -- the list of the one store of a group

@@ -7,7 +7,7 @@ use Rattle.cq_store.specs.Stores.{StoreState}
 use Rattle.cq_store.specs.Workers.{room}
 use Rattle.cq_store.specs.declared.worker.Worker.{Worker}
 use Rattle.cq_cluster.specs.Cluster.{nodes, node_of, groups_on, stores_in, IsWaiting, IsWorkerAt, AreWorkers, IsIdle, AreIdle}
-use Rattle.cq_cluster.specs.Moving.{AllWait, Lacks, AreInUse}
+use Rattle.cq_cluster.specs.Moving.{AllWait, Lacks, AreInUse, HaveRoom}
 use Rattle.cq_cluster.proofs.ListLaws.{got_after, got_other, item_at, there}
 
 -- before a group is opened the workers are as they were handed in
@@ -149,3 +149,10 @@ next_or_none state entry workers before after count place old new (Ok x) n e bot
 next_or_none state entry workers before after count place old new (Err x) n e both is all lacks more none same now =
     let s : slice_get workers place ≡ Some old = slice_get_read workers (length workers) place old refl (omega (arith, both, e)) is in
     subst (λ m. AreWorkers state entry m (set workers place new)) (n ∙ ap length (sym same)) (none_taken state entry workers count place old new (omega (arith, e)) s none all now)
+
+-- the workers have room for the stores that the groups took from them
+pub room_for_groups : {X : Type 0} (state : X → StoreState) (entry workers : List (Worker X)) (count : ℕ) → nodes ≤ length workers → AreWorkers state entry count workers → HaveRoom count workers
+room_for_groups state entry workers count both now = record {
+  both = both;
+  used = λ place w h s. let at = now.used place w h s in record { node = at.node; room = at.room };
+}

@@ -46,14 +46,14 @@ abbrev pub AreInUse : {X : Type 0} → (X → StoreState) → ℕ → List (Work
 AreInUse {X} state count workers = (entry : List (Worker X)) × AreIdle state entry × AreWorkers state entry count workers
 
 -- a worker that stands at this place has room for the stores of the first so many groups
-pub record Welcomes {X : Type 0} (count place : ℕ) (w : Worker X) : Type 0 where
+pub record HasRoom {X : Type 0} (count place : ℕ) (w : Worker X) : Type 0 where
   pub node : w.node ≡ place + 1
   pub room : groups_on count place ≤ room w.stores
 
 -- the two workers that a run uses are there, with room for the stores of the first so many groups
-pub record AreOpen {X : Type 0} (count : ℕ) (workers : List (Worker X)) : Type 0 where
+pub record HaveRoom {X : Type 0} (count : ℕ) (workers : List (Worker X)) : Type 0 where
   pub both : nodes ≤ length workers
-  pub used : (place : ℕ) (w : Worker X) → place < nodes → slice_get workers place ≡ Some w → Welcomes count place w
+  pub used : (place : ℕ) (w : Worker X) → place < nodes → slice_get workers place ≡ Some w → HasRoom count place w
 
 -- a worker after the groups with these journals handed their stores back: the shards of those on its node stand last
 pub record HasBack {X : Type 0} (state : X → StoreState) (shape : Shape) (journals : List (List Entry)) (place : ℕ) (old new : Worker X) : Type 0 where

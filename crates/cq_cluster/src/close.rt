@@ -6,7 +6,7 @@ ghost use Rattle.cq_store.specs.Workers.{room};
 ghost use Rattle.cq_store.specs.declared.worker.Worker.{Worker};
 ghost use Rattle.cq_cluster.specs.Cluster.{node_of, IsGroupAt, AreGroups, AreWorkers};
 ghost use Rattle.cq_cluster.specs.Ending.{IsFinal, AreJournals};
-ghost use Rattle.cq_cluster.specs.Moving.{IsGroupOn, AreOpen, HaveBack};
+ghost use Rattle.cq_cluster.specs.Moving.{IsGroupOn, HaveRoom, HaveBack};
 
 use crate::calls::Calls;
 use crate::worker::give_all;
@@ -49,7 +49,7 @@ pub fn close_groups<S: Store, C: Calls<S>>(
     requires groups { (shape : Shape) × AreGroups S.state shape groups.items }
     requires none { journals.old.list ≡ [] }
     requires room { length groups.items ≤ journals.old.room }
-    requires workers { AreOpen (length groups.items) workers.old.items }
+    requires workers { HaveRoom (length groups.items) workers.old.items }
     ensures journals { map (λ j. j.entries.list) journals.new.list ≡ map entries_of groups.items }
     ensures numbered { AreJournals journals.new.list }
     ensures workers { (shape : Shape) (entry : _) → AreGroups S.state shape groups.items → AreWorkers S.state entry (length groups.items) workers.old.items → IsFinal S.state entry shape (map entries_of groups.items) workers.new.items }

@@ -18,7 +18,7 @@ const FIRST_SHARD: u64 = 102008;
 /// The number of the workers that a run uses.
 const NODES: u32 = 2;
 
-/// The group of this number with table 0 and no rows, on a store that waits. `Err`: the store back.
+/// The group of this number with table 0, which is empty, on a store that waits. `Err`: the store, adopted or not.
 fn open_group<S: Store, C: Calls<S>>(
     alloc: Global,
     number: u32,
@@ -33,16 +33,14 @@ fn open_group<S: Store, C: Calls<S>>(
     ensures back { IfErr result (λ t. All (λ s. IsSteadyOn (node_of number) (S.state s)) t.items) }
     ensures one { IfErr result (λ t. length t.items ≡ 1) }
 {
-    let Ok(shape) = shape.copy(alloc) else {
-        return Err(stores);
-    };
-    let Ok(mut group) = C::open(alloc, number, Some(number % NODES + 1), NODES) else {
+    let node = number % NODES + 1;
+    let Ok(mut group) = C::open(alloc, number, Some(node), NODES) else {
         return Err(stores);
     };
     stores[0].adopt(FIRST_SHARD + number as u64);
     match C::add_table(&mut group, alloc, 0, stores, shape) {
         Ok(()) => Ok(group),
-        Err(stores) => Err(stores),
+        Err(refused) => Err(refused.stores),
     }
 }
 

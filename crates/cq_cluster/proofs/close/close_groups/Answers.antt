@@ -8,7 +8,7 @@ use Rattle.cq_store.specs.declared.worker.Worker.{Worker}
 use Rattle.cq_group.specs.declared.group.GroupState.{GroupState}
 use Rattle.cq_group.specs.Groups.{entries_of}
 use Rattle.cq_cluster.specs.Cluster.{AreGroups}
-use Rattle.cq_cluster.specs.Moving.{AreOpen}
+use Rattle.cq_cluster.specs.Moving.{HaveRoom}
 use Rattle.cq_cluster.proofs.ClosingLaws.{Closes, closes_none, closes_at, closes_worker, closes_more, closes_all, journals_numbered, entries_more}
 use Rattle.cq_cluster.proofs.close.close_groups.Goals as goal
 
@@ -48,7 +48,7 @@ close_at-requires-clause-worker g c =
     let shape = c.requires.groups.0 in
     let groups = subst (λ (gs : List (GroupState g.row.S.Denot)). AreGroups state shape gs) (sym c.into_iter-group-iterator.ensures.into_iter_gives.0) c.requires.groups.1 in
     let closes = subst (λ (gs : List (GroupState g.row.S.Denot)). Closes state all first done gs at.workers.items) c.in-Some.ensures.steps.0 at.invariant.closes in
-    let ready = subst (λ (gs : List (GroupState g.row.S.Denot)). AreOpen (length gs) first) (sym c.into_iter-group-iterator.ensures.into_iter_gives.0) c.requires.workers in
+    let ready = subst (λ (gs : List (GroupState g.row.S.Denot)). HaveRoom (length gs) first) (sym c.into_iter-group-iterator.ensures.into_iter_gives.0) c.requires.workers in
     closes_worker state all rest first at.workers.items done c.in-Some.group shape closes groups ready
 
 pub loop-group-preserved : goal.loop-group-preserved
