@@ -2,3 +2,10 @@ pub mod Through
 pub mod Zips
 pub mod Turns
 pub mod Staging
+pub mod TableLaws
+pub mod JournalLaws
+pub mod GroupLaws
+pub mod PlaceLaws
+pub mod ReadLaws
+pub mod WriteLaws
+pub mod CommitLaws

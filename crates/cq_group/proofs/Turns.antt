@@ -60,6 +60,30 @@ goes_on_more s t u h k = becomes s u u.rows u.staged
     refl refl (omega (arith, h.counts, k.counts))
     (λ i. k.steady (subst IsTrue (sym (ap (λ (x : StoreState). x.steady) h.state)) i) ∙ h.steady i)
 
+pub rests_more : (s t u : StoreState) → Rests s t → Rests t u → Rests s u
+rests_more s t u h k = becomes s u s.rows s.staged
+    (ap (λ (x : StoreState). x.node) k.state ∙ ap (λ (x : StoreState). x.node) h.state)
+    (ap (λ (x : StoreState). x.shard) k.state ∙ ap (λ (x : StoreState). x.shard) h.state)
+    (ap (λ (x : StoreState). x.steady) k.state ∙ ap (λ (x : StoreState). x.steady) h.state)
+    (ap (λ (x : StoreState). x.rows) k.state ∙ ap (λ (x : StoreState). x.rows) h.state)
+    (ap (λ (x : StoreState). x.staged) k.state ∙ ap (λ (x : StoreState). x.staged) h.state)
+    (omega (arith, h.counts, k.counts))
+    (λ i. k.steady (subst IsTrue (sym (ap (λ (x : StoreState). x.steady) h.state)) i) ∙ h.steady i)
+
+pub stages_after : (changes : List Change) (s t u : StoreState) → Rests s t → Stages changes t u → Stages changes s u
+stages_after changes s t u h k = becomes s u s.rows changes
+    (ap (λ (x : StoreState). x.node) k.state ∙ ap (λ (x : StoreState). x.node) h.state)
+    (ap (λ (x : StoreState). x.shard) k.state ∙ ap (λ (x : StoreState). x.shard) h.state)
+    (ap (λ (x : StoreState). x.steady) k.state ∙ ap (λ (x : StoreState). x.steady) h.state)
+    (ap (λ (x : StoreState). x.rows) k.state ∙ ap (λ (x : StoreState). x.rows) h.state)
+    (ap (λ (x : StoreState). x.staged) k.state)
+    (omega (arith, h.counts, k.counts))
+    (λ i. k.steady (subst IsTrue (sym (ap (λ (x : StoreState). x.steady) h.state)) i) ∙ h.steady i)
+
+-- a store with nothing staged, where no changes are to be staged
+pub stages_none : (changes : List Change) (s : StoreState) → s.staged ≡ [] → changes ≡ [] → Stages changes s s
+stages_none changes s h k = becomes s s s.rows changes refl refl refl refl (h ∙ sym k) (omega arith) (λ i. refl)
+
 -- what was staged in between is dropped, so the store rests if nothing was staged before
 pub dropped : (s t u : StoreState) → s.staged ≡ [] → KeepsRows s t → Discards t u → Rests s u
 dropped s t u nothing h k = becomes s u s.rows s.staged

@@ -1,5 +1,5 @@
 -- Two lists whose elements are related place by place.
-use Rattle.std.proofs.Common.{◌≡◌, ◌⊎◌, inl, inr, ℕ, zero, suc, ◌+◌, ◌<◌, ◌≤◌, List, [], ◌∷◌, ◌++◌, length, get_or, refl, sym, ap, subst, arith}
+use Rattle.std.proofs.Common.{◌≡◌, ◌⊎◌, inl, inr, ℕ, zero, suc, ◌+◌, ◌<◌, ◌≤◌, List, [], ◌∷◌, ◌++◌, length, get_or, Result, Ok, Err, IfOk, OnOk, OnErr, refl, sym, ap, subst, arith}
 use Rattle.std.proofs.Math.ListN.{set}
 use Rattle.std.specs.List.{AllZip, AllByRecursion, flat_map}
 use Rattle.cq_group.specs.Calls.{SomeZip}
@@ -94,3 +94,16 @@ some_not P R f [] ys h k = k
 some_not P R f (x ∷ xs) [] h k = k
 some_not P R f (x ∷ xs) (y ∷ ys) h (inl k) = f x y h.0 k
 some_not P R f (x ∷ xs) (y ∷ ys) h (inr k) = some_not P R f xs ys h.1 k
+
+pub all_set : {X : Type 0} (P : X → Type 0) (xs : List X) (n : ℕ) (y : X) → AllByRecursion P xs → P y → AllByRecursion P (set xs n y)
+all_set P [] n y h p = tt
+all_set P (x ∷ xs) zero y h p = (p, h.1)
+all_set P (x ∷ xs) (suc n) y h p = (h.0, all_set P xs n y h.1 p)
+
+pub on_err : {T E : Type 0} (r : Result T E) (P Q : Type 0) → (P → Q) → OnErr r P → OnErr r Q
+on_err (Ok x) P Q f h = tt
+on_err (Err e) P Q f h = f h
+
+pub if_ok_both : {T E : Type 0} (r : Result T E) (P : T → Type 0) (Q : Type 0) (R : T → Type 0) → ((x : T) → P x → Q → R x) → IfOk r P → OnOk r Q → IfOk r R
+if_ok_both (Ok x) P Q R f h k = f x h k
+if_ok_both (Err e) P Q R f h k = tt

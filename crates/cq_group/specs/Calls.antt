@@ -1,13 +1,21 @@
 -- What a call makes of the stores of a group.
-use Rattle.std.specs.Prelude.{◌≡◌, ◌<◌, ◌≤◌, ◌⊎◌, ℕ, ⊤, false, List, [], ◌∷◌, take, drop}
-use Rattle.std.specs.List.{AllZip}
+use Rattle.std.specs.Prelude.{◌≡◌, ◌<◌, ◌≤◌, ◌⊎◌, ℕ, ⊤, false, List, [], ◌∷◌, length, take, drop, nat_eq, if◌then◌else◌}
+use Rattle.std.specs.List.{AllZip, AllByRecursion}
 use Rattle.cq_value.specs.declared.change.Change.{Change}
-use Rattle.cq_value.specs.Tables.{Table, empty_table}
+use Rattle.cq_value.specs.declared.value.Value.{Value}
+use Rattle.cq_value.specs.Tables.{Table, empty_table, rows_of}
 use Rattle.cq_value.specs.Changes.{applied, Fit}
+use Rattle.cq_tree.specs.declared.journal.ShardOp.{ShardOp}
+use Rattle.cq_meaning.specs.Effects.{inserts}
+use Rattle.cq_history.specs.Journals.{replay}
 use Rattle.cq_store.specs.Stores.{StoreState, Becomes, Rose}
-use Rattle.cq_group.specs.Groups.{stores_of}
+use Rattle.cq_tree.specs.declared.journal.Reply.{Reply}
+use Rattle.cq_tree.specs.declared.journal.Reply.TheVariants.{Count, Duplicate}
+use Rattle.cq_group.specs.Groups.{stores_of, IsTableQuiet, IsQuiet, IsReady, IsSameGroup, IsSteady, shapes, entries_of}
 use Rattle.cq_group.specs.declared.group.GroupError.{GroupError}
 use Rattle.cq_group.specs.declared.group.GroupError.TheVariants.{Worker, Memory}
+use Rattle.cq_group.specs.declared.group.Staged.{Staged}
+use Rattle.cq_group.specs.declared.group.Staged.TheVariants.{Ready, Refused, NoIds}
 use Rattle.cq_group.specs.declared.group.GroupTable.{GroupTable}
 use Rattle.cq_group.specs.declared.group.GroupState.{GroupState}
 
@@ -51,17 +59,18 @@ pub record IsRestingTable {X : Type 0} (R : X → X → Type 0) (old new : Group
   pub same : IsSameTable R old new
   pub next : new.next ≡ old.next
 
--- a group as it was, but for its stores, which are related one by one
+-- a group as it was, but for its journal and its stores, which are related one by one
 pub record IsSameBut {X : Type 0} (R : X → X → Type 0) (old new : GroupState X) : Type 0 where
-  pub journal : new.journal ≡ old.journal
   pub node : new.node ≡ old.node
   pub nodes : new.nodes ≡ old.nodes
   pub room : new.room ≡ old.room
   pub tables : AllZip (IsRestingTable R) old.tables.items new.tables.items
 
--- each store of the group goes on
-abbrev pub AllGoOn : {X : Type 0} → (X → StoreState) → GroupState X → GroupState X → Type 0
-AllGoOn state old new = AllZip (Lifted state GoesOn) (stores_of old) (stores_of new)
+-- a call leaves the group as it is, but for its entries: each of its stores goes on, and so a steady group stays steady
+pub record GroupGoesOn {X : Type 0} (state : X → StoreState) (old new : GroupState X) : Type 0 where
+  pub same : IsSameGroup old new
+  pub stores : AllZip (Lifted state GoesOn) (stores_of old) (stores_of new)
+  pub steady : IsSteady state old → IsSteady state new
 
 -- R holds of the elements at some place of two lists
 abbrev pub SomeZip : {X : Type 0} → (X → X → Type 0) → List X → List X → Type 0
@@ -89,10 +98,42 @@ pub record Takes (changes : List Change) (s : StoreState) : Type 0 where
   pub nothing : s.staged ≡ []
   pub fits : Fit s.rows changes
 
+-- the node that a read is made on: the group's, or in a reference group the near one
+abbrev pub node_read : {X : Type 0} → GroupState X → ℕ → ℕ
+node_read g near = if nat_eq g.node 0 then near else g.node
+
+-- a table's number and the rows that the group's entries leave of it
+abbrev pub captured : {X : Type 0} → GroupState X → ℕ → ℕ × List (List Value)
+captured g table = (table, rows_of (replay table (shapes g table) (entries_of g)))
+
+-- the next row id that a group's entries leave of a table
+abbrev pub next_id : {X : Type 0} → GroupState X → ℕ → ℕ
+next_id g table = (replay table (shapes g table) (entries_of g)).next
+
+-- what staging a write came to: it is ready and counts its rows, or it is refused, or its ids don't suffice; nothing is
+-- staged for a write that isn't made
+abbrev pub IsStaged : {X : Type 0} → (X → StoreState) → GroupState X → ShardOp → Staged → Type 0
+IsStaged state g op (Ready reply) = (reply ≡ Count (length (inserts op))) × IsReady state g op reply
+IsStaged state g op (Refused reply) = (reply ≡ Duplicate) × IsReady state g op reply × IsQuiet state g
+IsStaged state g op NoIds = IsQuiet state g
+
 -- the rows of the first store
 abbrev pub first_rows : {X : Type 0} → (X → StoreState) → List X → Table
 first_rows state [] = empty_table
 first_rows state (x ∷ xs) = (state x).rows
+
+-- a table's next id is its stores', which keep a shard, hold the same rows, and have nothing staged
+pub record AreAlike {X : Type 0} (state : X → StoreState) (t : GroupTable X) : Type 0 where
+  pub some_store : 0 < length t.stores.items
+  pub numbered : t.next ≡ (first_rows state t.stores.items).next
+  pub shards : AllByRecursion (λ (x : X). 0 < (state x).shard) t.stores.items
+  pub rows : AllByRecursion (λ (x : X). (state x).rows ≡ first_rows state t.stores.items) t.stores.items
+  pub nothing : IsTableQuiet state t
+
+-- how many rows a reply counts
+abbrev pub count_of : Reply → ℕ
+count_of (Count n) = n
+count_of Duplicate = 0
 
 -- the first n elements are related to what they became, and the others are as before
 pub record IsThrough {X : Type 0} (R : X → X → Type 0) (n : ℕ) (xs ys : List X) : Type 0 where

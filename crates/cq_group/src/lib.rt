@@ -3,7 +3,11 @@
 
 mod gate;
 mod group;
+mod place;
+mod read;
 mod stores;
+mod table;
+mod write;
 
 pub use gate::{Gate, IdleGate, Point};
 pub use group::{Capture, Closed, GroupError, GroupState, GroupTable, Staged, Tables};

@@ -1,0 +1,51 @@
+-- Reads of a group's tables, one after another.
+use Rattle.std.proofs.Common.{◌≡◌, ◌∙◌, ℕ, ◌+◌, ◌<◌, IsSome, List, [], ◌∷◌, ◌++◌, map, take, get_or, length, ap, subst, sym, refl}
+use Rattle.std.specs.List.{AllZip}
+use Rattle.std.proofs.lemmas.List.{map_more}
+use Rattle.cq_store.specs.Stores.{StoreState}
+use Rattle.cq_group.specs.declared.group.GroupError.{GroupError}
+use Rattle.cq_group.specs.declared.group.GroupState.{GroupState}
+use Rattle.cq_group.specs.Groups.{entries_of, outlines, stores_of, copies_of, shape_at, HasTable, IsKept, IsQuiet}
+use Rattle.cq_group.specs.Calls.{Rests, KeepsRows, Lifted, Blames, IsSameBut, IsRestingTable, GroupGoesOn, captured}
+use Rattle.cq_group.proofs.Zips.{zip_refl}
+use Rattle.cq_group.proofs.Turns.{rests, rests_keep, rests_more, rests_go_on}
+use Rattle.cq_group.proofs.TableLaws.{blames_later, rested_go_on}
+use Rattle.cq_group.proofs.PlaceLaws.{table_refl}
+use Rattle.cq_group.proofs.GroupLaws.{group_trans, group_weaker, kept_along, outlines_along, captured_along, copies_same, stores_zip, resting_same, goes_on_but, same_with, quiet_along}
+
+-- one more table was read
+pub captures_more : {Y : Type 0} (f : ℕ → Y) (tables : List ℕ) (n : ℕ) (seen : List Y) (y : Y) → n < length tables → seen ≡ map f (take n tables) → y ≡ f (get_or tables n 0) →
+    seen ++ y ∷ [] ≡ map f (take (n + 1) tables)
+captures_more f tables n seen y low s is =
+    (λ i. s i ++ is i ∷ []) ∙ sym (map_more f tables n 0 low)
+
+module _ {X : Type 0} (state : X → StoreState) where
+
+  pub rested_none : (g : GroupState X) → IsSameBut (Lifted state Rests) g g
+  rested_none g = record { node = refl; nodes = refl; room = refl;
+      tables = zip_refl (IsRestingTable (Lifted state Rests)) (λ t. table_refl (Lifted state Rests) (λ x. rests (state x)) t) g.tables.items }
+
+  pub rested_more : (f g h : GroupState X) → IsSameBut (Lifted state Rests) f g → IsSameBut (Lifted state Rests) g h → IsSameBut (Lifted state Rests) f h
+  rested_more f g h a b = group_trans (Lifted state Rests) (Lifted state Rests) (Lifted state Rests) (λ x y z. rests_more (state x) (state y) (state z)) f g h a b
+
+  pub rested_kept : (g h : GroupState X) → IsKept state g → h.journal ≡ g.journal → IsSameBut (Lifted state Rests) g h → IsKept state h
+  rested_kept g h k j s = kept_along state g h k (group_weaker (Lifted state Rests) (Lifted state KeepsRows) (λ x y. rests_keep (state x) (state y)) g h s) (ap (λ x. x.entries.list) j)
+
+  pub rested_has : (g h : GroupState X) (table : ℕ) → IsSameBut (Lifted state Rests) g h → HasTable g table → HasTable h table
+  rested_has g h table s k = subst (λ os. IsSome (shape_at os table)) (sym (outlines_along state (Lifted state Rests) g h s)) k
+
+  pub rested_captured : (g h : GroupState X) (table : ℕ) → h.journal ≡ g.journal → IsSameBut (Lifted state Rests) g h → captured h table ≡ captured g table
+  rested_captured g h table j s = captured_along state g h table (outlines_along state (Lifted state Rests) g h s) (ap (λ x. x.entries.list) j)
+
+  pub rested_blames : (e : GroupError) (g h : GroupState X) (zs : List X) → IsSameBut (Lifted state Rests) g h → Blames state e (stores_of h) zs → Blames state e (stores_of g) zs
+  rested_blames e g h zs s b = blames_later state e (stores_of g) (stores_of h) zs
+      (rested_go_on state (stores_of g) (stores_of h) (stores_zip (Lifted state Rests) g.tables.items h.tables.items (resting_same (Lifted state Rests) g.tables.items h.tables.items s.tables))) b
+
+  -- a group whose tables were read, and then perhaps its journal written, goes on and is as quiet as before
+  pub rested_goes_on : (f g h : GroupState X) → IsSameBut (Lifted state Rests) f g → g.journal ≡ f.journal → h ≡ record g { journal = h.journal } →
+      h.journal.group ≡ g.journal.group → h.journal.opening ≡ g.journal.opening → GroupGoesOn state f h
+  rested_goes_on f g h s j e number opening =
+      goes_on_but state Rests (λ a b. rests_go_on a b) f h (same_with state (Lifted state Rests) f g h s e) (number ∙ ap (λ x. x.group) j) (opening ∙ ap (λ x. x.opening) j)
+
+  pub rested_quiet : (f g h : GroupState X) → IsQuiet state f → IsSameBut (Lifted state Rests) f g → h ≡ record g { journal = h.journal } → IsQuiet state h
+  rested_quiet f g h q s e = quiet_along state f h q (same_with state (Lifted state Rests) f g h s e)

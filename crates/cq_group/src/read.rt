@@ -1,0 +1,123 @@
+ghost use Rattle.std.specs.Prelude.{◌≡◌, ◌+◌, ◌<◌, ◌≤◌, [], ◌∷◌, ◌++◌, length, map, OnOk, OnErr, IfOk, IfErr};
+ghost use Rattle.std.specs.List.{AllByRecursion};
+ghost use Rattle.cq_value.specs.Tables.{rows_of};
+ghost use Rattle.cq_history.specs.Journals.{replay};
+ghost use Rattle.cq_group.specs.Groups.{IsKept, IsQuiet, IsSteady, HasTable, entries_of, stores_of, shapes, copies_of};
+ghost use Rattle.cq_group.specs.Calls.{Rests, Lifted, Blames, IsSameBut, GroupGoesOn, node_read, captured};
+
+use crate::group::{Capture, GroupError, GroupState, Tables};
+use crate::place::place_of;
+use cq_store::Store;
+use cq_tree::{Entry, EntryKind, Who};
+use cq_value::{NoMemory, Positions, Rows};
+use std::alloc::Global;
+
+impl<S: Store> GroupState<S> {
+    /// The rows of one table, from the store in a place of its list.
+    fn read_table(&mut self, alloc: Global, table: u32, copy: usize) -> Result<Rows, GroupError>
+        requires kept { IsKept S.state self.old }
+        requires there { HasTable self.old table }
+        requires copy { copy < copies_of self.old }
+        ensures rows { IfOk result (λ rows. rows ≡ rows_of (replay table (shapes self.old table) (entries_of self.old))) }
+        ensures journal { self.new.journal ≡ self.old.journal }
+        ensures same { IsSameBut (Lifted S.state Rests) self.old self.new }
+        ensures blame { IfErr result (λ e. Blames S.state e (stores_of self.old) (stores_of self.new)) }
+    {
+        let place = place_of(&self.tables, table);
+        self.tables[place].read(alloc, copy)
+    }
+
+    /// The named tables' rows, in order, from the stores in a place of their lists.
+    fn read_tables(
+        &mut self,
+        alloc: Global,
+        copy: usize,
+        tables: &Positions,
+    ) -> Result<Tables, GroupError>
+        requires kept { IsKept S.state self.old }
+        requires there { AllByRecursion (HasTable self.old) tables.now }
+        requires copy { copy < copies_of self.old }
+        ensures tables { IfOk result (λ seen. seen ≡ map (captured self.old) tables.now) }
+        ensures journal { self.new.journal ≡ self.old.journal }
+        ensures same { IsSameBut (Lifted S.state Rests) self.old self.new }
+        ensures blame { IfErr result (λ e. Blames S.state e (stores_of self.old) (stores_of self.new)) }
+    {
+        let mut seen = Tables::new(alloc);
+        for table in tables.as_slice() {
+            let rows = self.read_table(alloc, *table, copy)?;
+            if seen.put((*table, rows)).is_err() {
+                return Err(GroupError::Memory);
+            }
+        }
+        Ok(seen)
+    }
+
+    /// Appends a Read, and gives its place in the journal.
+    fn append_read(&mut self, who: Who) -> Result<u64, GroupError>
+        requires { IsKept S.state self.old }
+        ensures place { IfOk result (λ place. place ≡ length (entries_of self.old)) }
+        ensures entry { OnOk result (entries_of self.new ≡ entries_of self.old ++ record { who = who; kind = EntryKind.Read } ∷ []) }
+        ensures err { OnErr result (entries_of self.new ≡ entries_of self.old) }
+        ensures memory { IfErr result (λ e. e ≡ GroupError.Memory) }
+        ensures number { self.new.journal.group ≡ self.old.journal.group }
+        ensures opening { self.new.journal.opening ≡ self.old.journal.opening }
+        ensures rest { self.new ≡ record self.old { journal = self.new.journal } }
+        ensures kept { IsKept S.state self.new }
+    {
+        if self.journal.entries.reserve(1).is_err() {
+            return Err(GroupError::Memory);
+        }
+        let place = self.journal.entries.len();
+        self.journal.entries.push(Entry {
+            who,
+            kind: EntryKind::Read,
+        });
+        Ok(place)
+    }
+
+    /// The place of the store that is read: the only one, or in a reference group that of the near node.
+    fn copy_near(&self, near: u32) -> usize
+        requires kept { 0 < copies_of self.now }
+        requires near { self.now.node ≡ 0 → (0 < near) × (near ≤ self.now.nodes) }
+        ensures { result < copies_of self.now }
+    {
+        if self.node == 0 { near as usize - 1 } else { 0 }
+    }
+
+    /// The rows of the named tables, in order, and one Read in the journal; in a reference group they are read on the near
+    /// node, which is one of its nodes. Nothing is staged before or afterwards.
+    ///
+    /// Errors: a store failed, or want of memory. The journal is then as it was.
+    pub fn read(
+        &mut self,
+        alloc: Global,
+        who: Who,
+        near: u32,
+        tables: &Positions,
+    ) -> Result<Capture, GroupError>
+        requires kept { IsKept S.state self.old }
+        requires quiet { IsQuiet S.state self.old }
+        requires there { AllByRecursion (HasTable self.old) tables.now }
+        requires near { self.old.node ≡ 0 → (0 < near) × (near ≤ self.old.nodes) }
+        ensures place { IfOk result (λ seen. seen.place ≡ length (entries_of self.old)) }
+        ensures node { IfOk result (λ seen. seen.node ≡ node_read self.old near) }
+        ensures tables { IfOk result (λ seen. seen.tables ≡ map (captured self.old) tables.now) }
+        ensures entry { OnOk result (entries_of self.new ≡ entries_of self.old ++ record { who = who; kind = EntryKind.Read } ∷ []) }
+        ensures err { OnErr result (entries_of self.new ≡ entries_of self.old) }
+        ensures kept { IsKept S.state self.new }
+        ensures quiet { IsQuiet S.state self.new }
+        ensures goes_on { GroupGoesOn S.state self.old self.new }
+        ensures blame { IfErr result (λ e. Blames S.state e (stores_of self.old) (stores_of self.new)) }
+        ensures steady { IfErr result (λ e. IsSteady S.state self.old → e ≡ GroupError.Memory) }
+    {
+        let copy = self.copy_near(near);
+        let seen = self.read_tables(alloc, copy, tables)?;
+        let place = self.append_read(who)?;
+        let node = if self.node == 0 { near } else { self.node };
+        Ok(Capture {
+            place,
+            node,
+            tables: seen,
+        })
+    }
+}

@@ -1,0 +1,132 @@
+ghost use Rattle.std.specs.Prelude.{◌≡◌, ◌+◌, ◌<◌, ◌≤◌, ◌^◌, ◌↔◌, IsTrue, true, [], length, map, OnOk, OnErr, IfOk, IfErr};
+ghost use Rattle.std.specs.List.{AllByRecursion, HoldsAt};
+ghost use Rattle.cq_value.specs.Tables.{rows_of};
+ghost use Rattle.cq_meaning.specs.Effects.{reply_of, inserts};
+ghost use Rattle.cq_history.specs.Standing.{most_ids};
+ghost use Rattle.cq_engine.specs.WriteEffects.{IsEffect};
+ghost use Rattle.cq_group.specs.Groups.{IsStagedIn, IsTableQuiet};
+ghost use Rattle.cq_group.specs.Calls.{Rests, Discards, Commits, Stages, KeepsRows, Lifted, Blames, Takes, IsSameTable, IsRestingTable, AreAlike, first_rows, count_of};
+
+use crate::group::{GroupError, GroupTable};
+use crate::stores::{commit_stores, discard_stores, scan_store, stage_stores};
+use cq_engine::{Effect, changes_of};
+use cq_store::Store;
+use cq_tree::{Reply, ShardOp};
+use cq_value::{NoMemory, Numbered, Rows};
+use std::alloc::Global;
+
+/// The most row ids of one table in one shard group.
+const MOST_IDS: u64 = 4_294_967_296;
+
+/// The rows of a numbered table, without their ids.
+fn rows_alone(alloc: Global, table: &Numbered) -> Result<Rows, NoMemory>
+    ensures { IfOk result (λ rows. rows ≡ rows_of table.now) }
+{
+    let mut rows = Rows::new(alloc);
+    for pair in table.pairs() {
+        rows.put(pair.1.copy(alloc)?)?;
+    }
+    Ok(rows)
+}
+
+impl<S: Store> GroupTable<S> {
+    /// The numbered rows that the store in a place of the list holds.
+    fn scan(&mut self, place: usize) -> Result<Numbered, GroupError>
+        requires { place < length self.old.stores.items }
+        ensures rows { IfOk result (λ table. HoldsAt (λ x. table ≡ (S.state x).rows) self.old.stores.items place) }
+        ensures same { IsRestingTable (Lifted S.state Rests) self.old self.new }
+        ensures blame { IfErr result (λ e. Blames S.state e self.old.stores.items self.new.stores.items) }
+    {
+        scan_store(&mut self.stores[place])
+    }
+
+    /// The rows that the store in a place of the list holds.
+    pub(crate) fn read(&mut self, alloc: Global, place: usize) -> Result<Rows, GroupError>
+        requires { place < length self.old.stores.items }
+        ensures rows { IfOk result (λ rows. HoldsAt (λ x. rows ≡ rows_of (S.state x).rows) self.old.stores.items place) }
+        ensures same { IsRestingTable (Lifted S.state Rests) self.old self.new }
+        ensures blame { IfErr result (λ e. Blames S.state e self.old.stores.items self.new.stores.items) }
+    {
+        let table = self.scan(place)?;
+        match rows_alone(alloc, &table) {
+            Ok(rows) => Ok(rows),
+            Err(NoMemory) => Err(GroupError::Memory),
+        }
+    }
+
+    /// Whether the row ids that are left are fewer than the rows of a write.
+    pub(crate) fn lacks_ids(&self, op: &ShardOp) -> bool
+        requires { self.now.next ≤ most_ids }
+        ensures { IsTrue result ↔ (most_ids < self.now.next + length (inserts op.now)) }
+    {
+        match op {
+            ShardOp::Insert { rows, .. } => rows.len() > MOST_IDS - self.next,
+        }
+    }
+
+    /// What a write comes to over the rows of the first store.
+    fn effect_of(&mut self, alloc: Global, op: &ShardOp) -> Result<Effect, GroupError>
+        requires alike { AreAlike S.state self.old }
+        requires ids { self.old.next + length (inserts op.now) ≤ 2 ^ 32 }
+        ensures effect { IfOk result (λ made. IsEffect op.now (first_rows S.state self.old.stores.items) self.old.shape made) }
+        ensures same { IsRestingTable (Lifted S.state Rests) self.old self.new }
+        ensures blame { IfErr result (λ e. Blames S.state e self.old.stores.items self.new.stores.items) }
+    {
+        let rows = self.scan(0)?;
+        match changes_of(alloc, op, &rows, self.next, &self.shape) {
+            Ok(effect) => Ok(effect),
+            Err(NoMemory) => Err(GroupError::Memory),
+        }
+    }
+
+    /// Stages the changes of a write in each store. A write that is refused has none, and no store is asked.
+    fn stage_effect(&mut self, effect: &Effect) -> Result<(), GroupError>
+        requires takes { AllByRecursion (λ x. Takes effect.now.changes (S.state x)) self.old.stores.items }
+        requires refused { effect.now.reply ≡ Reply.Duplicate → effect.now.changes ≡ [] }
+        ensures ok { OnOk result (IsRestingTable (Lifted S.state (Stages effect.now.changes)) self.old self.new) }
+        ensures err { OnErr result (IsRestingTable (Lifted S.state Rests) self.old self.new) }
+        ensures blame { IfErr result (λ e. Blames S.state e self.old.stores.items self.new.stores.items) }
+    {
+        match effect.reply {
+            Reply::Count(_) => stage_stores(&mut self.stores, &effect.changes),
+            Reply::Duplicate => Ok(()),
+        }
+    }
+
+    /// Stages a write in each store, and gives its reply. A write that is refused stages nothing.
+    ///
+    /// Errors: a store failed, or want of memory; nothing is staged.
+    pub(crate) fn stage(&mut self, alloc: Global, op: &ShardOp) -> Result<Reply, GroupError>
+        requires alike { AreAlike S.state self.old }
+        requires ids { self.old.next + length (inserts op.now) ≤ 2 ^ 32 }
+        ensures reply { IfOk result (λ reply. reply ≡ reply_of op.now (rows_of (first_rows S.state self.old.stores.items)) self.old.shape) }
+        ensures staged { OnOk result (AllByRecursion (λ x. IsStagedIn true op.now self.old.shape (S.state x)) self.new.stores.items) }
+        ensures refused { IfOk result (λ reply. reply ≡ Reply.Duplicate → IsTableQuiet S.state self.new) }
+        ensures same { IsRestingTable (Lifted S.state KeepsRows) self.old self.new }
+        ensures err { OnErr result (IsRestingTable (Lifted S.state Rests) self.old self.new) }
+        ensures blame { IfErr result (λ e. Blames S.state e self.old.stores.items self.new.stores.items) }
+    {
+        let effect = self.effect_of(alloc, op)?;
+        self.stage_effect(&effect)?;
+        Ok(effect.reply)
+    }
+
+    /// Drops what is staged.
+    pub(crate) fn discard(&mut self)
+        ensures { IsRestingTable (Lifted S.state Discards) self.old self.new }
+    {
+        discard_stores(&mut self.stores);
+    }
+
+    /// Makes what is staged, which has this reply.
+    pub(crate) fn commit(&mut self, reply: Reply)
+        requires { self.old.next + count_of reply ≤ 2 ^ 32 }
+        ensures same { IsSameTable (Lifted S.state Commits) self.old self.new }
+        ensures next { self.new.next ≡ self.old.next + count_of reply }
+    {
+        commit_stores(&mut self.stores);
+        if let Reply::Count(n) = reply {
+            self.next += n;
+        }
+    }
+}
