@@ -1,4 +1,3 @@
 pub mod Cluster
 pub mod Ending
 pub mod Moving
-pub mod Guess

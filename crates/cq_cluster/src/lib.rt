@@ -2,7 +2,11 @@
 //! stores go back.
 #![tactic(auto)]
 
-pub mod calls;
 mod close;
 mod open;
+#[cfg(test)]
+mod tests;
 mod worker;
+
+pub use close::close_groups;
+pub use open::open_groups;

@@ -5,7 +5,6 @@ ghost use Rattle.cq_cluster.specs.Cluster.{nodes, node_of, IsWaiting, IsGroupAt,
 ghost use Rattle.cq_cluster.specs.Moving.{IsSteadyOn, IsGroupOn, AllWait, Lacks, AreInUse};
 ghost use Rattle.cq_value.specs.declared.schema.Shape.{Shape};
 
-use crate::calls::Calls;
 use crate::worker::{release_all, take_waiting};
 use cq_group::{Closed, GroupState};
 use cq_store::{Store, Worker};
@@ -19,7 +18,7 @@ const FIRST_SHARD: u64 = 102008;
 const NODES: u32 = 2;
 
 /// The group of this number with table 0, which is empty, on a store that waits. `Err`: the store, adopted or not.
-fn open_group<S: Store, C: Calls<S>>(
+fn open_group<S: Store>(
     alloc: Global,
     number: u32,
     mut stores: Vec<S>,
@@ -34,18 +33,18 @@ fn open_group<S: Store, C: Calls<S>>(
     ensures one { IfErr result (λ t. length t.items ≡ 1) }
 {
     let node = number % NODES + 1;
-    let Ok(mut group) = C::open(alloc, number, Some(node), NODES) else {
+    let Ok(mut group) = GroupState::open(alloc, number, Some(node), NODES) else {
         return Err(stores);
     };
     stores[0].adopt(FIRST_SHARD + number as u64);
-    match C::add_table(&mut group, alloc, 0, stores, shape) {
+    match group.add_table(alloc, 0, stores, shape) {
         Ok(()) => Ok(group),
         Err(refused) => Err(refused.stores),
     }
 }
 
 /// The group of this number on a store of its worker. `Err`: the worker's stores are as they were, but for their order.
-fn open_on<S: Store, C: Calls<S>>(
+fn open_on<S: Store>(
     alloc: Global,
     worker: &mut Worker<S>,
     number: u32,
@@ -62,7 +61,7 @@ fn open_on<S: Store, C: Calls<S>>(
     ensures err { OnErr result (Lacks 0 worker.old worker.new) }
 {
     let stores = take_waiting(worker)?;
-    match open_group::<S, C>(alloc, number, stores, shape) {
+    match open_group(alloc, number, stores, shape) {
         Ok(group) => Ok(group),
         Err(stores) => {
             release_all(worker, stores);
@@ -72,20 +71,20 @@ fn open_on<S: Store, C: Calls<S>>(
 }
 
 /// Closes a group of this worker, and makes its store spare.
-fn undo_on<S: Store, C: Calls<S>>(worker: &mut Worker<S>, group: GroupState<S>)
+fn undo_on<S: Store>(worker: &mut Worker<S>, group: GroupState<S>)
     requires group { IsGroupOn S.state worker.old.node group }
     requires waiting { AllWait S.state worker.old }
     requires room { 0 < room worker.old.stores }
     ensures waiting { AllWait S.state worker.new }
     ensures back { Lacks 1 worker.new worker.old }
 {
-    let Closed { journal: _, stores } = C::close(group);
+    let Closed { journal: _, stores } = group.close();
     release_all(worker, stores);
 }
 
 /// Puts the group of this number last, on a store of its worker. `Err`: the groups are as they were, and the worker's
 /// stores are but for their order.
-fn add_group<S: Store, C: Calls<S>>(
+fn add_group<S: Store>(
     alloc: Global,
     worker: &mut Worker<S>,
     groups: &mut Vec<GroupState<S>>,
@@ -107,18 +106,18 @@ fn add_group<S: Store, C: Calls<S>>(
     ensures err { OnErr result (Lacks 0 worker.old worker.new) }
     ensures same { OnErr result (groups.new.items ≡ groups.old.items) }
 {
-    let group = open_on::<S, C>(alloc, worker, number, shape)?;
+    let group = open_on(alloc, worker, number, shape)?;
     match groups.push(group) {
         Ok(()) => Ok(()),
         Err(refused) => {
-            undo_on::<S, C>(worker, refused.value);
+            undo_on(worker, refused.value);
             Err(NoMemory)
         }
     }
 }
 
 /// Opens the group of this number on its worker.
-fn open_next<S: Store, C: Calls<S>>(
+fn open_next<S: Store>(
     alloc: Global,
     workers: &mut Vec<Worker<S>>,
     groups: &mut Vec<GroupState<S>>,
@@ -138,11 +137,11 @@ fn open_next<S: Store, C: Calls<S>>(
     ensures workers { (entry : _) → AreWorkers S.state entry number workers.old.items → AreWorkers S.state entry (length groups.new.items) workers.new.items }
 {
     let worker = &mut workers[(number % NODES) as usize];
-    add_group::<S, C>(alloc, worker, groups, number, shape)
+    add_group(alloc, worker, groups, number, shape)
 }
 
 /// Closes the groups, the last one first, and makes their stores spare.
-fn undo_all<S: Store, C: Calls<S>>(workers: &mut Vec<Worker<S>>, groups: &mut Vec<GroupState<S>>)
+fn undo_all<S: Store>(workers: &mut Vec<Worker<S>>, groups: &mut Vec<GroupState<S>>)
     requires both { nodes ≤ length workers.old.items }
     requires used { AreInUse S.state (length groups.old.items) workers.old.items }
     requires groups { (shape : Shape) × AreGroups S.state shape groups.old.items }
@@ -151,14 +150,14 @@ fn undo_all<S: Store, C: Calls<S>>(workers: &mut Vec<Worker<S>>, groups: &mut Ve
 {
     while let Some(group) = groups.pop() {
         let worker = &mut workers[groups.len() % NODES as usize];
-        undo_on::<S, C>(worker, group);
+        undo_on(worker, group);
     }
 }
 
 /// Opens the groups of a table that is distributed into so many shards, with no rows: each on the first spare store of its
 /// worker, in turn (Citus, `create_distributed_table`: shards are placed on the workers round-robin). `Err`: no group is
 /// open, and all stores are spare again.
-pub fn open_groups<S: Store, C: Calls<S>>(
+pub fn open_groups<S: Store>(
     alloc: Global,
     workers: &mut Vec<Worker<S>>,
     groups: &mut Vec<GroupState<S>>,
@@ -178,8 +177,8 @@ pub fn open_groups<S: Store, C: Calls<S>>(
     ensures err { (entry : _) → AreWorkers S.state entry 0 workers.old.items → OnErr result (AreWorkers S.state entry 0 workers.new.items) }
 {
     for number in 0..shards {
-        if let Err(refused) = open_next::<S, C>(alloc, workers, groups, number, shape) {
-            undo_all::<S, C>(workers, groups);
+        if let Err(refused) = open_next(alloc, workers, groups, number, shape) {
+            undo_all(workers, groups);
             return Err(refused);
         }
     }
