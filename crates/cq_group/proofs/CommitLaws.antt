@@ -26,7 +26,7 @@ use Rattle.cq_group.specs.Calls.{Commits, GoesOn, Lifted, IsSameTable, GroupGoes
 use Rattle.cq_group.proofs.Zips.{zip_refl, zip_set, zip_weaker}
 use Rattle.cq_group.proofs.Turns.{keeps, keeps_go_on, commits_go_on}
 use Rattle.cq_group.proofs.JournalLaws.{replay_more}
-use Rattle.cq_group.proofs.PlaceLaws.{all_at, set_where}
+use Rattle.cq_group.proofs.PlaceLaws.{all_at, set_where, not_same}
 use Rattle.cq_group.proofs.GroupLaws.{outlines_same, stores_zip, table_unmoved, kept_more, group_goes_on}
 use Rattle.cq_group.proofs.WriteLaws.{kept_at, shape_found, replay_found, next_found, there}
 
@@ -44,13 +44,6 @@ count_low (Insert table rows) there shape = by_cases (repeats shape.key there ro
     by_cases : (b : Bool) → count_of (if b then Duplicate else Count (length rows)) ≤ length rows
     by_cases true = omega arith
     by_cases false = omega arith
-
-not_same : (m n : ℕ) → nat_eq m n ≡ false → nat_eq n m ≡ false
-not_same m n other = by_cases (eqb_tells n m)
-  where
-    by_cases : ((nat_eq n m ≡ true) × (n ≡ m)) ⊎ ((nat_eq n m ≡ false) × (n ≢ m)) → nat_eq n m ≡ false
-    by_cases (inl same) = absurd (false≢true (sym other ∙ eq-eqb m n (sym same.1)))
-    by_cases (inr apart) = apart.0
 
 module _ {X : Type 0} (state : X → StoreState) (op : ShardOp) (reply : Reply) (who : Who) where
 

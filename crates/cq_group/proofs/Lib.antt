@@ -9,3 +9,4 @@ pub mod PlaceLaws
 pub mod ReadLaws
 pub mod WriteLaws
 pub mod CommitLaws
+pub mod AddLaws

@@ -2,6 +2,7 @@
 use Rattle.std.proofs.Common.{◌≡◌, ◌≢◌, ◌∙◌, ◌⊎◌, ◌+◌, ℕ, zero, suc, ◌<◌, Bool, true, false, cond, nat_eq, List, [], ◌∷◌, length, get_or, map, Some, None, Option, inl, inr, refl, sym, ap, subst, eq-eqb, arith}
 use Rattle.std.proofs.Math.ListN.{set}
 use Rattle.std.specs.List.{AllZip, AllByRecursion, HoldsAt, flat_map}
+use Rattle.std.proofs.lemmas.Bool.{false≢true}
 use Rattle.std.proofs.lemmas.Bool.Decides.{eqb_tells}
 use Rattle.cq_value.specs.declared.value.Value.{Value}
 use Rattle.cq_value.specs.declared.schema.Shape.{Shape}
@@ -26,6 +27,13 @@ pub all_get : {X : Type 0} (P : X → Type 0) (xs : List X) (n : ℕ) (d : X) �
 all_get P [] n d h low = absurd (omega arith)
 all_get P (y ∷ ys) zero d h low = h.0
 all_get P (y ∷ ys) (suc n) d h low = all_get P ys n d h.1 (omega arith)
+
+pub not_same : (m n : ℕ) → nat_eq m n ≡ false → nat_eq n m ≡ false
+not_same m n other = by_cases (eqb_tells n m)
+  where
+    by_cases : ((nat_eq n m ≡ true) × (n ≡ m)) ⊎ ((nat_eq n m ≡ false) × (n ≢ m)) → nat_eq n m ≡ false
+    by_cases (inl same) = absurd (false≢true (sym other ∙ eq-eqb m n (sym same.1)))
+    by_cases (inr apart) = apart.0
 
 -- a table that isn't the one of this number
 other_table : {X : Type 0} (u : GroupTable X) (us : List (GroupTable X)) (number : ℕ) (shape : Shape) → shape_at (map outline us) u.table ≡ None → shape_at (map outline us) number ≡ Some shape →

@@ -1,8 +1,10 @@
 //! One shard group: its journal, and the stores of its shards, which hold what the journal's entries leave.
 #![tactic(auto)]
 
+mod close;
 mod gate;
 mod group;
+mod open;
 mod place;
 mod read;
 mod stores;
@@ -11,3 +13,4 @@ mod write;
 
 pub use gate::{Gate, IdleGate, Point};
 pub use group::{Capture, Closed, GroupError, GroupState, GroupTable, Staged, Tables};
+pub use open::AddRefused;
