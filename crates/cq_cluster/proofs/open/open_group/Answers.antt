@@ -25,5 +25,5 @@ returns-in-Ok-add_table-clause-group g c =
     let stores = set c.args.stores.items 0 c.adopt.new.self in
     let adopted = only_adopted state node shard c.args.stores.items c.index_mut.result.now c.adopt.new.self c.requires.one c.requires.waits c.index_mut.ensures.value c.adopt.ensures in
     let one : length stores ≡ 1 = length-set c.args.stores.items 0 c.adopt.new.self ∙ c.requires.one in
-    group_opened state c.args.shape.now c.args.number c.in-Ok.group c.add_table.new.group stores before.number before.opening before.node before.tables before.quiet one adopted
+    group_opened state c.args.shape.now c.args.number c.in-Ok.group c.add_table.new.self stores before.number before.opening before.node before.tables before.quiet one adopted
     after.kept after.quiet after.journal after.node after.outlines after.stores
