@@ -1,0 +1,17 @@
+use Rattle.std.proofs.Common.{◌≡◌, ◌≤◌, length, map}
+use Rattle.std.specs.Vec.Iter.{into_iter_items, into_iter_len}
+use Rattle.cq_tree.specs.declared.journal.Journal.{Journal}
+use Rattle.cq_cluster.specs.Ending.{AreJournals}
+use Rattle.cq_cluster.proofs.ClosingLaws.{Closes}
+use Rattle.cq_cluster.proofs.close.close_groups.Given as goal
+
+abbrev pub invariant-loop-group : goal.invariant-loop-group
+invariant-loop-group g l =
+    let all = into_iter_items l.initial.group-iterator in
+    let rest = into_iter_items l.group-iterator in
+    record {
+      left : into_iter_len l.group-iterator ≡ length rest;
+      room : length rest ≤ l.journals.room;
+      numbered : AreJournals l.journals.list;
+      closes : Closes g.S.Store.state all l.initial.workers.items (map (λ (j : Journal). j.entries.list) l.journals.list) rest l.workers.items;
+    }
