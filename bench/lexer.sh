@@ -12,7 +12,8 @@ grep -E '^cq_(value|token)( |:)' "$top/crates.txt" >"$work/crates.txt"
 echo 'lexer_speed: cq_token' >>"$work/crates.txt"
 mkdir -p "$work/crates/lexer_speed/src"
 cat >"$work/crates/lexer_speed/src/main.rt" <<'PROGRAM'
-//! Lexes 16 MB of statements, one after another as a script's are, five times, and prints the best speed.
+//! Lexes 16 MB of statements, one after another as a script's are, five times, and prints the best speed. Letting the
+//! tokens go is counted too.
 #![tactic(auto)]
 
 use cq_token::{LexError, tokens};
