@@ -4,7 +4,8 @@ ghost use Rattle.std.specs.Prelude.{◌≡◌, ◌<◌, ◌≤◌, [], true, if�
 ghost use Rattle.cq_value.specs.Tables.{empty_table};
 ghost use Rattle.cq_meaning.specs.Effects.{table_of};
 ghost use Rattle.cq_group.specs.Groups.{IsKept, IsQuiet, IsSameGroup, HasTable};
-ghost use Rattle.cq_group.specs.Opening.{AreFresh};
+ghost use Rattle.cq_store.specs.Faults.{held};
+ghost use Rattle.cq_group.specs.Opening.{IsFresh, AreFresh};
 
 use crate::group::{GroupError, GroupState, Staged};
 use cq_store::{FaultStore, MemStore, Store};
@@ -186,7 +187,7 @@ fn reference(rt: HostRuntime) -> Result<(), Fail> {
 
 /// A store of the table's shard of which the listed calls fail.
 fn failing(alloc: Global, node: u32, fails: Vec<u64>) -> FaultStore
-    ensures { result ≡ record { node = node; shard = 102008; rows = empty_table; staged = []; faults = 0; fails = fails.items; calls = 0 } }
+    ensures { IsFresh node 102008 (held result) }
 {
     let mut store = FaultStore::new(alloc, node, fails);
     store.adopt(102008);
@@ -201,7 +202,15 @@ fn second_copy_fails_once(rt: HostRuntime) -> Result<(), Fail> {
     stores.push(failing(alloc, 2, [1].to_vec(alloc)?))?;
     let story = play(alloc, None, 2, 1, stores).expect(&rt, "memory");
     let [first, second, third] = story.writes;
-    assert_eq!(rt; first, Err(GroupError::Worker { node: 2, shard: 102008, before: 0, after: 1 }));
+    assert_eq!(rt;
+        first,
+        Err(GroupError::Worker {
+            node: 2,
+            shard: 102008,
+            before: 0,
+            after: 1
+        })
+    );
     assert_eq!(rt; second, Ok(Staged::Ready(Reply::Count(1))));
     assert_eq!(rt; third, Ok(Staged::Refused(Reply::Duplicate)));
     assert_eq!(rt; story.place, 2);

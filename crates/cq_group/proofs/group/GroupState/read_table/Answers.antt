@@ -61,6 +61,6 @@ returns-clause-here g c =
     let is : t ≡ get_or ts place t = search rules in
     let kept = all_at (IsTableKept state group.node (copies_of group) (entries_of group)) ts place t c.requires.kept.tables c.place_of-place.ensures.within is in
     IfErr-weaker c.read.result (λ e. HoldsAt (λ x. IsOn (state x).node e) t.stores.items c.args.copy) _
-        (λ e h. subst (λ n. IsOn (node_at group.node n) e) (zero-add c.args.copy)
-            (replica_node state 0 group.node (entries_of group) t.table t.shape t.shard t.stores.items c.args.copy e kept.replicas (subst (λ n. c.args.copy < n) (sym kept.complete) c.requires.copy) h))
-        c.read.ensures.here
+    (λ e h. subst (λ n. IsOn (node_at group.node n) e) (zero-add c.args.copy)
+    (replica_node state 0 group.node (entries_of group) t.table t.shape t.shard t.stores.items c.args.copy e kept.replicas (subst (λ n. c.args.copy < n) (sym kept.complete) c.requires.copy) h))
+    c.read.ensures.here

@@ -31,4 +31,4 @@ returns-clause-here g c =
     let x = c.index_mut.result.now in
     let y = c.scan_store.new.store in
     IfErr-weaker c.scan_store.result (λ e. Blames state e (x ∷ []) (y ∷ [])) _
-        (λ e h. at_read c.args.self.now.stores.items (λ z. IsOn (state z).node e) c.args.place x c.requires (search rules) (on_node state e x y h)) c.scan_store.ensures.blame
+    (λ e h. at_read c.args.self.now.stores.items (λ z. IsOn (state z).node e) c.args.place x c.requires (search rules) (on_node state e x y h)) c.scan_store.ensures.blame
