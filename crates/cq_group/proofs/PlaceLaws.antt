@@ -1,5 +1,5 @@
 -- One table of a group, by its place.
-use Rattle.std.proofs.Common.{◌≡◌, ◌≢◌, ◌∙◌, ◌⊎◌, ◌+◌, ℕ, zero, suc, ◌<◌, true, false, nat_eq, List, [], ◌∷◌, length, get_or, map, Some, None, inl, inr, refl, sym, ap, subst, eq-eqb, arith}
+use Rattle.std.proofs.Common.{◌≡◌, ◌≢◌, ◌∙◌, ◌⊎◌, ◌+◌, ℕ, zero, suc, ◌<◌, true, false, nat_eq, List, [], ◌∷◌, length, get_or, map, Some, None, inl, inr, refl, sym, ap, subst, eq-eqb, add-zero, arith}
 use Rattle.std.proofs.Math.ListN.{set}
 use Rattle.std.specs.List.{AllZip, AllByRecursion, HoldsAt, flat_map}
 use Rattle.std.proofs.lemmas.Bool.{false≢true}
@@ -13,8 +13,8 @@ use Rattle.cq_store.specs.Stores.{StoreState}
 use Rattle.cq_group.specs.declared.group.GroupError.{GroupError}
 use Rattle.cq_group.specs.declared.group.GroupError.TheVariants.{Worker, Memory}
 use Rattle.cq_group.specs.declared.group.GroupTable.{GroupTable}
-use Rattle.cq_group.specs.Groups.{outline, shape_at, AreDistinct, AreReplicasFrom}
-use Rattle.cq_group.specs.Calls.{GoesOn, Failed, Lifted, Blames, SomeZip, IsRestingTable}
+use Rattle.cq_group.specs.Groups.{outline, shape_at, AreDistinct, AreReplicasFrom, node_at}
+use Rattle.cq_group.specs.Calls.{GoesOn, Failed, Lifted, Blames, IsOn, SomeZip, IsRestingTable}
 use Rattle.cq_group.proofs.Zips.{zip_refl, zip_set, some_set, some_flat}
 use Rattle.cq_group.proofs.Turns.{keeps, keeps_go_on}
 
@@ -101,6 +101,20 @@ module _ {X : Type 0} (state : X → StoreState) where
 
   go_on : (x : X) → Lifted state GoesOn x x
   go_on x = keeps_go_on (state x) (state x) (keeps (state x))
+
+  -- an error of one store is on its node
+  pub on_node : (e : GroupError) (x y : X) → Blames state e (x ∷ []) (y ∷ []) → IsOn (state x).node e
+  on_node Memory x y h = tt
+  on_node (Worker node shard before after) x y (inl h) = sym h.of_node
+  on_node (Worker node shard before after) x y (inr h) = absurd h
+
+  pub replica_node : (first node : ℕ) (es : List Entry) (table : ℕ) (shape : Shape) (shard : ℕ) (xs : List X) (place : ℕ) (e : GroupError) →
+      AreReplicasFrom first node es table shape shard (map state xs) → place < length xs → HoldsAt (λ x. IsOn (state x).node e) xs place → IsOn (node_at node (first + place)) e
+  replica_node first node es table shape shard [] place e h low k = absurd (omega arith)
+  replica_node first node es table shape shard (x ∷ xs) zero e h low k = subst (λ n. IsOn n e) (h.0.of_node ∙ ap (λ p. node_at node p) (sym (add-zero first))) (k x)
+  replica_node first node es table shape shard (x ∷ xs) (suc place) e h low k =
+      let one : (first + 1) + place ≡ first + suc place = omega arith in
+      subst (λ p. IsOn (node_at node p) e) one (replica_node (first + 1) node es table shape shard xs place e h.1 (omega arith) k)
 
   -- an error of a table's store is one of the group's
   pub blames_group : (e : GroupError) (ts : List (GroupTable X)) (place : ℕ) (t u : GroupTable X) → place < length ts → t ≡ get_or ts place t →
