@@ -1,4 +1,4 @@
-use Rattle.std.proofs.Common.{ℕ, ◌≤◌, length, arith, sym, subst}
+use Rattle.std.proofs.Common.{ℕ, arith, sym, subst}
 use Rattle.cq_cluster.specs.Moving.{HaveRoom}
 use Rattle.cq_cluster.proofs.OpeningLaws.{workers_self, room_for_groups}
 use Rattle.cq_cluster.proofs.tests.open_and_close.Goals as goal
