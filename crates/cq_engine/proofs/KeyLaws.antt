@@ -1,4 +1,4 @@
--- A row's key is taken where some row, of the table or before it, has the same, if the table has a primary key.
+-- Under a primary key, a row's is taken where a row of the table, or a row before it, has the same.
 use Rattle.std.proofs.Common.{◌≡◌, ℕ, ◌≤◌, List, [], ◌∷◌, ◌++◌, map, length, refl, ap, ◌∙◌, arith, Bool, ◌||◌}
 use Rattle.std.specs.List.{list_any}
 use Rattle.std.proofs.lemmas.List.Folds.{list_any-append}

@@ -19,6 +19,8 @@ adds n rows = map (λ p. Add p.0 p.1) (numbered n rows)
 abbrev pub inserted : ℕ → List Row → Effect
 inserted n rows = record { reply = Count (length rows); changes = adds n rows; next = n + length rows }
 
+-- the write's reply, changes that fit the table and make of it what the write does, and the next id after them.
+-- A refused write has no changes
 pub record IsEffect (op : ShardOp) (table : Table) (shape : Shape) (made : Effect) : Type 0 where
   pub replied : made.reply ≡ reply_of op (rows_of table) shape
   pub fitting : Fit table made.changes

@@ -3,6 +3,8 @@
 
 mod query;
 mod row;
+#[cfg(test)]
+mod tests;
 mod write;
 
 pub use query::run_query;

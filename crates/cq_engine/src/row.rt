@@ -11,7 +11,7 @@ fn is_same(a: &Value, b: &Value) -> bool
 }
 
 /// Whether `a = b` is true, which it never is of NULL.
-pub fn equals(a: &Value, b: &Value) -> bool
+fn equals(a: &Value, b: &Value) -> bool
     ensures { result ≡ is_equal a.now b.now }
 {
     match a {

@@ -39,14 +39,14 @@ fn is_stored(key: &[u32], pairs: &[(u64, Row)], row: &Row) -> bool
 }
 
 /// Whether a row has the primary key of a row of the table, or of an inserted row before it.
-#[tactic(auto, using(crate::proofs::KeyLaws::taken_is))]
 fn is_taken(key: &[u32], pairs: &[(u64, Row)], before: &[Row], row: &Row) -> bool
     ensures { result ≡ takes key.now (map (λ p. p.1) pairs.now ++ before.now) row.now }
 {
     !key.is_empty() && (is_stored(key, pairs, row) || is_among(key, before, row))
 }
 
-/// Whether one of the rows has a primary key that is taken. Each row is compared with each row of the table.
+/// Whether one of the rows has a primary key that is taken. Each row is compared with every row of the table and with every
+/// row before it.
 fn repeats(key: &[u32], table: &Numbered, rows: &[Row]) -> bool
     ensures { result ≡ has_repeats key.now (rows_of table.now) rows.now }
 {

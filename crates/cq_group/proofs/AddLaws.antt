@@ -9,14 +9,13 @@ use Rattle.cq_value.specs.Tables.{Table, empty_table}
 use Rattle.cq_tree.specs.declared.journal.Entry.{Entry}
 use Rattle.cq_tree.specs.declared.journal.EntryKind.{EntryKind}
 use Rattle.cq_tree.specs.declared.journal.EntryKind.TheVariants.{Read, Write}
-use Rattle.cq_tree.specs.declared.journal.ShardOp.{ShardOp}
 use Rattle.cq_meaning.specs.Effects.{effect, table_of}
 use Rattle.cq_history.specs.Journals.{entered, replay_from, replay, IsReplied, EachReplied}
 use Rattle.cq_store.specs.Stores.{StoreState}
 use Rattle.cq_group.specs.declared.group.GroupTable.{GroupTable}
 use Rattle.cq_group.specs.declared.group.GroupState.{GroupState}
-use Rattle.cq_group.specs.Groups.{entries_of, stores_of, Outline, outline, outlines, shape_at, or_no_shape, shapes, copies_of, IsNamed, AreReplicasFrom, IsTableKept, IsKept, AreDistinct, IsTableQuiet, IsQuiet}
-use Rattle.cq_group.specs.Opening.{IsFresh, AreFreshFrom, AreFresh, first_shard}
+use Rattle.cq_group.specs.Groups.{entries_of, stores_of, Outline, outline, outlines, shape_at, or_no_shape, copies_of, IsNamed, AreReplicasFrom, IsTableKept, IsKept, AreDistinct, IsTableQuiet, IsQuiet}
+use Rattle.cq_group.specs.Opening.{AreFreshFrom, AreFresh, first_shard}
 use Rattle.cq_group.proofs.PlaceLaws.{not_same}
 use Rattle.cq_group.proofs.GroupLaws.{copies_same, all_weaker}
 
@@ -85,7 +84,6 @@ all_push P [] y h p = (p, tt)
 all_push P (z ∷ zs) y h p = (h.0, all_push P zs y h.1 p)
 
 module _ {X : Type 0} (state : X → StoreState) where
-
   fresh_replicas : (place node : ℕ) (es : List Entry) (table : ℕ) (shape : Shape) (shard : ℕ) (ss : List StoreState) → replay table shape es ≡ empty_table → AreFreshFrom place node shard ss →
       AreReplicasFrom place node es table shape shard ss
   fresh_replicas place node es table shape shard [] e h = tt
@@ -109,13 +107,14 @@ module _ {X : Type 0} (state : X → StoreState) where
   fresh_kept g v k none fresh shard next =
       let e : replay v.table v.shape (entries_of g) ≡ empty_table = replay_unnamed (outlines g) v.table v.shape empty_table (entries_of g) none k.named in
       record {
-          numbered = next ∙ ap (λ (t : Table). t.next) (sym e);
-          ids = omega (arith, next);
-          some_shard = subst (λ n. 0 < n) (sym shard) fresh.adopted;
-          some_store = subst (λ n. 0 < n) fresh.complete (fresh_some v.stores.items fresh.adopted);
-          complete = fresh.complete;
-          replicas = subst (λ n. AreReplicasFrom 0 g.node (entries_of g) v.table v.shape n (map state v.stores.items)) (sym shard)
-              (fresh_replicas 0 g.node (entries_of g) v.table v.shape (first_shard state v.stores.items) (map state v.stores.items) e fresh.each) }
+        numbered = next ∙ ap (λ (t : Table). t.next) (sym e);
+        ids = omega (arith, next);
+        some_shard = subst (λ n. 0 < n) (sym shard) fresh.adopted;
+        some_store = subst (λ n. 0 < n) fresh.complete (fresh_some v.stores.items fresh.adopted);
+        complete = fresh.complete;
+        replicas = subst (λ n. AreReplicasFrom 0 g.node (entries_of g) v.table v.shape n (map state v.stores.items)) (sym shard)
+            (fresh_replicas 0 g.node (entries_of g) v.table v.shape (first_shard state v.stores.items) (map state v.stores.items) e fresh.each);
+      }
 
   -- a group with one more table keeps what it did
   pub added : (g h : GroupState X) (v : GroupTable X) → IsKept state g → shape_at (outlines g) v.table ≡ None → AreFresh state g.node (copies_of g) v.stores.items →
@@ -127,24 +126,25 @@ module _ {X : Type 0} (state : X → StoreState) where
       let items : GroupTable X → List X = λ t. t.stores.items in
       let stores : stores_of h ≡ stores_of g ++ (v.stores.items ++ []) = ap (λ ts. flat_map items ts) tables ∙ flat_map-append items g.tables.items (v ∷ []) in
       let long : length (stores_of h) ≡ length (stores_of g) + length v.stores.items =
-          ap length stores ∙ length-append (stores_of g) (v.stores.items ++ []) ∙ ap (λ xs. length (stores_of g) + length xs) (append-nil v.stores.items) in
+      ap length stores ∙ length-append (stores_of g) (v.stores.items ++ []) ∙ ap (λ xs. length (stores_of g) + length xs) (append-nil v.stores.items) in
       record {
-          replied = subst (λ rs. EachReplied (λ table. or_no_shape (shape_at rs table)) (entries_of h)) (sym os)
-              (subst (λ es. EachReplied (λ table. or_no_shape (shape_at more table)) es) (sym entries)
-                  (λ place e is. replied_beside (outlines g) (outline v) (take place (entries_of g)) e.kind
-                      (all_got (λ (x : Entry). IsNamed (outlines g) x.kind) (entries_of g) place e k.named is) (k.replied place e is)));
-          named = subst (λ rs. AllByRecursion (λ (x : Entry). IsNamed rs x.kind) (entries_of h)) (sym os)
-              (subst (λ es. AllByRecursion (λ (x : Entry). IsNamed more x.kind) es) (sym entries)
-                  (all_weaker state (λ (x : Entry). IsNamed (outlines g) x.kind) (λ (x : Entry). IsNamed more x.kind) (λ x named. named_more (outlines g) (outline v) x.kind named) (entries_of g) k.named));
-          tables =
-              subst (λ n. AllByRecursion (IsTableKept state n (copies_of h) (entries_of h)) h.tables.items) (sym node)
-                  (subst (λ c. AllByRecursion (IsTableKept state g.node c (entries_of h)) h.tables.items) (sym (copies_same state g h node nodes))
-                      (subst (λ es. AllByRecursion (IsTableKept state g.node (copies_of g) es) h.tables.items) (sym entries)
-                          (subst (λ ts. AllByRecursion (IsTableKept state g.node (copies_of g) (entries_of g)) ts) (sym tables)
-                              (all_push (IsTableKept state g.node (copies_of g) (entries_of g)) g.tables.items v k.tables (fresh_kept g v k none fresh shard next)))));
-          distinct = subst AreDistinct (sym os) (distinct_more (outlines g) (outline v) k.distinct none);
-          room = subst (λ n. n ≤ vec_capacity h.room) (sym long) room;
-          unused = unused }
+        replied = subst (λ rs. EachReplied (λ table. or_no_shape (shape_at rs table)) (entries_of h)) (sym os)
+            (subst (λ es. EachReplied (λ table. or_no_shape (shape_at more table)) es) (sym entries)
+            (λ place e is. replied_beside (outlines g) (outline v) (take place (entries_of g)) e.kind
+            (all_got (λ (x : Entry). IsNamed (outlines g) x.kind) (entries_of g) place e k.named is) (k.replied place e is)));
+        named = subst (λ rs. AllByRecursion (λ (x : Entry). IsNamed rs x.kind) (entries_of h)) (sym os)
+            (subst (λ es. AllByRecursion (λ (x : Entry). IsNamed more x.kind) es) (sym entries)
+            (all_weaker state (λ (x : Entry). IsNamed (outlines g) x.kind) (λ (x : Entry). IsNamed more x.kind) (λ x named. named_more (outlines g) (outline v) x.kind named) (entries_of g) k.named));
+        tables =
+            subst (λ n. AllByRecursion (IsTableKept state n (copies_of h) (entries_of h)) h.tables.items) (sym node)
+            (subst (λ c. AllByRecursion (IsTableKept state g.node c (entries_of h)) h.tables.items) (sym (copies_same state g h node nodes))
+            (subst (λ es. AllByRecursion (IsTableKept state g.node (copies_of g) es) h.tables.items) (sym entries)
+            (subst (λ ts. AllByRecursion (IsTableKept state g.node (copies_of g) (entries_of g)) ts) (sym tables)
+            (all_push (IsTableKept state g.node (copies_of g) (entries_of g)) g.tables.items v k.tables (fresh_kept g v k none fresh shard next)))));
+        distinct = subst AreDistinct (sym os) (distinct_more (outlines g) (outline v) k.distinct none);
+        room = subst (λ n. n ≤ vec_capacity h.room) (sym long) room;
+        unused = unused;
+      }
 
   pub quiet_added : (g : GroupState X) (us : List (GroupTable X)) (v : GroupTable X) → AreFresh state g.node (copies_of g) v.stores.items → us ≡ g.tables.items ++ v ∷ [] → IsQuiet state g →
       AllByRecursion (IsTableQuiet state) us

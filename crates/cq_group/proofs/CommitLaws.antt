@@ -1,14 +1,11 @@
 -- A group whose staged write is made.
-use Rattle.std.proofs.Common.{◌≡◌, ◌≢◌, ◌∙◌, ◌⊎◌, ◌+◌, ℕ, ◌<◌, ◌≤◌, Bool, true, false, if◌then◌else◌, nat_eq, List, [], ◌∷◌, ◌++◌, length, get_or, map, inl, inr, refl, sym, ap, subst, eq-eqb, add-zero, arith}
+use Rattle.std.proofs.Common.{◌≡◌, ◌∙◌, ◌+◌, ℕ, ◌<◌, ◌≤◌, Bool, true, false, if◌then◌else◌, nat_eq, List, [], ◌∷◌, ◌++◌, length, get_or, map, refl, sym, ap, subst, eq-eqb, add-zero, arith}
 use Rattle.std.proofs.Math.ListN.{set}
-use Rattle.std.specs.List.{AllByRecursion, AllZip, flat_map}
-use Rattle.std.proofs.lemmas.Bool.{false≢true}
-use Rattle.std.proofs.lemmas.Bool.Decides.{eqb_tells}
+use Rattle.std.specs.List.{AllByRecursion, AllZip}
 use Rattle.std.proofs.lemmas.List.Elements.{length_all_zip}
 use Rattle.cq_value.specs.declared.value.Value.{Value}
 use Rattle.cq_value.specs.declared.schema.Shape.{Shape}
 use Rattle.cq_value.specs.Tables.{Table, rows_of}
-use Rattle.cq_value.specs.Changes.{applied}
 use Rattle.cq_tree.specs.declared.journal.Who.{Who}
 use Rattle.cq_tree.specs.declared.journal.Entry.{Entry}
 use Rattle.cq_tree.specs.declared.journal.EntryKind.TheVariants.{Write}
@@ -21,8 +18,8 @@ use Rattle.cq_history.specs.Journals.{replay}
 use Rattle.cq_store.specs.Stores.{StoreState}
 use Rattle.cq_group.specs.declared.group.GroupTable.{GroupTable}
 use Rattle.cq_group.specs.declared.group.GroupState.{GroupState}
-use Rattle.cq_group.specs.Groups.{entries_of, stores_of, outlines, or_no_shape, shapes, copies_of, AreReplicasFrom, IsTableKept, IsKept, IsTableQuiet, IsStagedIn, IsTableStaged, IsReady}
-use Rattle.cq_group.specs.Calls.{Commits, GoesOn, Lifted, IsSameTable, GroupGoesOn, count_of, next_id}
+use Rattle.cq_group.specs.Groups.{entries_of, stores_of, or_no_shape, shapes, copies_of, AreReplicasFrom, IsTableKept, IsKept, IsTableQuiet, IsStagedIn, IsTableStaged, IsReady}
+use Rattle.cq_group.specs.Calls.{Commits, GoesOn, Lifted, IsSameTable, GroupGoesOn, count_of}
 use Rattle.cq_group.proofs.Zips.{zip_refl, zip_set, zip_weaker}
 use Rattle.cq_group.proofs.Turns.{keeps, keeps_go_on, commits_go_on}
 use Rattle.cq_group.proofs.JournalLaws.{replay_more}
@@ -46,7 +43,6 @@ count_low (Insert table rows) there shape = by_cases (repeats shape.key there ro
     by_cases false = omega arith
 
 module _ {X : Type 0} (state : X → StoreState) (op : ShardOp) (reply : Reply) (who : Who) where
-
   abbrev pub entry : Entry
   entry = record { who = who; kind = Write op reply }
 
@@ -62,12 +58,14 @@ module _ {X : Type 0} (state : X → StoreState) (op : ShardOp) (reply : Reply) 
   replicas_made place node es more table shape shard [] [] e h s k = tt
   replicas_made place node es more table shape shard [] (y ∷ ys) e h s k = absurd k
   replicas_made place node es more table shape shard (x ∷ xs) [] e h s k = absurd k
-  replicas_made place node es more table shape shard (x ∷ xs) (y ∷ ys) e h s k =
-      (record {
-          of_node = ap (λ (z : StoreState). z.node) k.0.state ∙ h.0.of_node;
-          of_shard = ap (λ (z : StoreState). z.shard) k.0.state ∙ h.0.of_shard;
-          holds = ap (λ (z : StoreState). z.rows) k.0.state ∙ s.0 ∙ ap (λ t. effect op t shape) h.0.holds ∙ sym e },
-       replicas_made (place + 1) node es more table shape shard xs ys e h.1 s.1 k.1)
+  replicas_made place node es more table shape shard (x ∷ xs) (y ∷ ys) e h s k = (
+    record {
+      of_node = ap (λ (z : StoreState). z.node) k.0.state ∙ h.0.of_node;
+      of_shard = ap (λ (z : StoreState). z.shard) k.0.state ∙ h.0.of_shard;
+      holds = ap (λ (z : StoreState). z.rows) k.0.state ∙ s.0 ∙ ap (λ t. effect op t shape) h.0.holds ∙ sym e;
+    },
+    replicas_made (place + 1) node es more table shape shard xs ys e h.1 s.1 k.1,
+  )
 
   table_made : (node copies : ℕ) (es : List Entry) (t u : GroupTable X) → IsTableKept state node copies es t → t.table ≡ table_of op →
       reply ≡ reply_of op (rows_of (replay t.table t.shape es)) t.shape → t.next + length (inserts op) ≤ 4294967296 → AllByRecursion (λ (x : X). IsStagedIn true op t.shape (state x)) t.stores.items →
@@ -75,20 +73,21 @@ module _ {X : Type 0} (state : X → StoreState) (op : ShardOp) (reply : Reply) 
   table_made node copies es t u h named replied ids staged same next =
       let more = es ++ entry ∷ [] in
       let made : (replay t.table t.shape more).next ≡ u.next =
-          ap (λ (v : Table). v.next) (replay_here es t named) ∙ sym (effect_next op (replay t.table t.shape es) t.shape)
-              ∙ (λ i. sym h.numbered i + count_of (sym replied i)) ∙ sym next in
+      ap (λ (v : Table). v.next) (replay_here es t named) ∙ sym (effect_next op (replay t.table t.shape es) t.shape)
+      ∙ (λ i. sym h.numbered i + count_of (sym replied i)) ∙ sym next in
       let low : count_of reply ≤ length (inserts op) = subst (λ r. count_of r ≤ length (inserts op)) (sym replied) (count_low op (rows_of (replay t.table t.shape es)) t.shape) in
       record {
-          numbered = sym (subst (λ a. (replay a u.shape more).next ≡ u.next) (sym same.table) (subst (λ b. (replay t.table b more).next ≡ u.next) (sym same.shape) made));
-          ids = omega (arith, next, low, ids);
-          some_shard = subst (λ n. 0 < n) (sym same.shard) h.some_shard;
-          some_store = h.some_store;
-          complete = sym (length_all_zip (Lifted state Commits) t.stores.items u.stores.items same.stores) ∙ h.complete;
-          replicas =
-              subst (λ a. AreReplicasFrom 0 node more a u.shape u.shard (map state u.stores.items)) (sym same.table)
-                  (subst (λ b. AreReplicasFrom 0 node more t.table b u.shard (map state u.stores.items)) (sym same.shape)
-                      (subst (λ c. AreReplicasFrom 0 node more t.table t.shape c (map state u.stores.items)) (sym same.shard)
-                          (replicas_made 0 node es more t.table t.shape t.shard t.stores.items u.stores.items (replay_here es t named) h.replicas staged same.stores))) }
+        numbered = sym (subst (λ a. (replay a u.shape more).next ≡ u.next) (sym same.table) (subst (λ b. (replay t.table b more).next ≡ u.next) (sym same.shape) made));
+        ids = omega (arith, next, low, ids);
+        some_shard = subst (λ n. 0 < n) (sym same.shard) h.some_shard;
+        some_store = h.some_store;
+        complete = sym (length_all_zip (Lifted state Commits) t.stores.items u.stores.items same.stores) ∙ h.complete;
+        replicas =
+            subst (λ a. AreReplicasFrom 0 node more a u.shape u.shard (map state u.stores.items)) (sym same.table)
+            (subst (λ b. AreReplicasFrom 0 node more t.table b u.shard (map state u.stores.items)) (sym same.shape)
+            (subst (λ c. AreReplicasFrom 0 node more t.table t.shape c (map state u.stores.items)) (sym same.shard)
+            (replicas_made 0 node es more t.table t.shape t.shard t.stores.items u.stores.items (replay_here es t named) h.replicas staged same.stores)));
+      }
 
   quiet_made : (t u : GroupTable X) → IsSameTable (Lifted state Commits) t u → IsTableQuiet state u
   quiet_made t u same = each t.stores.items u.stores.items same.stores
@@ -101,14 +100,13 @@ module _ {X : Type 0} (state : X → StoreState) (op : ShardOp) (reply : Reply) 
 
   module _ (g : GroupState X) (k : IsKept state g) (r : IsReady state g op reply) (place : ℕ) (t : GroupTable X) (within : place < length g.tables.items) (is : t ≡ get_or g.tables.items place t)
       (named : t.table ≡ table_of op) where
-
     pub ids_here : t.next + length (inserts op) ≤ 4294967296
     ids_here = subst (λ n. n + length (inserts op) ≤ 4294967296) (sym (next_found state g k place (table_of op) t within is named)) r.ids
 
     replied_here : reply ≡ reply_of op (rows_of (replay t.table t.shape (entries_of g))) t.shape
     replied_here =
         let moved : reply_of op (rows_of (replay (table_of op) (shapes g (table_of op)) (entries_of g))) (shapes g (table_of op)) ≡ reply_of op (rows_of (replay t.table t.shape (entries_of g))) t.shape =
-            λ i. reply_of op (rows_of (replay_found state g k place (table_of op) t within is named i)) (or_no_shape (shape_found state g k place (table_of op) t within is named i)) in
+        λ i. reply_of op (rows_of (replay_found state g k place (table_of op) t within is named i)) (or_no_shape (shape_found state g k place (table_of op) t within is named i)) in
         r.replied ∙ moved
 
     -- the next id stays within bounds
@@ -124,12 +122,11 @@ module _ {X : Type 0} (state : X → StoreState) (op : ShardOp) (reply : Reply) 
     pub made_quiet : (u : GroupTable X) → IsSameTable (Lifted state Commits) t u → AllByRecursion (IsTableQuiet state) (set g.tables.items place u)
     made_quiet u same =
         set_where (IsTableStaged state op) (IsTableQuiet state) (table_of op)
-            (λ v other staged. subst (λ b. AllByRecursion (λ (x : X). IsStagedIn b op v.shape (state x)) v.stores.items) other staged)
-            g.tables.items place t u k.distinct within is named r.staged (quiet_made t u same)
+        (λ v other staged. subst (λ b. AllByRecursion (λ (x : X). IsStagedIn b op v.shape (state x)) v.stores.items) other staged)
+        g.tables.items place t u k.distinct within is named r.staged (quiet_made t u same)
 
     module _ (h : GroupState X) (u : GroupTable X) (same : IsSameTable (Lifted state Commits) t u) (next : u.next ≡ t.next + count_of reply) (node : h.node ≡ g.node) (nodes : h.nodes ≡ g.nodes)
         (tables : h.tables.items ≡ set g.tables.items place u) where
-
       go_on : (x : X) → Lifted state GoesOn x x
       go_on x = keeps_go_on (state x) (state x) (keeps (state x))
 
@@ -139,8 +136,12 @@ module _ {X : Type 0} (state : X → StoreState) (op : ShardOp) (reply : Reply) 
       went_on : AllZip (IsSameTable (Lifted state GoesOn)) g.tables.items h.tables.items
       went_on = subst (λ us. AllZip (IsSameTable (Lifted state GoesOn)) g.tables.items us) (sym tables)
           (zip_set (IsSameTable (Lifted state GoesOn)) table_goes_on g.tables.items place t u within is
-              (record { table = same.table; shape = same.shape; shard = same.shard;
-                  stores = zip_weaker (Lifted state Commits) (Lifted state GoesOn) (λ x y. commits_go_on (state x) (state y)) t.stores.items u.stores.items same.stores }))
+          (record {
+            table = same.table;
+            shape = same.shape;
+            shard = same.shard;
+            stores = zip_weaker (Lifted state Commits) (Lifted state GoesOn) (λ x y. commits_go_on (state x) (state y)) t.stores.items u.stores.items same.stores;
+          }))
 
       pub made_goes_on : h.journal.group ≡ g.journal.group → h.journal.opening ≡ g.journal.opening → GroupGoesOn state g h
       made_goes_on number opening = group_goes_on state g h node nodes went_on number opening
@@ -148,10 +149,10 @@ module _ {X : Type 0} (state : X → StoreState) (op : ShardOp) (reply : Reply) 
       pub made_kept : h.room ≡ g.room → entries_of h ≡ entries_of g ++ entry ∷ [] → IsKept state h
       made_kept room entries =
           kept_more state g h entry k node nodes room (outlines_same (Lifted state GoesOn) g.tables.items h.tables.items went_on)
-              (sym (length_all_zip (Lifted state GoesOn) (stores_of g) (stores_of h) (stores_zip (Lifted state GoesOn) g.tables.items h.tables.items went_on)))
-              entries r.replied r.there
-              (subst (λ us. AllByRecursion (IsTableKept state g.node (copies_of g) (entries_of g ++ entry ∷ [])) us) (sym tables)
-                  (set_where (IsTableKept state g.node (copies_of g) (entries_of g)) (IsTableKept state g.node (copies_of g) (entries_of g ++ entry ∷ [])) (table_of op)
-                      (λ v other kept. table_unmoved state g.node (copies_of g) (entries_of g) (entries_of g ++ entry ∷ []) v (replay_there (entries_of g) v other) kept)
-                      g.tables.items place t u k.distinct within is named k.tables
-                      (table_made g.node (copies_of g) (entries_of g) t u (kept_at state g k place (table_of op) t within is named) named replied_here ids_here staged_here same next)))
+          (sym (length_all_zip (Lifted state GoesOn) (stores_of g) (stores_of h) (stores_zip (Lifted state GoesOn) g.tables.items h.tables.items went_on)))
+          entries r.replied r.there
+          (subst (λ us. AllByRecursion (IsTableKept state g.node (copies_of g) (entries_of g ++ entry ∷ [])) us) (sym tables)
+          (set_where (IsTableKept state g.node (copies_of g) (entries_of g)) (IsTableKept state g.node (copies_of g) (entries_of g ++ entry ∷ [])) (table_of op)
+          (λ v other kept. table_unmoved state g.node (copies_of g) (entries_of g) (entries_of g ++ entry ∷ []) v (replay_there (entries_of g) v other) kept)
+          g.tables.items place t u k.distinct within is named k.tables
+          (table_made g.node (copies_of g) (entries_of g) t u (kept_at state g k place (table_of op) t within is named) named replied_here ids_here staged_here same next)))

@@ -1,20 +1,20 @@
 -- One table of a group, by its place.
-use Rattle.std.proofs.Common.{◌≡◌, ◌≢◌, ◌∙◌, ◌⊎◌, ◌+◌, ℕ, zero, suc, ◌<◌, Bool, true, false, cond, nat_eq, List, [], ◌∷◌, length, get_or, map, Some, None, Option, inl, inr, refl, sym, ap, subst, eq-eqb, arith}
+use Rattle.std.proofs.Common.{◌≡◌, ◌≢◌, ◌∙◌, ◌⊎◌, ◌+◌, ℕ, zero, suc, ◌<◌, true, false, nat_eq, List, [], ◌∷◌, length, get_or, map, Some, None, inl, inr, refl, sym, ap, subst, eq-eqb, add-zero, arith}
 use Rattle.std.proofs.Math.ListN.{set}
 use Rattle.std.specs.List.{AllZip, AllByRecursion, HoldsAt, flat_map}
 use Rattle.std.proofs.lemmas.Bool.{false≢true}
 use Rattle.std.proofs.lemmas.Bool.Decides.{eqb_tells}
 use Rattle.cq_value.specs.declared.value.Value.{Value}
 use Rattle.cq_value.specs.declared.schema.Shape.{Shape}
-use Rattle.cq_value.specs.Tables.{Table, rows_of}
+use Rattle.cq_value.specs.Tables.{rows_of}
 use Rattle.cq_tree.specs.declared.journal.Entry.{Entry}
 use Rattle.cq_history.specs.Journals.{replay}
 use Rattle.cq_store.specs.Stores.{StoreState}
 use Rattle.cq_group.specs.declared.group.GroupError.{GroupError}
 use Rattle.cq_group.specs.declared.group.GroupError.TheVariants.{Worker, Memory}
 use Rattle.cq_group.specs.declared.group.GroupTable.{GroupTable}
-use Rattle.cq_group.specs.Groups.{outline, shape_at, AreDistinct, AreReplicasFrom}
-use Rattle.cq_group.specs.Calls.{GoesOn, Failed, Lifted, Blames, SomeZip, IsSameTable, IsRestingTable}
+use Rattle.cq_group.specs.Groups.{outline, shape_at, AreDistinct, AreReplicasFrom, node_at}
+use Rattle.cq_group.specs.Calls.{GoesOn, Failed, Lifted, Blames, IsOn, SomeZip, IsRestingTable}
 use Rattle.cq_group.proofs.Zips.{zip_refl, zip_set, some_set, some_flat}
 use Rattle.cq_group.proofs.Turns.{keeps, keeps_go_on}
 
@@ -92,7 +92,6 @@ pub table_refl : {X : Type 0} (R : X → X → Type 0) → ((x : X) → R x x) �
 table_refl R r t = record { same = record { table = refl; shape = refl; shard = refl; stores = zip_refl R r t.stores.items }; next = refl }
 
 module _ {X : Type 0} (state : X → StoreState) where
-
   -- the rows of a store of the table
   pub replica_rows : (first node : ℕ) (es : List Entry) (table : ℕ) (shape : Shape) (shard : ℕ) (xs : List X) (place : ℕ) (rows : List (List Value)) →
       AreReplicasFrom first node es table shape shard (map state xs) → place < length xs → HoldsAt (λ x. rows ≡ rows_of (state x).rows) xs place → rows ≡ rows_of (replay table shape es)
@@ -102,6 +101,20 @@ module _ {X : Type 0} (state : X → StoreState) where
 
   go_on : (x : X) → Lifted state GoesOn x x
   go_on x = keeps_go_on (state x) (state x) (keeps (state x))
+
+  -- an error of one store is on its node
+  pub on_node : (e : GroupError) (x y : X) → Blames state e (x ∷ []) (y ∷ []) → IsOn (state x).node e
+  on_node Memory x y h = tt
+  on_node (Worker node shard before after) x y (inl h) = sym h.of_node
+  on_node (Worker node shard before after) x y (inr h) = absurd h
+
+  pub replica_node : (first node : ℕ) (es : List Entry) (table : ℕ) (shape : Shape) (shard : ℕ) (xs : List X) (place : ℕ) (e : GroupError) →
+      AreReplicasFrom first node es table shape shard (map state xs) → place < length xs → HoldsAt (λ x. IsOn (state x).node e) xs place → IsOn (node_at node (first + place)) e
+  replica_node first node es table shape shard [] place e h low k = absurd (omega arith)
+  replica_node first node es table shape shard (x ∷ xs) zero e h low k = subst (λ n. IsOn n e) (h.0.of_node ∙ ap (λ p. node_at node p) (sym (add-zero first))) (k x)
+  replica_node first node es table shape shard (x ∷ xs) (suc place) e h low k =
+      let one : (first + 1) + place ≡ first + suc place = omega arith in
+      subst (λ p. IsOn (node_at node p) e) one (replica_node (first + 1) node es table shape shard xs place e h.1 (omega arith) k)
 
   -- an error of a table's store is one of the group's
   pub blames_group : (e : GroupError) (ts : List (GroupTable X)) (place : ℕ) (t u : GroupTable X) → place < length ts → t ≡ get_or ts place t →
@@ -113,5 +126,5 @@ module _ {X : Type 0} (state : X → StoreState) where
       let G : X → X → Type 0 = Lifted state GoesOn in
       let items : GroupTable X → List X = λ v. v.stores.items in
       some_flat G F items ts (set ts place u)
-          (zip_set (λ a b. AllZip G (items a) (items b)) (λ a. zip_refl G go_on (items a)) ts place t u low is h)
-          (some_set (λ a b. SomeZip F (items a) (items b)) ts place t u low is k)
+      (zip_set (λ a b. AllZip G (items a) (items b)) (λ a. zip_refl G go_on (items a)) ts place t u low is h)
+      (some_set (λ a b. SomeZip F (items a) (items b)) ts place t u low is k)

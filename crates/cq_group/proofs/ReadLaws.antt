@@ -1,17 +1,16 @@
 -- Reads of a group's tables, one after another.
 use Rattle.std.proofs.Common.{◌≡◌, ◌∙◌, ℕ, ◌+◌, ◌<◌, IsSome, List, [], ◌∷◌, ◌++◌, map, take, get_or, length, ap, subst, sym, refl}
-use Rattle.std.specs.List.{AllZip}
 use Rattle.std.proofs.lemmas.List.{map_more}
 use Rattle.cq_store.specs.Stores.{StoreState}
 use Rattle.cq_group.specs.declared.group.GroupError.{GroupError}
 use Rattle.cq_group.specs.declared.group.GroupState.{GroupState}
-use Rattle.cq_group.specs.Groups.{entries_of, outlines, stores_of, copies_of, shape_at, HasTable, IsKept, IsQuiet}
+use Rattle.cq_group.specs.Groups.{stores_of, shape_at, HasTable, IsKept, IsQuiet}
 use Rattle.cq_group.specs.Calls.{Rests, KeepsRows, Lifted, Blames, IsSameBut, IsRestingTable, GroupGoesOn, captured}
 use Rattle.cq_group.proofs.Zips.{zip_refl}
 use Rattle.cq_group.proofs.Turns.{rests, rests_keep, rests_more, rests_go_on}
 use Rattle.cq_group.proofs.TableLaws.{blames_later, rested_go_on}
 use Rattle.cq_group.proofs.PlaceLaws.{table_refl}
-use Rattle.cq_group.proofs.GroupLaws.{group_trans, group_weaker, kept_along, outlines_along, captured_along, copies_same, stores_zip, resting_same, goes_on_but, same_with, quiet_along}
+use Rattle.cq_group.proofs.GroupLaws.{group_trans, group_weaker, kept_along, outlines_along, captured_along, stores_zip, resting_same, goes_on_but, same_with, quiet_along}
 
 -- one more table was read
 pub captures_more : {Y : Type 0} (f : ℕ → Y) (tables : List ℕ) (n : ℕ) (seen : List Y) (y : Y) → n < length tables → seen ≡ map f (take n tables) → y ≡ f (get_or tables n 0) →
@@ -20,10 +19,13 @@ captures_more f tables n seen y low s is =
     (λ i. s i ++ is i ∷ []) ∙ sym (map_more f tables n 0 low)
 
 module _ {X : Type 0} (state : X → StoreState) where
-
   pub rested_none : (g : GroupState X) → IsSameBut (Lifted state Rests) g g
-  rested_none g = record { node = refl; nodes = refl; room = refl;
-      tables = zip_refl (IsRestingTable (Lifted state Rests)) (λ t. table_refl (Lifted state Rests) (λ x. rests (state x)) t) g.tables.items }
+  rested_none g = record {
+    node = refl;
+    nodes = refl;
+    room = refl;
+    tables = zip_refl (IsRestingTable (Lifted state Rests)) (λ t. table_refl (Lifted state Rests) (λ x. rests (state x)) t) g.tables.items;
+  }
 
   pub rested_more : (f g h : GroupState X) → IsSameBut (Lifted state Rests) f g → IsSameBut (Lifted state Rests) g h → IsSameBut (Lifted state Rests) f h
   rested_more f g h a b = group_trans (Lifted state Rests) (Lifted state Rests) (Lifted state Rests) (λ x y z. rests_more (state x) (state y) (state z)) f g h a b

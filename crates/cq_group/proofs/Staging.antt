@@ -1,5 +1,5 @@
 -- Stores of which one failed to stage, and all then dropped what was staged.
-use Rattle.std.proofs.Common.{◌≡◌, ℕ, ◌<◌, List, [], ◌∷◌, length, get_or, inl, inr, arith}
+use Rattle.std.proofs.Common.{◌≡◌, ℕ, ◌<◌, List, [], ◌∷◌, length, get_or, inl, inr}
 use Rattle.std.proofs.Math.ListN.{set}
 use Rattle.std.specs.List.{AllZip, AllByRecursion}
 use Rattle.cq_value.specs.declared.change.Change.{Change}
@@ -9,12 +9,11 @@ use Rattle.cq_group.specs.declared.group.GroupError.TheVariants.{Worker, Memory}
 use Rattle.cq_group.specs.Calls.{Rests, Discards, Stages, KeepsRows, GoesOn, Failed, Lifted, Blames, Takes, IsThrough}
 use Rattle.cq_group.proofs.Zips.{zip_trans, zip_weaker, zip_set, some_set, some_before, some_after}
 use Rattle.cq_group.proofs.Through.{through_both}
-use Rattle.cq_group.proofs.Turns.{rests, keeps, rests_keep, stages_keep, keeps_more, keeps_go_on, discards_go_on, goes_on_more, dropped, failed_later, failed_before}
+use Rattle.cq_group.proofs.Turns.{keeps, rests_keep, stages_keep, keeps_more, keeps_go_on, discards_go_on, dropped, failed_later, failed_before}
 
 module _ {X : Type 0} (state : X → StoreState) (changes : List Change) (n : ℕ) (xs ys zs : List X) (y z : X)
     (done : IsThrough (Lifted state (Stages changes)) n xs ys) (low : n < length ys) (is : y ≡ get_or ys n y)
     (rested : Lifted state Rests y z) (drops : AllZip (Lifted state Discards) (set ys n z) zs) where
-
   kept : AllZip (Lifted state KeepsRows) xs (set ys n z)
   kept = zip_trans (Lifted state KeepsRows) (Lifted state KeepsRows) (Lifted state KeepsRows) (λ a b c. keeps_more (state a) (state b) (state c)) xs ys (set ys n z)
       (through_both (Lifted state (Stages changes)) (Lifted state KeepsRows) (λ a b. stages_keep changes (state a) (state b)) (λ a. keeps (state a)) n xs ys done)
@@ -37,8 +36,8 @@ module _ {X : Type 0} (state : X → StoreState) (changes : List Change) (n : �
       let F : X → X → Type 0 = Lifted state (Failed node shard before after) in
       let G : X → X → Type 0 = Lifted state GoesOn in
       some_after F G F (λ a b c. failed_before node shard before after (state a) (state b) (state c)) xs (set ys n z) zs
-          (some_before G F F (λ a b c. failed_later node shard before after (state a) (state b) (state c)) xs ys (set ys n z)
-              (through_both (Lifted state (Stages changes)) G (λ a b k. keeps_go_on (state a) (state b) (stages_keep changes (state a) (state b) k)) (λ a. keeps_go_on (state a) (state a) (keeps (state a))) n xs ys done)
-              (some_set F ys n y z low is h))
-          (zip_weaker (Lifted state Discards) G (λ a b. discards_go_on (state a) (state b)) (set ys n z) zs drops)
+      (some_before G F F (λ a b c. failed_later node shard before after (state a) (state b) (state c)) xs ys (set ys n z)
+      (through_both (Lifted state (Stages changes)) G (λ a b k. keeps_go_on (state a) (state b) (stages_keep changes (state a) (state b) k)) (λ a. keeps_go_on (state a) (state a) (keeps (state a))) n xs ys done)
+      (some_set F ys n y z low is h))
+      (zip_weaker (Lifted state Discards) G (λ a b. discards_go_on (state a) (state b)) (set ys n z) zs drops)
   blamed (Worker node shard before after) (inr h) = absurd h

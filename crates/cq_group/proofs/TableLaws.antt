@@ -1,5 +1,5 @@
 -- The stores of one table, call after call.
-use Rattle.std.proofs.Common.{◌≡◌, ◌∙◌, ℕ, zero, suc, ◌<◌, List, [], ◌∷◌, length, get_or, inl, inr, refl, sym, ap, subst, true, arith}
+use Rattle.std.proofs.Common.{◌≡◌, ◌∙◌, ℕ, ◌<◌, List, [], ◌∷◌, length, get_or, inl, inr, sym, ap, subst, true, arith}
 use Rattle.std.proofs.Math.ListN.{set}
 use Rattle.std.specs.List.{AllZip, AllByRecursion, HoldsAt}
 use Rattle.cq_value.specs.declared.schema.Shape.{Shape}
@@ -13,24 +13,28 @@ use Rattle.cq_group.specs.declared.group.GroupError.{GroupError}
 use Rattle.cq_group.specs.declared.group.GroupError.TheVariants.{Worker, Memory}
 use Rattle.cq_group.specs.declared.group.GroupTable.{GroupTable}
 use Rattle.cq_group.specs.Groups.{IsStagedIn, IsTableQuiet}
-use Rattle.cq_group.specs.Calls.{Rests, Stages, KeepsRows, GoesOn, Failed, Lifted, Blames, Takes, IsSameTable, IsRestingTable, AreAlike, first_rows}
-use Rattle.cq_group.proofs.Zips.{zip_trans, zip_weaker, zip_set, zip_refl, all_along, some_set, some_before}
+use Rattle.cq_group.specs.Calls.{Rests, Stages, GoesOn, Failed, Lifted, Blames, Takes, IsRestingTable, AreAlike, first_rows}
+use Rattle.cq_group.proofs.Zips.{zip_trans, zip_weaker, zip_set, all_along, some_set, some_before}
 use Rattle.cq_group.proofs.Turns.{rests, rests_go_on, failed_later, stages_none}
 
 pub table_trans : {X : Type 0} (R S T : X → X → Type 0) → ((x y z : X) → R x y → S y z → T x z) → (t u v : GroupTable X) → IsRestingTable R t u → IsRestingTable S u v → IsRestingTable T t v
 table_trans R S T f t u v h k = record {
-    same = record {
-        table = k.same.table ∙ h.same.table; shape = k.same.shape ∙ h.same.shape; shard = k.same.shard ∙ h.same.shard;
-        stores = zip_trans R S T f t.stores.items u.stores.items v.stores.items h.same.stores k.same.stores };
-    next = k.next ∙ h.next }
+  same = record {
+    table = k.same.table ∙ h.same.table;
+    shape = k.same.shape ∙ h.same.shape;
+    shard = k.same.shard ∙ h.same.shard;
+    stores = zip_trans R S T f t.stores.items u.stores.items v.stores.items h.same.stores k.same.stores;
+  };
+  next = k.next ∙ h.next;
+}
 
 pub table_weaker : {X : Type 0} (R S : X → X → Type 0) → ((x y : X) → R x y → S x y) → (t u : GroupTable X) → IsRestingTable R t u → IsRestingTable S t u
 table_weaker R S f t u h = record {
-    same = record { table = h.same.table; shape = h.same.shape; shard = h.same.shard; stores = zip_weaker R S f t.stores.items u.stores.items h.same.stores };
-    next = h.next }
+  same = record { table = h.same.table; shape = h.same.shape; shard = h.same.shard; stores = zip_weaker R S f t.stores.items u.stores.items h.same.stores };
+  next = h.next;
+}
 
 module _ {X : Type 0} (state : X → StoreState) where
-
   -- one store was called
   pub called : (xs : List X) (n : ℕ) (x y : X) → n < length xs → x ≡ get_or xs n x → Lifted state Rests x y → AllZip (Lifted state Rests) xs (set xs n y)
   called xs n x y low is k = zip_set (Lifted state Rests) (λ a. rests (state a)) xs n x y low is k
@@ -44,7 +48,7 @@ module _ {X : Type 0} (state : X → StoreState) where
   blames_later Memory xs ys zs h k = tt
   blames_later (Worker node shard before after) xs ys zs h k =
       some_before (Lifted state GoesOn) (Lifted state (Failed node shard before after)) (Lifted state (Failed node shard before after))
-          (λ a b c. failed_later node shard before after (state a) (state b) (state c)) xs ys zs h k
+      (λ a b c. failed_later node shard before after (state a) (state b) (state c)) xs ys zs h k
 
   pub rested_go_on : (xs ys : List X) → AllZip (Lifted state Rests) xs ys → AllZip (Lifted state GoesOn) xs ys
   rested_go_on xs ys h = zip_weaker (Lifted state Rests) (Lifted state GoesOn) (λ a b. rests_go_on (state a) (state b)) xs ys h
@@ -59,12 +63,14 @@ module _ {X : Type 0} (state : X → StoreState) where
   takes_each changes t [] [] f s r q k = tt
   takes_each changes t [] (y ∷ ys) f s r q k = absurd k
   takes_each changes t (x ∷ xs) [] f s r q k = absurd k
-  takes_each changes t (x ∷ xs) (y ∷ ys) f s r q k =
-      (record {
-          shard = subst (λ n. 0 < n) (sym (ap (λ (z : StoreState). z.shard) k.0.state)) s.0;
-          nothing = ap (λ (z : StoreState). z.staged) k.0.state ∙ q.0;
-          fits = subst (λ u. Fit u changes) (sym (ap (λ (z : StoreState). z.rows) k.0.state ∙ r.0)) f },
-       takes_each changes t xs ys f s.1 r.1 q.1 k.1)
+  takes_each changes t (x ∷ xs) (y ∷ ys) f s r q k = (
+    record {
+      shard = subst (λ n. 0 < n) (sym (ap (λ (z : StoreState). z.shard) k.0.state)) s.0;
+      nothing = ap (λ (z : StoreState). z.staged) k.0.state ∙ q.0;
+      fits = subst (λ u. Fit u changes) (sym (ap (λ (z : StoreState). z.rows) k.0.state ∙ r.0)) f;
+    },
+    takes_each changes t xs ys f s.1 r.1 q.1 k.1,
+  )
 
   pub takes_all : (changes : List Change) (t u : GroupTable X) → AreAlike state t → Fit (first_rows state t.stores.items) changes → IsRestingTable (Lifted state Rests) t u →
       AllByRecursion (λ (x : X). Takes changes (state x)) u.stores.items
@@ -75,11 +81,12 @@ module _ {X : Type 0} (state : X → StoreState) where
   staged_each op shape changes t [] [] e r k = tt
   staged_each op shape changes t [] (y ∷ ys) e r k = absurd k
   staged_each op shape changes t (x ∷ xs) [] e r k = absurd k
-  staged_each op shape changes t (x ∷ xs) (y ∷ ys) e r k =
-      (let rows : (state y).rows ≡ t = ap (λ (z : StoreState). z.rows) k.0.state ∙ r.0 in
-       let staged : (state y).staged ≡ changes = ap (λ (z : StoreState). z.staged) k.0.state in
-       subst (λ u. applied u (state y).staged ≡ effect op u shape) (sym rows) (subst (λ c. applied t c ≡ effect op t shape) (sym staged) e),
-       staged_each op shape changes t xs ys e r.1 k.1)
+  staged_each op shape changes t (x ∷ xs) (y ∷ ys) e r k = (
+    let rows : (state y).rows ≡ t = ap (λ (z : StoreState). z.rows) k.0.state ∙ r.0 in
+        let staged : (state y).staged ≡ changes = ap (λ (z : StoreState). z.staged) k.0.state in
+        subst (λ u. applied u (state y).staged ≡ effect op u shape) (sym rows) (subst (λ c. applied t c ≡ effect op t shape) (sym staged) e),
+    staged_each op shape changes t xs ys e r.1 k.1,
+  )
 
   pub staged_all : (op : ShardOp) (changes : List Change) (t u : GroupTable X) → AreAlike state t → applied (first_rows state t.stores.items) changes ≡ effect op (first_rows state t.stores.items) t.shape →
       IsRestingTable (Lifted state (Stages changes)) t u → AllByRecursion (λ (x : X). IsStagedIn true op t.shape (state x)) u.stores.items

@@ -1,9 +1,8 @@
 -- How a store's state goes on, call after call.
-use Rattle.std.proofs.Common.{◌≡◌, ◌≤◌, ℕ, Bool, IsTrue, List, [], refl, sym, ap, ◌∙◌, subst, arith}
+use Rattle.std.proofs.Common.{◌≡◌, ◌≤◌, ℕ, IsTrue, List, [], refl, sym, ap, ◌∙◌, subst, arith}
 use Rattle.cq_value.specs.declared.change.Change.{Change}
 use Rattle.cq_value.specs.Tables.{Table}
-use Rattle.cq_value.specs.Changes.{applied}
-use Rattle.cq_store.specs.Stores.{StoreState, Becomes, Rose}
+use Rattle.cq_store.specs.Stores.{StoreState, Becomes}
 use Rattle.cq_group.specs.Calls.{Rests, Discards, Commits, Stages, KeepsRows, GoesOn, Failed}
 
 -- the state that is wanted, but for the rows, what is staged and the count, where those are the old one's
@@ -98,11 +97,20 @@ dropped s t u nothing h k = becomes s u s.rows s.staged
 -- a store that failed in one of several calls failed in all of them together
 pub failed_later : (node shard before after : ℕ) (s t u : StoreState) → GoesOn s t → Failed node shard before after t u → Failed node shard before after s u
 failed_later node shard before after s t u h k = record {
-    of_node = sym (ap (λ (x : StoreState). x.node) h.state) ∙ k.of_node;
-    of_shard = sym (ap (λ (x : StoreState). x.shard) h.state) ∙ k.of_shard;
-    unsteady = sym (ap (λ (x : StoreState). x.steady) h.state) ∙ k.unsteady;
-    from = omega (arith, h.counts, k.from); rose = k.rose; to = k.to }
+  of_node = sym (ap (λ (x : StoreState). x.node) h.state) ∙ k.of_node;
+  of_shard = sym (ap (λ (x : StoreState). x.shard) h.state) ∙ k.of_shard;
+  unsteady = sym (ap (λ (x : StoreState). x.steady) h.state) ∙ k.unsteady;
+  from = omega (arith, h.counts, k.from);
+  rose = k.rose;
+  to = k.to;
+}
 
 pub failed_before : (node shard before after : ℕ) (s t u : StoreState) → Failed node shard before after s t → GoesOn t u → Failed node shard before after s u
 failed_before node shard before after s t u h k = record {
-    of_node = h.of_node; of_shard = h.of_shard; unsteady = h.unsteady; from = h.from; rose = h.rose; to = omega (arith, h.to, k.counts) }
+  of_node = h.of_node;
+  of_shard = h.of_shard;
+  unsteady = h.unsteady;
+  from = h.from;
+  rose = h.rose;
+  to = omega (arith, h.to, k.counts);
+}

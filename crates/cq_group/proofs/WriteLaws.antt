@@ -15,16 +15,14 @@ use Rattle.cq_history.specs.Journals.{replay}
 use Rattle.cq_store.specs.Stores.{StoreState}
 use Rattle.cq_group.specs.declared.group.GroupTable.{GroupTable}
 use Rattle.cq_group.specs.declared.group.GroupState.{GroupState}
-use Rattle.cq_group.specs.Groups.{entries_of, stores_of, outline, outlines, shape_at, or_no_shape, shapes, copies_of, HasTable, AreReplicasFrom, IsTableKept, IsKept, IsTableQuiet, IsQuiet, IsStagedIn, IsTableStaged, IsReady}
-use Rattle.cq_group.specs.Calls.{Rests, KeepsRows, Discards, GoesOn, Lifted, IsSameTable, IsRestingTable, IsSameBut, AreAlike, first_rows, next_id, GroupGoesOn}
+use Rattle.cq_group.specs.Groups.{entries_of, stores_of, outlines, shape_at, or_no_shape, shapes, copies_of, HasTable, AreReplicasFrom, IsTableKept, IsKept, IsTableQuiet, IsQuiet, IsStagedIn, IsTableStaged, IsReady}
+use Rattle.cq_group.specs.Calls.{KeepsRows, Discards, GoesOn, Lifted, IsRestingTable, IsSameBut, AreAlike, first_rows, next_id, GroupGoesOn}
 use Rattle.cq_group.proofs.Zips.{zip_set, zip_refl, zip_trans}
 use Rattle.cq_group.proofs.Turns.{keeps, goes_on_more}
-use Rattle.cq_group.proofs.TableLaws.{blames_later}
 use Rattle.cq_group.proofs.PlaceLaws.{all_at, found_shape, set_where, table_refl}
 use Rattle.cq_group.proofs.GroupLaws.{outlines_along}
 
 module _ {X : Type 0} (state : X → StoreState) where
-
   -- every store is quiet after its staged changes are dropped
   pub quiet_dropped : (ts us : List (GroupTable X)) → AllZip (IsRestingTable (Lifted state Discards)) ts us → AllByRecursion (IsTableQuiet state) us
   quiet_dropped [] [] h = tt
@@ -61,21 +59,25 @@ module _ {X : Type 0} (state : X → StoreState) where
   alike node copies es t h q =
       let first = first_is node copies es t h in
       record {
-          some_store = omega (arith, h.some_store, h.complete);
-          numbered = h.numbered ∙ ap (λ (u : Table). u.next) (sym first);
-          shards = replica_shards 0 node es t.table t.shape t.shard t.stores.items h.some_shard h.replicas;
-          rows = replica_tables 0 node es t.table t.shape t.shard (first_rows state t.stores.items) t.stores.items first h.replicas;
-          nothing = q }
+        some_store = omega (arith, h.some_store, h.complete);
+        numbered = h.numbered ∙ ap (λ (u : Table). u.next) (sym first);
+        shards = replica_shards 0 node es t.table t.shape t.shard t.stores.items h.some_shard h.replicas;
+        rows = replica_tables 0 node es t.table t.shape t.shard (first_rows state t.stores.items) t.stores.items first h.replicas;
+        nothing = q;
+      }
 
   -- a group whose tables are the same
   pub keeps_none : (g h : GroupState X) → h.node ≡ g.node → h.nodes ≡ g.nodes → h.room ≡ g.room → h.tables ≡ g.tables → IsSameBut (Lifted state KeepsRows) g h
-  keeps_none g h node nodes room tables = record { node = node; nodes = nodes; room = room;
-      tables = subst (λ v. AllZip (IsRestingTable (Lifted state KeepsRows)) g.tables.items v.items) (sym tables)
-          (zip_refl (IsRestingTable (Lifted state KeepsRows)) (λ t. table_refl (Lifted state KeepsRows) (λ x. keeps (state x)) t) g.tables.items) }
+  keeps_none g h node nodes room tables = record {
+    node = node;
+    nodes = nodes;
+    room = room;
+    tables = subst (λ v. AllZip (IsRestingTable (Lifted state KeepsRows)) g.tables.items v.items) (sym tables)
+        (zip_refl (IsRestingTable (Lifted state KeepsRows)) (λ t. table_refl (Lifted state KeepsRows) (λ x. keeps (state x)) t) g.tables.items);
+  }
 
   -- one table of a group, by its place and its number
   module _ (g : GroupState X) (k : IsKept state g) (place number : ℕ) (t : GroupTable X) (within : place < length g.tables.items) (is : t ≡ get_or g.tables.items place t) (named : t.table ≡ number) where
-
     pub kept_at : IsTableKept state g.node (copies_of g) (entries_of g) t
     kept_at = all_at (IsTableKept state g.node (copies_of g) (entries_of g)) g.tables.items place t k.tables within is
 
@@ -102,13 +104,13 @@ module _ {X : Type 0} (state : X → StoreState) where
         IsTableStaged state op u
     here_staged op u e h s =
         subst (λ b. AllByRecursion (λ (x : X). IsStagedIn b op u.shape (state x)) u.stores.items) (sym (eq-eqb u.table (table_of op) (h.same.table ∙ named ∙ sym e)))
-            (subst (λ shape. AllByRecursion (λ (x : X). IsStagedIn true op shape (state x)) u.stores.items) (sym h.same.shape) s)
+        (subst (λ shape. AllByRecursion (λ (x : X). IsStagedIn true op shape (state x)) u.stores.items) (sym h.same.shape) s)
 
     pub staged_set : (op : ShardOp) (u : GroupTable X) → table_of op ≡ number → IsQuiet state g → IsRestingTable (Lifted state KeepsRows) t u →
         AllByRecursion (λ (x : X). IsStagedIn true op t.shape (state x)) u.stores.items → AllByRecursion (IsTableStaged state op) (set g.tables.items place u)
     staged_set op u e q h s =
         set_where (IsTableQuiet state) (IsTableStaged state op) number (λ v other quiet. quiet_staged op v (subst (λ n. nat_eq v.table n ≡ false) (sym e) other) quiet)
-            g.tables.items place t u k.distinct within is named q (here_staged op u e h s)
+        g.tables.items place t u k.distinct within is named q (here_staged op u e h s)
 
     -- the staged write is ready
     pub ready : (h : GroupState X) (op : ShardOp) (u : GroupTable X) (reply : Reply) → table_of op ≡ number → IsQuiet state g → IsRestingTable (Lifted state KeepsRows) t u →
@@ -121,15 +123,16 @@ module _ {X : Type 0} (state : X → StoreState) where
         let moved : shape_at (outlines h) (table_of op) ≡ shape_at (outlines g) number = λ i. shape_at (os i) (e i) in
         let shape : shapes h (table_of op) ≡ t.shape = ap or_no_shape (moved ∙ shape_found) in
         let rows : first_rows state t.stores.items ≡ replay (table_of op) (shapes h (table_of op)) (entries_of h) =
-            first_is g.node (copies_of g) (entries_of g) t kept_at ∙ sym replay_found ∙ sym held in
+        first_is g.node (copies_of g) (entries_of g) t kept_at ∙ sym replay_found ∙ sym held in
         let expected : reply_of op (rows_of (first_rows state t.stores.items)) t.shape ≡ reply_of op (rows_of (replay (table_of op) (shapes h (table_of op)) (entries_of h))) (shapes h (table_of op)) =
-            λ i. reply_of op (rows_of (rows i)) (sym shape i) in
+        λ i. reply_of op (rows_of (rows i)) (sym shape i) in
         record {
-            room = room;
-            there = subst (λ o. IsSome o) (sym moved) there;
-            replied = replied ∙ expected;
-            ids = subst (λ (v : Table). v.next + length (inserts op) ≤ 4294967296) (sym held) ids;
-            staged = subst (λ ts. AllByRecursion (IsTableStaged state op) ts) (sym tables) (staged_set op u e q r s) }
+          room = room;
+          there = subst (λ o. IsSome o) (sym moved) there;
+          replied = replied ∙ expected;
+          ids = subst (λ (v : Table). v.next + length (inserts op) ≤ 4294967296) (sym held) ids;
+          staged = subst (λ ts. AllByRecursion (IsTableStaged state op) ts) (sym tables) (staged_set op u e q r s);
+        }
 
   -- where the replay is the same
   pub next_along : (g h : GroupState X) (table : ℕ) → outlines h ≡ outlines g → entries_of h ≡ entries_of g → next_id h table ≡ next_id g table
@@ -137,11 +140,16 @@ module _ {X : Type 0} (state : X → StoreState) where
 
   pub goes_on_twice : (f g h : GroupState X) → GroupGoesOn state f g → GroupGoesOn state g h → GroupGoesOn state f h
   goes_on_twice f g h a b = record {
-      same = record {
-          number = b.same.number ∙ a.same.number; opening = b.same.opening ∙ a.same.opening; node = b.same.node ∙ a.same.node; nodes = b.same.nodes ∙ a.same.nodes;
-          tables = b.same.tables ∙ a.same.tables };
-      stores = zip_trans (Lifted state GoesOn) (Lifted state GoesOn) (Lifted state GoesOn) (λ x y z. goes_on_more (state x) (state y) (state z)) (stores_of f) (stores_of g) (stores_of h) a.stores b.stores;
-      steady = λ s. b.steady (a.steady s) }
+    same = record {
+      number = b.same.number ∙ a.same.number;
+      opening = b.same.opening ∙ a.same.opening;
+      node = b.same.node ∙ a.same.node;
+      nodes = b.same.nodes ∙ a.same.nodes;
+      tables = b.same.tables ∙ a.same.tables;
+    };
+    stores = zip_trans (Lifted state GoesOn) (Lifted state GoesOn) (Lifted state GoesOn) (λ x y z. goes_on_more (state x) (state y) (state z)) (stores_of f) (stores_of g) (stores_of h) a.stores b.stores;
+    steady = λ s. b.steady (a.steady s);
+  }
 
   pub count_is : (op : ShardOp) (rows : List (List Value)) (shape : Shape) (n : ℕ) → Count n ≡ reply_of op rows shape → n ≡ length (inserts op)
   count_is (Insert table rows) there shape n e = by_cases (repeats shape.key there rows) e

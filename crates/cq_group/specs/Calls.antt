@@ -98,6 +98,11 @@ pub record Takes (changes : List Change) (s : StoreState) : Type 0 where
   pub nothing : s.staged ≡ []
   pub fits : Fit s.rows changes
 
+-- where an error names a worker, it is on this node
+abbrev pub IsOn : ℕ → GroupError → Type 0
+IsOn node Memory = ⊤
+IsOn node (Worker at shard before after) = at ≡ node
+
 -- the node that a read is made on: the group's, or in a reference group the near one
 abbrev pub node_read : {X : Type 0} → GroupState X → ℕ → ℕ
 node_read g near = if nat_eq g.node 0 then near else g.node

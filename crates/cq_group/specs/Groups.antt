@@ -1,7 +1,6 @@
 -- What a shard group keeps between two calls, and what a staged write adds to it.
-use Rattle.std.specs.Prelude.{◌≡◌, ◌+◌, ◌<◌, ◌≤◌, ℕ, ⊤, IsTrue, Bool, true, false, List, [], ◌∷◌, ◌++◌, length, map, nat_eq, if◌then◌else◌, IsSome, Option, Some, None, vec_capacity}
-use Rattle.std.specs.List.{AllByRecursion, AllZip, flat_map}
-use Rattle.cq_value.specs.declared.change.Change.{Change}
+use Rattle.std.specs.Prelude.{◌≡◌, ◌+◌, ◌<◌, ◌≤◌, ℕ, ⊤, IsTrue, Bool, true, false, List, [], ◌∷◌, length, map, nat_eq, if◌then◌else◌, IsSome, Option, Some, None, vec_capacity}
+use Rattle.std.specs.List.{AllByRecursion, flat_map}
 use Rattle.cq_value.specs.declared.schema.Shape.{Shape}
 use Rattle.cq_value.specs.Tables.{rows_of}
 use Rattle.cq_value.specs.Changes.{applied}
@@ -9,7 +8,6 @@ use Rattle.cq_tree.specs.declared.journal.Entry.{Entry}
 use Rattle.cq_tree.specs.declared.journal.EntryKind.{EntryKind}
 use Rattle.cq_tree.specs.declared.journal.EntryKind.TheVariants.{Read, Write}
 use Rattle.cq_tree.specs.declared.journal.Reply.{Reply}
-use Rattle.cq_tree.specs.declared.journal.Reply.TheVariants.{Count, Duplicate}
 use Rattle.cq_tree.specs.declared.journal.ShardOp.{ShardOp}
 use Rattle.cq_meaning.specs.Effects.{effect, reply_of, table_of, inserts}
 use Rattle.cq_history.specs.Journals.{replay, EachReplied}

@@ -2,8 +2,8 @@ ghost use Rattle.std.specs.Prelude.{◌≡◌, ◌+◌, ◌<◌, ◌≤◌, [], 
 ghost use Rattle.std.specs.List.{AllByRecursion};
 ghost use Rattle.cq_value.specs.Tables.{rows_of};
 ghost use Rattle.cq_history.specs.Journals.{replay};
-ghost use Rattle.cq_group.specs.Groups.{IsKept, IsQuiet, IsSteady, HasTable, entries_of, stores_of, shapes, copies_of};
-ghost use Rattle.cq_group.specs.Calls.{Rests, Lifted, Blames, IsSameBut, GroupGoesOn, node_read, captured};
+ghost use Rattle.cq_group.specs.Groups.{IsKept, IsQuiet, IsSteady, HasTable, entries_of, stores_of, shapes, copies_of, node_at};
+ghost use Rattle.cq_group.specs.Calls.{Rests, Lifted, Blames, IsOn, IsSameBut, GroupGoesOn, node_read, captured};
 
 use crate::group::{Capture, GroupError, GroupState, Tables};
 use crate::place::place_of;
@@ -22,6 +22,7 @@ impl<S: Store> GroupState<S> {
         ensures journal { self.new.journal ≡ self.old.journal }
         ensures same { IsSameBut (Lifted S.state Rests) self.old self.new }
         ensures blame { IfErr result (λ e. Blames S.state e (stores_of self.old) (stores_of self.new)) }
+        ensures here { IfErr result (IsOn (node_at self.old.node copy)) }
     {
         let place = place_of(&self.tables, table);
         self.tables[place].read(alloc, copy)
@@ -41,6 +42,7 @@ impl<S: Store> GroupState<S> {
         ensures journal { self.new.journal ≡ self.old.journal }
         ensures same { IsSameBut (Lifted S.state Rests) self.old self.new }
         ensures blame { IfErr result (λ e. Blames S.state e (stores_of self.old) (stores_of self.new)) }
+        ensures here { IfErr result (IsOn (node_at self.old.node copy)) }
     {
         let mut seen = Tables::new(alloc);
         for table in tables.as_slice() {
@@ -79,7 +81,8 @@ impl<S: Store> GroupState<S> {
     fn copy_near(&self, near: u32) -> usize
         requires kept { 0 < copies_of self.now }
         requires near { self.now.node ≡ 0 → (0 < near) × (near ≤ self.now.nodes) }
-        ensures { result < copies_of self.now }
+        ensures within { result < copies_of self.now }
+        ensures node { node_at self.now.node result ≡ node_read self.now near }
     {
         if self.node == 0 { near as usize - 1 } else { 0 }
     }
@@ -87,7 +90,7 @@ impl<S: Store> GroupState<S> {
     /// The rows of the named tables, in order, and one Read in the journal; in a reference group they are read on the near
     /// node, which is one of its nodes. Nothing is staged before or afterwards.
     ///
-    /// Errors: a store failed, or want of memory. The journal is then as it was.
+    /// Errors: a store of that node failed, or want of memory. The journal is then as it was.
     pub fn read(
         &mut self,
         alloc: Global,
@@ -108,6 +111,7 @@ impl<S: Store> GroupState<S> {
         ensures quiet { IsQuiet S.state self.new }
         ensures goes_on { GroupGoesOn S.state self.old self.new }
         ensures blame { IfErr result (λ e. Blames S.state e (stores_of self.old) (stores_of self.new)) }
+        ensures near { IfErr result (IsOn (node_read self.old near)) }
         ensures steady { IfErr result (λ e. IsSteady S.state self.old → e ≡ GroupError.Memory) }
     {
         let copy = self.copy_near(near);

@@ -5,7 +5,7 @@ ghost use Rattle.cq_meaning.specs.Effects.{reply_of, inserts};
 ghost use Rattle.cq_history.specs.Standing.{most_ids};
 ghost use Rattle.cq_engine.specs.WriteEffects.{IsEffect};
 ghost use Rattle.cq_group.specs.Groups.{IsStagedIn, IsTableQuiet};
-ghost use Rattle.cq_group.specs.Calls.{Rests, Discards, Commits, Stages, KeepsRows, Lifted, Blames, Takes, IsSameTable, IsRestingTable, AreAlike, first_rows, count_of};
+ghost use Rattle.cq_group.specs.Calls.{Rests, Discards, Commits, Stages, KeepsRows, Lifted, Blames, IsOn, Takes, IsSameTable, IsRestingTable, AreAlike, first_rows, count_of};
 
 use crate::group::{GroupError, GroupTable};
 use crate::stores::{commit_stores, discard_stores, scan_store, stage_stores};
@@ -36,6 +36,7 @@ impl<S: Store> GroupTable<S> {
         ensures rows { IfOk result (λ table. HoldsAt (λ x. table ≡ (S.state x).rows) self.old.stores.items place) }
         ensures same { IsRestingTable (Lifted S.state Rests) self.old self.new }
         ensures blame { IfErr result (λ e. Blames S.state e self.old.stores.items self.new.stores.items) }
+        ensures here { IfErr result (λ e. HoldsAt (λ x. IsOn (S.state x).node e) self.old.stores.items place) }
     {
         scan_store(&mut self.stores[place])
     }
@@ -46,6 +47,7 @@ impl<S: Store> GroupTable<S> {
         ensures rows { IfOk result (λ rows. HoldsAt (λ x. rows ≡ rows_of (S.state x).rows) self.old.stores.items place) }
         ensures same { IsRestingTable (Lifted S.state Rests) self.old self.new }
         ensures blame { IfErr result (λ e. Blames S.state e self.old.stores.items self.new.stores.items) }
+        ensures here { IfErr result (λ e. HoldsAt (λ x. IsOn (S.state x).node e) self.old.stores.items place) }
     {
         let table = self.scan(place)?;
         match rows_alone(alloc, &table) {

@@ -1,5 +1,5 @@
 -- How a statement that changes the catalogue keeps what holds between two statements: there are no shard groups before it.
-use Rattle.std.proofs.Common.{◌≡◌, ◌≤◌, ℕ, List, [], ◌∷◌, ◌++◌, length, filter, refl, sym, ◌∙◌, ap, subst, arith, Some, None, Option}
+use Rattle.std.proofs.Common.{◌<◌, ◌≡◌, ◌≤◌, ℕ, List, [], ◌∷◌, ◌++◌, length, filter, refl, sym, ◌∙◌, ap, subst, arith, Some, None, Option}
 use Rattle.std.specs.List.{AllByRecursion}
 use Rattle.cq_value.specs.declared.schema.Column.{Column}
 use Rattle.cq_tree.specs.declared.journal.Who.{Who}
@@ -76,27 +76,27 @@ pub responds_create : (cat : Catalog) (who : Who) (journals : List (List Entry))
     Responds cat (created name columns key) who journals journals (Some (statement.CreateTable name columns key)) (answer.Tag tag.CreateTable)
 responds_create cat who journals name columns key none k = by_next cat (created name columns key) who journals journals (Some (statement.CreateTable name columns key)) (answer.Tag tag.CreateTable) (λ answers w c.
     let empty : length journals ≡ 0 = c.groups ∙ no_groups cat none in
-    consistent_changed cat (created name columns key) answers journals journals (Some (statement.CreateTable name columns key)) (answer.Tag tag.CreateTable) c (no_groups cat none) refl (k, refl, omega arith) empty (none_there journals empty) tt
+    consistent_changed cat (created name columns key) answers journals journals (Some (statement.CreateTable name columns key)) (answer.Tag tag.CreateTable) c (no_groups cat none) refl (k, tt) empty (none_there journals empty) tt
     (no_entry journals (next_who answers) (none_there journals empty)))
 
 local_groups : (cat : Catalog) (info : TableInfo) → cat.table ≡ Some info → info.place ≡ Local → groups_of cat ≡ 0
 local_groups cat info t l = ap (λ (v : Option TableInfo). shards_of (place_in v)) t ∙ ap shards_of l
 
-by_first_distributed : (t : Option TableInfo) (info : TableInfo) (shards : ℕ) → t ≡ Some info → IsByFirstColumn t → shards ≤ 128 → IsByFirstColumn (distributed t shards).table
-by_first_distributed None info shards e b h = cc
-by_first_distributed (Some other) info shards e b h = (b.0, refl, h)
+pub by_first_distributed : (t : Option TableInfo) (info : TableInfo) (shards : ℕ) → t ≡ Some info → IsByFirstColumn t → 0 < shards → shards ≤ 128 → IsByFirstColumn (distributed t shards).table
+by_first_distributed None info shards e b n h = cc
+by_first_distributed (Some other) info shards e b n h = (b.0, (refl, n, h))
 
-distributed_groups : (t : Option TableInfo) (info : TableInfo) (shards : ℕ) → t ≡ Some info → groups_of (distributed t shards) ≡ shards
+pub distributed_groups : (t : Option TableInfo) (info : TableInfo) (shards : ℕ) → t ≡ Some info → groups_of (distributed t shards) ≡ shards
 distributed_groups None info shards e = cc
 distributed_groups (Some other) info shards e = refl
 
 -- a distributed table, whose journals are empty
 pub responds_distribute : (cat : Catalog) (who : Who) (old new : List (List Entry)) (info : TableInfo) (table column : List ℕ) (shards : ℕ) (with : With) (names : List (List ℕ)) (rows : List Row) →
-    cat.table ≡ Some info → info.place ≡ Local → shards ≤ 128 → length new ≡ shards → EachJournal (λ g es. es ≡ []) new → IsDistributed names rows →
+    cat.table ≡ Some info → info.place ≡ Local → 0 < shards → shards ≤ 128 → length new ≡ shards → EachJournal (λ g es. es ≡ []) new → IsDistributed names rows →
     Responds cat (distributed cat.table shards) who old new (Some (statement.Distribute table column (Some shards) with)) (answer.Table names rows)
-responds_distribute cat who old new info table column shards with names rows there local few n empty told = by_next cat (distributed cat.table shards) who old new (Some (statement.Distribute table column (Some shards) with)) (answer.Table names rows) (λ answers w c.
+responds_distribute cat who old new info table column shards with names rows there local some few n empty told = by_next cat (distributed cat.table shards) who old new (Some (statement.Distribute table column (Some shards) with)) (answer.Table names rows) (λ answers w c.
     consistent_changed cat (distributed cat.table shards) answers old new (Some (statement.Distribute table column (Some shards) with)) (answer.Table names rows) c (local_groups cat info there local) refl
-    (by_first_distributed cat.table info shards there c.by_first few) (n ∙ sym (distributed_groups cat.table info shards there)) empty tt
+    (by_first_distributed cat.table info shards there c.by_first some few) (n ∙ sym (distributed_groups cat.table info shards there)) empty tt
     (no_entry new (next_who answers) empty, told))
 
 -- before the first statement

@@ -27,6 +27,8 @@ use Rattle.cq_tree.specs.declared.answer.What.TheVariants as what
 use Rattle.cq_tree.specs.declared.answer.Fault.TheVariants as fault
 use Rattle.cq_catalog.specs.declared.catalog.Catalog.{Catalog}
 use Rattle.cq_catalog.specs.declared.catalog.TableInfo.{TableInfo}
+use Rattle.cq_catalog.specs.declared.catalog.Place.{Place}
+use Rattle.cq_catalog.specs.declared.catalog.Place.TheVariants.{Local, Distributed}
 use Rattle.cq_catalog.specs.Tables.{shape_of, shape_in, place_in, column_of, shards_of, group_of, groups_of, distribution_of}
 use Rattle.cq_meaning.specs.Values.{Row, column}
 use Rattle.cq_meaning.specs.Queries.{keeps, meaning}
@@ -35,15 +37,19 @@ use Rattle.cq_history.specs.Journals.{replay, EachJournal, IsLegal}
 use Rattle.cq_history.specs.Places.{made_by, before, earlier, whole, OneEntry, NoEntry}
 use Rattle.cq_history.specs.Standing.{home_of, most_ids, Stands, StandsQuery, StandsInsert, LacksIds}
 use Rattle.cq_history.specs.Log.{who_of, AllStand}
-use Rattle.cq_history.specs.Between.{EntersOver, RepliesOver, StandsHere, IsByFirstColumn, IsSilent, IsConsistent, Grows}
+use Rattle.cq_history.specs.Between.{EntersOver, RepliesOver, StandsHere, IsByFirst, IsByFirstColumn, IsSilent, IsConsistent, Grows}
 use Rattle.cq_history.proofs.Lists.{two_ways, got}
 use Rattle.cq_history.proofs.Values.{equals_is}
 use Rattle.cq_history.proofs.Whole.{OnlyIn, filter-whole, only_key, reply_by_filter}
 
 -- a table that is keyed and distributed by its first column
+column_first : (p : Place) → IsByFirst p → column_of p ≡ 0
+column_first Local h = refl
+column_first (Distributed column shards) h = h.0
+
 distribution_in : (t : Option TableInfo) → IsByFirstColumn t → column_of (place_in t) ≡ 0
 distribution_in None h = refl
-distribution_in (Some info) h = h.1
+distribution_in (Some info) h = column_first info.place h.1
 
 pub distribution_is : (cat : Catalog) → IsByFirstColumn cat.table → distribution_of cat ≡ 0
 distribution_is cat h = distribution_in cat.table h
@@ -55,9 +61,13 @@ key_in (Some info) h n = h.0
 pub key_is : (cat : Catalog) → IsByFirstColumn cat.table → 0 < groups_of cat → (shape_of cat).key ≡ 0 ∷ []
 key_is cat h n = key_in cat.table h n
 
+few_shards : (p : Place) → IsByFirst p → shards_of p ≤ 128
+few_shards Local h = omega arith
+few_shards (Distributed column shards) h = h.2
+
 few_in : (t : Option TableInfo) → IsByFirstColumn t → shards_of (place_in t) ≤ 128
 few_in None h = omega arith
-few_in (Some info) h = h.2
+few_in (Some info) h = few_shards info.place h.1
 
 pub few_groups : (cat : Catalog) → IsByFirstColumn cat.table → groups_of cat ≤ 128
 few_groups cat h = few_in cat.table h

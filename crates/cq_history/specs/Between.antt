@@ -1,6 +1,6 @@
 -- What holds between two statements. An answer's standing is kept here by its own group alone, which later entries don't
 -- change; that it stands over the undistributed table, at every choice of places, follows.
-use Rattle.std.specs.Prelude.{◌≡◌, ◌≢◌, ◌+◌, ◌≤◌, ◌⊎◌, ⊤, ℕ, List, [], ◌∷◌, ◌++◌, length, Option, Some, None, slice_get}
+use Rattle.std.specs.Prelude.{◌<◌, ◌≡◌, ◌≢◌, ◌+◌, ◌≤◌, ◌⊎◌, ⊤, ℕ, List, [], ◌∷◌, ◌++◌, length, Option, Some, None, slice_get}
 use Rattle.std.specs.List.{AllByRecursion}
 use Rattle.cq_value.specs.Tables.{Table, rows_of}
 use Rattle.cq_tree.specs.declared.journal.Who.{Who}
@@ -19,7 +19,9 @@ use Rattle.cq_tree.specs.declared.answer.Tag.TheVariants as tag
 use Rattle.cq_tree.specs.declared.answer.Fault.TheVariants as fault
 use Rattle.cq_catalog.specs.declared.catalog.Catalog.{Catalog}
 use Rattle.cq_catalog.specs.declared.catalog.TableInfo.{TableInfo}
-use Rattle.cq_catalog.specs.Tables.{shape_of, group_of, groups_of, column_of, shards_of}
+use Rattle.cq_catalog.specs.declared.catalog.Place.{Place}
+use Rattle.cq_catalog.specs.declared.catalog.Place.TheVariants.{Local, Distributed}
+use Rattle.cq_catalog.specs.Tables.{shape_of, group_of, groups_of}
 use Rattle.cq_meaning.specs.Values.{Row}
 use Rattle.cq_meaning.specs.Queries.{meaning}
 use Rattle.cq_meaning.specs.Effects.{reply_of}
@@ -46,10 +48,15 @@ StandsHere cat journals who (Some (statement.Write (Insert table (row ∷ []))))
     EntersOver cat journals (home_of cat row) who (Write (Insert table (row ∷ [])) Duplicate) (RepliesOver cat table row Duplicate)
 StandsHere cat journals who bound answer = Stands cat journals who bound answer
 
--- a table is keyed and distributed by its first column, in 1 to 128 shards where it is distributed
+-- a distributed table is so by its first column, in 1 to 128 shards
+abbrev pub IsByFirst : Place → Type 0
+IsByFirst Local = ⊤
+IsByFirst (Distributed column shards) = (column ≡ 0) × (0 < shards) × (shards ≤ 128)
+
+-- the table, if there is one, is keyed and distributed by its first column
 abbrev pub IsByFirstColumn : Option TableInfo → Type 0
 IsByFirstColumn None = ⊤
-IsByFirstColumn (Some info) = (info.key ≡ 0 ∷ []) × (column_of info.place ≡ 0) × (shards_of info.place ≤ 128)
+IsByFirstColumn (Some info) = (info.key ≡ 0 ∷ []) × IsByFirst info.place
 
 -- a statement that reads and writes no group
 abbrev pub IsSilent : Option Statement → Type 0

@@ -1,4 +1,4 @@
--- A list is parted store by store: what is out, what stays, and what is still to be parted.
+-- A list of stores is parted, store by store: what is out, what stays, what is still to be parted; and what holds of the parts.
 use Rattle.std.proofs.Common.{◌≡◌, ◌≢◌, ◌⊎◌, inl, inr, Bool, cond, All, slice_index_or, vec_capacity, length, count_by, ℕ, zero, suc, ◌+◌, ◌-◌, ◌<◌, ◌≤◌, true, false, List, [], ◌∷◌, ◌++◌, map, refl, sym, ap, ◌∙◌, arith, append_assoc, append-nil}
 use Rattle.std.proofs.lemmas.Bool.{ne_eqb, eqb-true}
 use Rattle.std.proofs.lemmas.List.Elements.{All-from_recursion, recursion_from_All, All-map, All-filter, All-take, filter_passes}
@@ -7,7 +7,7 @@ use Rattle.std.proofs.lemmas.List.{map-append, length-map, length-take-le}
 use Rattle.std.proofs.lemmas.List.Recursion.{is_count_by}
 use Rattle.std.specs.declared.vec.Vec.{Vec}
 use Rattle.cq_store.specs.Stores.{StoreState, IsSpare}
-use Rattle.cq_store.specs.Workers.{is_spare, spares, taken, kept, room}
+use Rattle.cq_store.specs.Workers.{keeps_no_shard, spares, taken, kept, room}
 
 taken_spare : (m : ℕ) (s : StoreState) (rest : List StoreState) → s.shard ≡ 0 → taken (suc m) (s ∷ rest) ≡ s ∷ taken m rest
 taken_spare m s rest e = rw e refl
@@ -66,20 +66,20 @@ pub parts_end : {B : Type 0} {view : B → StoreState} {n : ℕ} {all out stays 
 parts_end {view = view} {out = out} {stays = stays} {m = m} p e =
     (sym (p.takes ∙ rw (e, taken_none m) (append-nil (map view out))), sym (p.keeps ∙ rw (e, kept_none m) (append-nil (map view stays))))
 
-pub spares_counted : {B : Type 0} (view : B → StoreState) (xs : List B) → length (spares (map view xs)) ≡ count_by (λ x. is_spare (view x)) xs
-spares_counted view xs = is_count_by (λ ys. length (spares (map view ys))) (λ y. is_spare (view y)) refl one_more xs
+pub spares_counted : {B : Type 0} (view : B → StoreState) (xs : List B) → length (spares (map view xs)) ≡ count_by (λ x. keeps_no_shard (view x)) xs
+spares_counted view xs = is_count_by (λ ys. length (spares (map view ys))) (λ y. keeps_no_shard (view y)) refl one_more xs
   where
-    one_more : (y : _) (ys : List _) → length (spares (map view (y ∷ ys))) ≡ cond (is_spare (view y)) (1 + length (spares (map view ys))) (length (spares (map view ys)))
+    one_more : (y : _) (ys : List _) → length (spares (map view (y ∷ ys))) ≡ cond (keeps_no_shard (view y)) (1 + length (spares (map view ys))) (length (spares (map view ys)))
     one_more y ys = let rest = spares (map view ys) in
-        elim (is_spare (view y)) as (λ b. length (cond b (view y ∷ rest) rest) ≡ cond b (1 + length rest) (length rest)) [ true ↦ omega arith | false ↦ refl ]
+        elim (keeps_no_shard (view y)) as (λ b. length (cond b (view y ∷ rest) rest) ≡ cond b (1 + length rest) (length rest)) [ true ↦ omega arith | false ↦ refl ]
 
 -- all are taken or kept
 pub taken_or_kept : (n : ℕ) (stores : List StoreState) → length (taken n stores) + length (kept n stores) ≡ length stores
 taken_or_kept zero stores = omega arith
 taken_or_kept (suc n) [] = refl
-taken_or_kept (suc n) (s ∷ stores) = by_first (is_spare s) refl (taken_or_kept n stores) (taken_or_kept (suc n) stores)
+taken_or_kept (suc n) (s ∷ stores) = by_first (keeps_no_shard s) refl (taken_or_kept n stores) (taken_or_kept (suc n) stores)
   where
-    by_first : (b : Bool) → is_spare s ≡ b → length (taken n stores) + length (kept n stores) ≡ length stores
+    by_first : (b : Bool) → keeps_no_shard s ≡ b → length (taken n stores) + length (kept n stores) ≡ length stores
         → length (taken (suc n) stores) + length (kept (suc n) stores) ≡ length stores
         → length (taken (suc n) (s ∷ stores)) + length (kept (suc n) (s ∷ stores)) ≡ length (s ∷ stores)
     by_first true e p q = rw e (omega arith)
@@ -100,7 +100,7 @@ kept_at : (P : StoreState → Type 0) (n : ℕ) (stores : List StoreState) → A
 kept_at P zero stores h = h
 kept_at P (suc n) [] h = tt
 kept_at P (suc n) (s ∷ stores) h =
-    elim (is_spare s) as (λ b. AllByRecursion P (cond b (kept n stores) (s ∷ kept (suc n) stores))) [ true ↦ kept_at P n stores h.1 | false ↦ (h.0, kept_at P (suc n) stores h.1) ]
+    elim (keeps_no_shard s) as (λ b. AllByRecursion P (cond b (kept n stores) (s ∷ kept (suc n) stores))) [ true ↦ kept_at P n stores h.1 | false ↦ (h.0, kept_at P (suc n) stores h.1) ]
 
 all_seen : {B : Type 0} (view : B → StoreState) (P : StoreState → Type 0) (xs : List B) → AllByRecursion P (map view xs) → AllByRecursion (λ x. P (view x)) xs
 all_seen view P [] h = tt
@@ -118,6 +118,6 @@ pub taken_spare_all : {B : Type 0} (view : B → StoreState) (n : ℕ) (old out 
 taken_spare_all view n old out h e =
     let P : StoreState → Type 0 = λ s. s.shard ≡ 0 → IsSpare s in
     let all : All P (map view old) = All-map P view old h in
-    let free : All (λ s. is_spare s ≡ true) (spares (map view old)) = filter_passes is_spare (map view old) in
-    let both : All IsSpare (spares (map view old)) = λ k d l. All-filter is_spare P (map view old) all k d l (eqb-true (slice_index_or (spares (map view old)) k d).shard 0 (free k d l)) in
+    let free : All (λ s. keeps_no_shard s ≡ true) (spares (map view old)) = filter_passes keeps_no_shard (map view old) in
+    let both : All IsSpare (spares (map view old)) = λ k d l. All-filter keeps_no_shard P (map view old) all k d l (eqb-true (slice_index_or (spares (map view old)) k d).shard 0 (free k d l)) in
     All-from_recursion _ out (all_seen view IsSpare out (rw e (recursion_from_All IsSpare (taken n (map view old)) (All-take IsSpare n (spares (map view old)) both))))

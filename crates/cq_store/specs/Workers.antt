@@ -6,12 +6,12 @@ use Rattle.cq_store.specs.Stores.{StoreState}
 use Rattle.cq_store.specs.declared.worker.TakeError.{TakeError}
 use Rattle.cq_store.specs.declared.worker.TakeError.TheVariants.{NoRoom, Memory}
 
--- a store is spare where it keeps no shard
-abbrev pub is_spare : StoreState → Bool
-is_spare s = nat_eq s.shard 0
+abbrev pub keeps_no_shard : StoreState → Bool
+keeps_no_shard s = nat_eq s.shard 0
 
+-- the stores that keep no shard
 abbrev pub spares : List StoreState → List StoreState
-spares stores = filter is_spare stores
+spares stores = filter keeps_no_shard stores
 
 -- the first n spare stores
 abbrev pub taken : ℕ → List StoreState → List StoreState
@@ -21,12 +21,12 @@ taken n stores = take n (spares stores)
 abbrev pub kept : ℕ → List StoreState → List StoreState
 kept zero stores = stores
 kept (suc n) [] = []
-kept (suc n) (s ∷ stores) = if is_spare s then kept n stores else (s ∷ kept (suc n) stores)
+kept (suc n) (s ∷ stores) = if keeps_no_shard s then kept n stores else (s ∷ kept (suc n) stores)
 
 -- why n stores aren't taken of so many spare ones: they are fewer than n, or there is no memory
-abbrev pub Refuses : TakeError → ℕ → ℕ → Type 0
-Refuses (NoRoom free needed) n spare = (free ≡ spare) × (needed ≡ n) × (spare < n)
-Refuses Memory n spare = n ≤ spare
+abbrev pub RefusesTake : TakeError → ℕ → ℕ → Type 0
+RefusesTake (NoRoom free needed) n spare = (free ≡ spare) × (needed ≡ n) × (spare < n)
+RefusesTake Memory n spare = n ≤ spare
 
 -- how many more stores a list takes without memory
 abbrev pub room : {S Z : Type 0} → Vec S Z → ℕ

@@ -1,10 +1,14 @@
 //! Stores, each with the rows of one shard on one node, and workers, which are nodes with their stores.
 #![tactic(auto)]
 
+mod fault;
 mod mem;
 mod store;
+#[cfg(test)]
+mod tests;
 mod worker;
 
+pub use fault::FaultStore;
 pub use mem::MemStore;
 pub use store::{BoxedStore, Store, StoreError};
 pub use worker::{TakeError, Worker};

@@ -1,4 +1,4 @@
-ghost use Rattle.std.specs.Prelude.{◌≡◌, [], OnOk, OnErr};
+ghost use Rattle.std.specs.Prelude.{◌≡◌, [], IfOk, OnOk, OnErr};
 ghost use Rattle.cq_value.specs.Changes.{Fit, adds_in};
 ghost use Rattle.cq_store.specs.Stores.{steady_spare};
 
@@ -31,6 +31,7 @@ impl Model for MemStore {
     ghost invariant = { λ s. Fit s.rows.table s.staged × (adds_in s.staged ≤ s.rows.room) };
 }
 
+/// How many of the changes add a row.
 fn count_adds(changes: &Changes) -> u64
     ensures { result ≡ adds_in changes.now }
 {
@@ -55,7 +56,15 @@ impl MemStore {
         }
     }
 
-    fn stage_copy(&mut self, changes: &Changes) -> Result<(), NoMemory>
+    /// A copy of the rows, without the changes staged.
+    pub(crate) fn read(&self) -> Result<Numbered, NoMemory>
+        ensures { IfOk result (λ t. t ≡ self.now.rows) }
+    {
+        self.rows.copy(self.alloc)
+    }
+
+    /// Stages a copy of changes, and makes room for the rows that they add.
+    pub(crate) fn stage_copy(&mut self, changes: &Changes) -> Result<(), NoMemory>
         requires nothing { self.old.staged ≡ [] }
         requires fits { Fit self.old.rows changes.now }
         ensures ok { OnOk result (self.new ≡ record self.old { staged = changes.now }) }
@@ -80,6 +89,7 @@ impl Store for MemStore {
     }
 
     fn faults(&self) -> u64 {
+        // The check looks into a store only where one of its fields is read.
         let _ = &self.node;
         0
     }
@@ -89,17 +99,11 @@ impl Store for MemStore {
     }
 
     fn scan(&mut self) -> Result<Numbered, StoreError> {
-        match self.rows.copy(self.alloc) {
-            Ok(rows) => Ok(rows),
-            Err(_) => Err(StoreError::Memory),
-        }
+        self.read().map_err(|_| StoreError::Memory)
     }
 
     fn stage(&mut self, changes: &Changes) -> Result<(), StoreError> {
-        match self.stage_copy(changes) {
-            Ok(()) => Ok(()),
-            Err(_) => Err(StoreError::Memory),
-        }
+        self.stage_copy(changes).map_err(|_| StoreError::Memory)
     }
 
     fn commit(&mut self) {

@@ -85,7 +85,7 @@ impl Store for Box<dyn Store + Send> {
     }
 
     fn adopt(&mut self, shard: u64) {
-        (**self).adopt(shard)
+        (**self).adopt(shard);
     }
 
     fn scan(&mut self) -> Result<Numbered, StoreError> {
@@ -97,15 +97,15 @@ impl Store for Box<dyn Store + Send> {
     }
 
     fn commit(&mut self) {
-        (**self).commit()
+        (**self).commit();
     }
 
     fn discard(&mut self) {
-        (**self).discard()
+        (**self).discard();
     }
 
     fn release(&mut self) {
-        (**self).release()
+        (**self).release();
     }
 }
 

@@ -1,6 +1,6 @@
 ghost use Rattle.std.specs.Prelude.{◌≡◌, ◌+◌, ◌-◌, ◌<◌, ◌≤◌, [], ◌∷◌, ◌++◌, length, map, All, IfOk, OnOk, OnErr, IfErr, vec_len, vec_capacity};
 ghost use Rattle.cq_store.specs.Stores.{StoreState};
-ghost use Rattle.cq_store.specs.Workers.{spares, taken, kept, room, Refuses};
+ghost use Rattle.cq_store.specs.Workers.{spares, taken, kept, room, RefusesTake};
 
 use crate::store::{BoxedStore, Store};
 use cq_value::NoMemory;
@@ -23,6 +23,7 @@ pub struct Worker<S = BoxedStore> {
     stores: Vec<S>,
 }
 
+/// How many stores are spare.
 fn count_spares<S: Store>(stores: &[S]) -> u64
     ensures { result ≡ length (spares (map S.state stores.now)) }
 {
@@ -99,13 +100,14 @@ impl<S: Store> Worker<S> {
         ensures kept { OnOk result (map S.state self.new.stores.items ≡ kept n (map S.state self.old.stores.items)) }
         ensures enough { OnOk result (n ≤ length (spares (map S.state self.old.stores.items))) }
         ensures room { OnOk result (room self.new.stores ≡ room self.old.stores + n) }
-        ensures refused { IfErr result (λ e. Refuses e n (length (spares (map S.state self.old.stores.items)))) }
+        ensures refused { IfErr result (λ e. RefusesTake e n (length (spares (map S.state self.old.stores.items)))) }
         ensures err { OnErr result (self.new ≡ self.old) }
     {
         let free = count_spares(&self.stores);
         if free < n {
             return Err(TakeError::NoRoom { free, needed: n });
         }
+        // Both lists have their memory before a store moves.
         let alloc = *self.stores.allocator();
         let Ok(mut taken) = Vec::with_capacity(alloc, n as usize) else {
             return Err(TakeError::Memory);

@@ -1,4 +1,7 @@
-use cq_value::{Reserved, Rows};
+ghost use Rattle.std.specs.Prelude.{◌≡◌, IfOk};
+
+use cq_value::{NoMemory, Reserved, Rows};
+use std::alloc::Global;
 
 /// A statement of a session. Statements are numbered from 1 through the script; a serial statement's session is 0.
 #[derive(Clone, Copy, Debug, PartialEq, Eq)]
@@ -19,6 +22,20 @@ pub enum Reply {
 #[derive(Debug, Drop)]
 pub enum ShardOp {
     Insert { table: u32, rows: Rows },
+}
+
+impl ShardOp {
+    /// An equal write.
+    pub fn copy(&self, alloc: Global) -> Result<ShardOp, NoMemory>
+        ensures { IfOk result (λ op. op ≡ self.now) }
+    {
+        match self {
+            ShardOp::Insert { table, rows } => Ok(ShardOp::Insert {
+                table: *table,
+                rows: rows.copy(alloc)?,
+            }),
+        }
+    }
 }
 
 /// What an entry of a journal says: the group was read, or written with this reply.

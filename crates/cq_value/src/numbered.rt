@@ -1,6 +1,6 @@
-ghost use Rattle.std.specs.Prelude.{◌≡◌, ◌<◌, ◌≤◌, ◌+◌, ◌^◌, [], true, length, slice_index_or, IfOk, OnOk, OnErr};
+ghost use Rattle.std.specs.Prelude.{◌≡◌, ◌<◌, ◌≤◌, ◌+◌, ◌^◌, [], true, length, slice_index_or, IfOk, IsOk, OnOk, OnErr};
 ghost use Rattle.cq_value.specs.Changes.{has_id};
-ghost use Rattle.cq_value.specs.Tables.{empty_table, with_row, with_new_row, without_row};
+ghost use Rattle.cq_value.specs.Tables.{IsAscending, empty_table, with_row, with_new_row, without_row};
 
 use crate::reserved_table::ReservedTable;
 use crate::text::NoMemory;
@@ -32,7 +32,7 @@ impl Numbered {
         }
     }
 
-    /// The table of a table with room.
+    /// The same table, whose room contracts no longer see.
     pub fn from_reserved(inner: ReservedTable) -> Numbered
         ensures { result ≡ inner.table }
     {
@@ -76,6 +76,13 @@ impl Numbered {
         &self.inner.pairs()[place as usize].1
     }
 
+    /// What the ids promise: they ascend, and are below the next id. Does nothing.
+    pub fn ids_ascend(&self)
+        ensures { IsAscending self.now.pairs self.now.next }
+    {
+        self.inner.ids_ascend();
+    }
+
     /// An equal table.
     pub fn copy(&self, alloc: Global) -> Result<Numbered, NoMemory>
         ensures { IfOk result (λ t. t ≡ self.now) }
@@ -103,9 +110,10 @@ impl Numbered {
         Ok(())
     }
 
-    /// Puts another row under an id.
+    /// Puts another row under an id. Takes no memory, and so succeeds.
     pub fn put(&mut self, id: u64, row: Row) -> Result<(), NoMemory>
         requires { has_id self.old id ≡ true }
+        ensures succeeds { IsOk result }
         ensures ok { OnOk result (self.new ≡ with_new_row self.old id row) }
         ensures err { OnErr result (self.new ≡ self.old) }
     {
@@ -113,9 +121,10 @@ impl Numbered {
         Ok(())
     }
 
-    /// Takes an id's row out.
+    /// Takes an id's row out. Takes no memory, and so succeeds.
     pub fn remove(&mut self, id: u64) -> Result<(), NoMemory>
         requires { has_id self.old id ≡ true }
+        ensures succeeds { IsOk result }
         ensures ok { OnOk result (self.new ≡ without_row self.old id) }
         ensures err { OnErr result (self.new ≡ self.old) }
     {

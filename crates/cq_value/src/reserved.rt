@@ -1,4 +1,4 @@
-ghost use Rattle.std.specs.Prelude.{◌≡◌, ◌<◌, ◌≤◌, ◌+◌, [], ◌∷◌, ◌++◌, length, slice_index_or, slice_set, OnOk};
+ghost use Rattle.std.specs.Prelude.{◌≡◌, ◌<◌, ◌≤◌, ◌+◌, [], ◌∷◌, ◌++◌, length, slice_index_or, slice_set, IsOk, OnOk};
 ghost use Rattle.std.specs.List.{remove};
 
 use crate::text::NoMemory;
@@ -31,11 +31,12 @@ impl<T> Reserved<T> {
         }
     }
 
-    /// Makes room for at least n items.
+    /// Makes room for at least n items. Takes no memory where there is that room.
     pub fn reserve(&mut self, n: u64) -> Result<(), NoMemory>
         ensures list { self.new.list ≡ self.old.list }
         ensures room { OnOk result (n ≤ self.new.room) }
         ensures kept { self.old.room ≤ self.new.room }
+        ensures enough { n ≤ self.old.room → IsOk result }
     {
         match self.items.reserve(n as usize) {
             Ok(()) => Ok(()),

@@ -1,6 +1,6 @@
-ghost use Rattle.std.specs.Prelude.{◌≡◌, ◌<◌, ◌≤◌, ◌+◌, ◌^◌, [], ◌∷◌, ◌++◌, true, length, slice_index_or, IfOk, OnOk};
+ghost use Rattle.std.specs.Prelude.{◌≡◌, ◌<◌, ◌≤◌, ◌+◌, ◌^◌, [], ◌∷◌, ◌++◌, true, length, slice_index_or, IfOk, IsOk, OnOk};
 ghost use Rattle.cq_value.specs.Changes.{FitsOne, Fit, changed, applied, added, dropped, adds_in, drops_in, has_id};
-ghost use Rattle.cq_value.specs.Tables.{empty_table, with_row, with_new_row, without_row};
+ghost use Rattle.cq_value.specs.Tables.{IsAscending, empty_table, with_row, with_new_row, without_row};
 
 use crate::change::{Change, Changes};
 use crate::numbered::Numbered;
@@ -49,11 +49,12 @@ impl ReservedTable {
         }
     }
 
-    /// Makes room for at least n more rows.
+    /// Makes room for at least n more rows. Takes no memory where there is that room.
     pub fn reserve(&mut self, n: u64) -> Result<(), NoMemory>
         ensures table { self.new.table ≡ self.old.table }
         ensures room { OnOk result (n ≤ self.new.room) }
         ensures kept { self.old.room ≤ self.new.room }
+        ensures enough { n ≤ self.old.room → IsOk result }
     {
         self.pairs.reserve(n)
     }
@@ -77,6 +78,13 @@ impl ReservedTable {
         ensures { result.now ≡ self.now.table.pairs }
     {
         self.pairs.as_slice()
+    }
+
+    /// What the ids promise: they ascend, and are below the next id. Does nothing.
+    pub fn ids_ascend(&self)
+        ensures { IsAscending self.now.table.pairs self.now.table.next }
+    {
+        let _ = &self.next;
     }
 
     /// An equal table.

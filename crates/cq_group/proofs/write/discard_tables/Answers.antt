@@ -6,4 +6,4 @@ use Rattle.cq_group.proofs.write.discard_tables.Goals as goal
 pub loop-place-preserved : goal.loop-place-preserved
 loop-place-preserved g c =
     through_more (IsRestingTable (Lifted g.S.Store.state Discards)) c.loop-place.place _ c.loop-place.tables.items c.index_mut.result.now c.discard.new.self
-        c.loop-place.invariant (search rules) (search rules) c.discard.ensures
+    c.loop-place.invariant (search rules) (search rules) c.discard.ensures

@@ -1,4 +1,4 @@
-use Rattle.std.proofs.Common.{rules, ◌≡◌, ◌+◌, ℕ, Bool, true, false, cond, count_by, List, [], ◌∷◌, refl, sym, ◌∙◌, arith}
+use Rattle.std.proofs.Common.{rules, ◌≡◌, ◌+◌, Bool, true, false, cond, count_by, List, ◌∷◌, refl, sym, ◌∙◌, arith}
 use Rattle.std.proofs.lemmas.List.Recursion.{is_count_by}
 use Rattle.cq_value.specs.declared.change.Change.{Change}
 use Rattle.cq_value.specs.declared.change.Change.TheVariants.{Add, Put, Drop}

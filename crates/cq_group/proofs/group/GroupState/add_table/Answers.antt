@@ -1,4 +1,4 @@
-use Rattle.std.proofs.Common.{◌≡◌, ◌∙◌, ◌++◌, ◌∷◌, [], ◌+◌, ◌≤◌, ap, length, vec_capacity, rules, refl, arith}
+use Rattle.std.proofs.Common.{◌∙◌, ◌++◌, ◌∷◌, [], ◌+◌, ◌≤◌, ap, length, vec_capacity, rules, refl, arith}
 use Rattle.cq_group.specs.declared.group.GroupState.{GroupState}
 use Rattle.cq_group.specs.declared.group.GroupTable.{GroupTable}
 use Rattle.cq_group.specs.Groups.{stores_of}
@@ -16,7 +16,7 @@ returns-clause-kept g c =
     let grown : vec_capacity group.room + c.len.result ≤ vec_capacity c.make_room.new.self.room = search rules in
     let room : length (stores_of group) + length c.args.stores.items ≤ vec_capacity c.make_room.new.self.room = omega (arith, grown, c.requires.kept.room, c.len.ensures, c.args.stores.ok.0) in
     added state group _ v c.requires.kept c.requires.new c.requires.fresh shard refl (ap (λ (x : GroupState _). x.node) c.make_room.ensures.rest) (ap (λ (x : GroupState _). x.nodes) c.make_room.ensures.rest)
-        entries tables room c.make_room.ensures.unused
+    entries tables room c.make_room.ensures.unused
 
 pub returns-clause-quiet : goal.returns-clause-quiet
 returns-clause-quiet g c =

@@ -22,7 +22,7 @@ returns-clause-kept g c =
     let is : t ≡ get_or group.tables.items place t = search rules in
     let named : t.table ≡ table_of c.args.op = ap (λ x. x.table) is ∙ c.place_of-place.ensures.found t ∙ c.table_number.ensures in
     made_kept state c.args.op c.args.reply c.args.who group c.requires.kept c.requires.ready place t c.place_of-place.ensures.within is named
-        _ c.commit.new.self c.commit.ensures.same c.commit.ensures.next refl refl refl refl c.push.ensures.list
+    _ c.commit.new.self c.commit.ensures.same c.commit.ensures.next refl refl refl refl c.push.ensures.list
 
 pub returns-clause-quiet : goal.returns-clause-quiet
 returns-clause-quiet g c =
@@ -43,4 +43,4 @@ returns-clause-goes_on g c =
     let is : t ≡ get_or group.tables.items place t = search rules in
     let named : t.table ≡ table_of c.args.op = ap (λ x. x.table) is ∙ c.place_of-place.ensures.found t ∙ c.table_number.ensures in
     made_goes_on state c.args.op c.args.reply c.args.who group c.requires.kept c.requires.ready place t c.place_of-place.ensures.within is named
-        _ c.commit.new.self c.commit.ensures.same c.commit.ensures.next refl refl refl refl refl
+    _ c.commit.new.self c.commit.ensures.same c.commit.ensures.next refl refl refl refl refl

@@ -1,4 +1,4 @@
-use Rattle.std.proofs.Common.{refl, rules}
+use Rattle.std.proofs.Common.{refl}
 use Rattle.cq_group.specs.Calls.{Discards, KeepsRows, Lifted}
 use Rattle.cq_group.proofs.Turns.{discards_keep, discards_go_on}
 use Rattle.cq_group.proofs.GroupLaws.{group_weaker, kept_along, goes_on_but}
@@ -9,8 +9,8 @@ pub returns-clause-kept : goal.returns-clause-kept
 returns-clause-kept g c =
     let state = g.S.Store.state in
     kept_along state c.args.self.now _ c.requires
-        (group_weaker (Lifted state Discards) (Lifted state KeepsRows) (λ x y. discards_keep (state x) (state y)) c.args.self.now _
-            (record { node = refl; nodes = refl; room = refl; tables = c.discard_tables.ensures })) refl
+    (group_weaker (Lifted state Discards) (Lifted state KeepsRows) (λ x y. discards_keep (state x) (state y)) c.args.self.now _
+    (record { node = refl; nodes = refl; room = refl; tables = c.discard_tables.ensures })) refl
 
 pub returns-clause-quiet : goal.returns-clause-quiet
 returns-clause-quiet g c = quiet_dropped g.S.Store.state c.args.self.now.tables.items c.discard_tables.new.tables.items c.discard_tables.ensures

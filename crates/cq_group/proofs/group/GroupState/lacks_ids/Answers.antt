@@ -10,4 +10,4 @@ returns g c =
     let is : t ≡ get_or c.args.self.now.tables.items c.args.place t = search rules in
     let named : t.table ≡ table_of c.args.op.now = ap (λ x. x.table) is ∙ c.requires.found t in
     subst (λ n. IsTrue c.lacks_ids.result ↔ (most_ids < n + length (inserts c.args.op.now)))
-        (next_found g.S.Store.state c.args.self.now c.requires.kept c.args.place (table_of c.args.op.now) t c.requires.within is named) c.lacks_ids.ensures
+    (next_found g.S.Store.state c.args.self.now c.requires.kept c.args.place (table_of c.args.op.now) t c.requires.within is named) c.lacks_ids.ensures

@@ -17,7 +17,7 @@ returns-in_err-seen-clause-goes_on g c =
 pub returns-in_err-seen-clause-steady : goal.returns-in_err-seen-clause-steady
 returns-in_err-seen-clause-steady g c =
     let memory = λ (steady : IsSteady g.S.Store.state c.args.self.now).
-        blames_none g.S.Store.state c.in_err-seen.field-0.0 c.args.self.now _ steady c.in_err-seen.ensures.blame in
+    blames_none g.S.Store.state c.in_err-seen.field-0.0 c.args.self.now _ steady c.in_err-seen.ensures.blame in
     search rules
 
 pub append_read-requires : goal.append_read-requires
@@ -30,7 +30,7 @@ returns-in_err-place-clause-quiet g c =
 pub returns-in_err-place-clause-goes_on : goal.returns-in_err-place-clause-goes_on
 returns-in_err-place-clause-goes_on g c =
     rested_goes_on g.S.Store.state c.args.self.now c.read_tables.new.self c.append_read.new.self c.read_tables.ensures.same c.read_tables.ensures.journal
-        c.append_read.ensures.rest c.append_read.ensures.number c.append_read.ensures.opening
+    c.append_read.ensures.rest c.append_read.ensures.number c.append_read.ensures.opening
 
 pub returns-clause-quiet : goal.returns-clause-quiet
 returns-clause-quiet g c =
@@ -39,4 +39,4 @@ returns-clause-quiet g c =
 pub returns-clause-goes_on : goal.returns-clause-goes_on
 returns-clause-goes_on g c =
     rested_goes_on g.S.Store.state c.args.self.now c.read_tables.new.self c.append_read.new.self c.read_tables.ensures.same c.read_tables.ensures.journal
-        c.append_read.ensures.rest c.append_read.ensures.number c.append_read.ensures.opening
+    c.append_read.ensures.rest c.append_read.ensures.number c.append_read.ensures.opening

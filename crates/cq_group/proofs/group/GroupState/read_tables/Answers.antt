@@ -16,8 +16,8 @@ pub read_table-requires-clause-there : goal.read_table-requires-clause-there
 read_table-requires-clause-there g c =
     let table = slice_index_or c.as_slice-table-items.result.now c.loop-table.table-index 0 in
     rested_has g.S.Store.state c.args.self.now c.loop-table.self table c.loop-table.invariant.2
-        (all_get (HasTable c.args.self.now) c.as_slice-table-items.result.now c.loop-table.table-index 0
-            (subst (λ xs. AllByRecursion (HasTable c.args.self.now) xs) (sym c.as_slice-table-items.ensures) c.requires.there) (omega arith))
+    (all_get (HasTable c.args.self.now) c.as_slice-table-items.result.now c.loop-table.table-index 0
+    (subst (λ xs. AllByRecursion (HasTable c.args.self.now) xs) (sym c.as_slice-table-items.ensures) c.requires.there) (omega arith))
 
 pub returns-in_err-rows-clause-same : goal.returns-in_err-rows-clause-same
 returns-in_err-rows-clause-same g c = rested_more g.S.Store.state c.args.self.now c.loop-table.self c.read_table.new.self c.loop-table.invariant.2 c.read_table.ensures.same
@@ -38,7 +38,8 @@ loop-table-preserved g c =
     let table = slice_index_or tables c.loop-table.table-index 0 in
     let put : c.put.new.self ≡ c.loop-table.seen ++ (table, c.in_ok-rows.rows) ∷ [] = search rules in
     let row : c.in_ok-rows.rows ≡ (captured group table).1 =
-        c.in_ok-rows.ensures.rows ∙ ap (λ x. x.1) (rested_captured state group c.loop-table.self table c.loop-table.invariant.1 c.loop-table.invariant.2) in
-    (put ∙ captures_more (captured group) tables c.loop-table.table-index c.loop-table.seen (table, c.in_ok-rows.rows) (omega arith) c.loop-table.invariant.0 (λ i. (table, row i)),
-     c.read_table.ensures.journal ∙ c.loop-table.invariant.1,
-     rested_more g.S.Store.state c.args.self.now c.loop-table.self c.read_table.new.self c.loop-table.invariant.2 c.read_table.ensures.same)
+    c.in_ok-rows.ensures.rows ∙ ap (λ x. x.1) (rested_captured state group c.loop-table.self table c.loop-table.invariant.1 c.loop-table.invariant.2) in (
+      put ∙ captures_more (captured group) tables c.loop-table.table-index c.loop-table.seen (table, c.in_ok-rows.rows) (omega arith) c.loop-table.invariant.0 (λ i. (table, row i)),
+      c.read_table.ensures.journal ∙ c.loop-table.invariant.1,
+      rested_more g.S.Store.state c.args.self.now c.loop-table.self c.read_table.new.self c.loop-table.invariant.2 c.read_table.ensures.same,
+    )

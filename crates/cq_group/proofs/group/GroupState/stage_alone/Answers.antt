@@ -1,4 +1,4 @@
-use Rattle.std.proofs.Common.{refl, rules}
+use Rattle.std.proofs.Common.{refl}
 use Rattle.cq_group.specs.Calls.{KeepsRows}
 use Rattle.cq_group.proofs.Turns.{keeps_go_on}
 use Rattle.cq_group.proofs.GroupLaws.{goes_on_but}

@@ -1,5 +1,5 @@
-use Rattle.std.proofs.Common.{◌≡◌, ◌∙◌, get_or, ap, refl, sym, subst, ◌+◌, ◌<◌, ◌≤◌, length, true,  rules, arith}
-use Rattle.std.proofs.lemmas.Result.{IfOk-weaker, IfErr-weaker}
+use Rattle.std.proofs.Common.{◌≡◌, ◌∙◌, get_or, ap, refl, sym, subst, ◌+◌, ◌<◌, ◌≤◌, length, true, rules, arith}
+use Rattle.std.proofs.lemmas.Result.{IfErr-weaker}
 use Rattle.cq_meaning.specs.Effects.{table_of, inserts, reply_of}
 use Rattle.std.specs.List.{AllByRecursion}
 use Rattle.cq_value.specs.Tables.{rows_of}
@@ -27,8 +27,8 @@ stage-requires-clause-alike g c =
     let is : t ≡ get_or group.tables.items c.args.place t = search rules in
     let named : t.table ≡ table_of c.args.op.now = ap (λ x. x.table) is ∙ c.requires.found t in
     alike state group.node (copies_of group) (entries_of group) t
-        (kept_at state group c.requires.kept c.args.place (table_of c.args.op.now) t c.requires.within is named)
-        (all_at (IsTableQuiet state) group.tables.items c.args.place t c.requires.quiet c.requires.within is)
+    (kept_at state group c.requires.kept c.args.place (table_of c.args.op.now) t c.requires.within is named)
+    (all_at (IsTableQuiet state) group.tables.items c.args.place t c.requires.quiet c.requires.within is)
 
 pub stage-requires-clause-ids : goal.stage-requires-clause-ids
 stage-requires-clause-ids g c =
@@ -51,11 +51,11 @@ returns-clause-ready g c =
     let one : 1 ≤ c.reserve.new.self.room = search rules in
     let room : 0 < c.reserve.new.self.room = omega (arith, one) in
     if_ok_both c.stage.result (λ reply. reply ≡ reply_of c.args.op.now (rows_of (first_rows state t.stores.items)) t.shape)
-        (AllByRecursion (λ x. IsStagedIn true c.args.op.now t.shape (state x)) c.stage.new.self.stores.items) _
-        (λ reply replied staged.
-            ready state group c.requires.kept c.args.place (table_of c.args.op.now) t c.requires.within is named _ c.args.op.now c.stage.new.self reply refl c.requires.quiet c.stage.ensures.same staged replied
-                c.requires.ids (record { node = refl; nodes = refl; room = refl; tables = keeps }) refl c.reserve.ensures.list room)
-        c.stage.ensures.reply c.stage.ensures.staged
+    (AllByRecursion (λ x. IsStagedIn true c.args.op.now t.shape (state x)) c.stage.new.self.stores.items) _
+    (λ reply replied staged.
+    ready state group c.requires.kept c.args.place (table_of c.args.op.now) t c.requires.within is named _ c.args.op.now c.stage.new.self reply refl c.requires.quiet c.stage.ensures.same staged replied
+    c.requires.ids (record { node = refl; nodes = refl; room = refl; tables = keeps }) refl c.reserve.ensures.list room)
+    c.stage.ensures.reply c.stage.ensures.staged
 
 pub returns-clause-err : goal.returns-clause-err
 returns-clause-err g c =
@@ -64,10 +64,10 @@ returns-clause-err g c =
     let t = c.index_mut.result.now in
     let is : t ≡ get_or group.tables.items c.args.place t = search rules in
     on_err c.stage.result _ _
-        (λ (rested : IsRestingTable (Lifted state Rests) t c.stage.new.self).
-            all_set (IsTableQuiet state) group.tables.items c.args.place c.stage.new.self c.requires.quiet
-                (quiet_rested state t c.stage.new.self (all_at (IsTableQuiet state) group.tables.items c.args.place t c.requires.quiet c.requires.within is) rested))
-        c.stage.ensures.err
+    (λ (rested : IsRestingTable (Lifted state Rests) t c.stage.new.self).
+    all_set (IsTableQuiet state) group.tables.items c.args.place c.stage.new.self c.requires.quiet
+    (quiet_rested state t c.stage.new.self (all_at (IsTableQuiet state) group.tables.items c.args.place t c.requires.quiet c.requires.within is) rested))
+    c.stage.ensures.err
 
 pub returns-clause-kept : goal.returns-clause-kept
 returns-clause-kept g c =
@@ -95,6 +95,6 @@ returns-clause-blame g c =
     let t = c.index_mut.result.now in
     let u = c.stage.new.self in
     IfErr-weaker c.stage.result (λ e. Blames state e t.stores.items u.stores.items) _
-        (λ e h. blames_group state e c.args.self.now.tables.items c.args.place t u c.requires.within (search rules)
-            (zip_weaker (Lifted state KeepsRows) (Lifted state GoesOn) (λ x y. keeps_go_on (state x) (state y)) t.stores.items u.stores.items c.stage.ensures.same.same.stores) h)
-        c.stage.ensures.blame
+    (λ e h. blames_group state e c.args.self.now.tables.items c.args.place t u c.requires.within (search rules)
+    (zip_weaker (Lifted state KeepsRows) (Lifted state GoesOn) (λ x y. keeps_go_on (state x) (state y)) t.stores.items u.stores.items c.stage.ensures.same.same.stores) h)
+    c.stage.ensures.blame

@@ -1,4 +1,3 @@
-use Rattle.std.proofs.Common.{rules}
 use Rattle.std.proofs.lemmas.Result.{IfErr-weaker}
 use Rattle.cq_group.specs.Groups.{stores_of}
 use Rattle.cq_group.specs.Calls.{Blames}
@@ -16,7 +15,7 @@ returns-clause-blame g c =
     let old = stores_of c.discard_write.new.self in
     let new = stores_of c.stage_alone.new.self in
     IfErr-weaker c.stage_alone.result (λ e. Blames state e old new) _
-        (λ e h. blames_later state e (stores_of c.args.self.now) old new c.discard_write.ensures.goes_on.stores h) c.stage_alone.ensures.blame
+    (λ e h. blames_later state e (stores_of c.args.self.now) old new c.discard_write.ensures.goes_on.stores h) c.stage_alone.ensures.blame
 
 pub returns-clause-steady : goal.returns-clause-steady
 returns-clause-steady g c =
@@ -24,4 +23,4 @@ returns-clause-steady g c =
     let old = stores_of c.discard_write.new.self in
     let new = stores_of c.stage_alone.new.self in
     IfErr-weaker c.stage_alone.result (λ e. Blames state e old new) _
-        (λ e h steady. blames_none state e c.args.self.now new steady (blames_later state e (stores_of c.args.self.now) old new c.discard_write.ensures.goes_on.stores h)) c.stage_alone.ensures.blame
+    (λ e h steady. blames_none state e c.args.self.now new steady (blames_later state e (stores_of c.args.self.now) old new c.discard_write.ensures.goes_on.stores h)) c.stage_alone.ensures.blame

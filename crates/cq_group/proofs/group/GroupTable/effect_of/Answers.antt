@@ -1,4 +1,4 @@
-use Rattle.std.proofs.Common.{◌≡◌, ◌∙◌, subst, sym, ap, rules}
+use Rattle.std.proofs.Common.{◌∙◌, subst, sym, ap}
 use Rattle.cq_value.specs.Tables.{Table}
 use Rattle.cq_engine.specs.WriteEffects.{IsEffect}
 use Rattle.cq_group.proofs.TableLaws.{first_at}
@@ -13,4 +13,4 @@ pub returns-in-Ok-clause-effect : goal.returns-in-Ok-clause-effect
 returns-in-Ok-clause-effect g c =
     let first = first_at g.S.Store.state c.args.self.now.stores.items c.in_ok-rows.rows c.requires.alike.some_store c.in_ok-rows.ensures.rows in
     subst (λ t. IsEffect c.args.op.now t c.args.self.now.shape c.in-Ok.effect) first
-        (subst (λ shape. IsEffect c.args.op.now c.in_ok-rows.rows shape c.in-Ok.effect) c.scan.ensures.same.same.shape c.in-Ok.ensures)
+    (subst (λ shape. IsEffect c.args.op.now c.in_ok-rows.rows shape c.in-Ok.effect) c.scan.ensures.same.same.shape c.in-Ok.ensures)

@@ -1,5 +1,4 @@
 use Rattle.std.proofs.Common.{rules}
-use Rattle.std.proofs.lemmas.Result.{IfErr-weaker}
 use Rattle.cq_group.specs.Calls.{Rests, Stages, KeepsRows, Lifted, IsRestingTable}
 use Rattle.cq_group.proofs.TableLaws.{table_trans, table_weaker, takes_all, staged_all, quiet_staged, blames_later, rested_go_on}
 use Rattle.cq_group.proofs.Turns.{rests_keep, stages_keep, rests_more, stages_after}
@@ -18,15 +17,15 @@ pub returns-in_err-stage_effect-clause-same : goal.returns-in_err-stage_effect-c
 returns-in_err-stage_effect-clause-same g c =
     let state = g.S.Store.state in
     table_weaker (Lifted state Rests) (Lifted state KeepsRows) (λ a b. rests_keep (state a) (state b)) c.args.self.now c.stage_effect.new.self
-        (table_trans (Lifted state Rests) (Lifted state Rests) (Lifted state Rests) (λ a b d. rests_more (state a) (state b) (state d))
-            c.args.self.now c.effect_of.new.self c.stage_effect.new.self c.effect_of.ensures.same c.in_err-stage_effect.ensures.err)
+    (table_trans (Lifted state Rests) (Lifted state Rests) (Lifted state Rests) (λ a b d. rests_more (state a) (state b) (state d))
+    c.args.self.now c.effect_of.new.self c.stage_effect.new.self c.effect_of.ensures.same c.in_err-stage_effect.ensures.err)
 
 pub returns-in_err-stage_effect-clause-err : goal.returns-in_err-stage_effect-clause-err
 returns-in_err-stage_effect-clause-err g c =
     let state = g.S.Store.state in
     let rested : IsRestingTable (Lifted state Rests) c.args.self.now c.stage_effect.new.self =
-        table_trans (Lifted state Rests) (Lifted state Rests) (Lifted state Rests) (λ a b d. rests_more (state a) (state b) (state d))
-            c.args.self.now c.effect_of.new.self c.stage_effect.new.self c.effect_of.ensures.same c.in_err-stage_effect.ensures.err in
+    table_trans (Lifted state Rests) (Lifted state Rests) (Lifted state Rests) (λ a b d. rests_more (state a) (state b) (state d))
+    c.args.self.now c.effect_of.new.self c.stage_effect.new.self c.effect_of.ensures.same c.in_err-stage_effect.ensures.err in
     search rules
 
 pub returns-in_err-stage_effect-clause-blame : goal.returns-in_err-stage_effect-clause-blame
@@ -43,8 +42,8 @@ returns-clause-staged g c =
     let state = g.S.Store.state in
     let changes = c.in_ok-effect.effect.changes in
     staged_all state c.args.op.now changes c.args.self.now c.stage_effect.new.self c.requires.alike c.in_ok-effect.ensures.effect.changed
-        (table_trans (Lifted state Rests) (Lifted state (Stages changes)) (Lifted state (Stages changes)) (λ a b d. stages_after changes (state a) (state b) (state d))
-            c.args.self.now c.effect_of.new.self c.stage_effect.new.self c.effect_of.ensures.same c.in_ok-stage_effect.ensures.ok)
+    (table_trans (Lifted state Rests) (Lifted state (Stages changes)) (Lifted state (Stages changes)) (λ a b d. stages_after changes (state a) (state b) (state d))
+    c.args.self.now c.effect_of.new.self c.stage_effect.new.self c.effect_of.ensures.same c.in_ok-stage_effect.ensures.ok)
 
 pub returns-clause-refused : goal.returns-clause-refused
 returns-clause-refused g c = λ duplicate.
@@ -55,5 +54,5 @@ returns-clause-same g c =
     let state = g.S.Store.state in
     let changes = c.in_ok-effect.effect.changes in
     table_weaker (Lifted state (Stages changes)) (Lifted state KeepsRows) (λ a b. stages_keep changes (state a) (state b)) c.args.self.now c.stage_effect.new.self
-        (table_trans (Lifted state Rests) (Lifted state (Stages changes)) (Lifted state (Stages changes)) (λ a b d. stages_after changes (state a) (state b) (state d))
-            c.args.self.now c.effect_of.new.self c.stage_effect.new.self c.effect_of.ensures.same c.in_ok-stage_effect.ensures.ok)
+    (table_trans (Lifted state Rests) (Lifted state (Stages changes)) (Lifted state (Stages changes)) (λ a b d. stages_after changes (state a) (state b) (state d))
+    c.args.self.now c.effect_of.new.self c.stage_effect.new.self c.effect_of.ensures.same c.in_ok-stage_effect.ensures.ok)

@@ -1,0 +1,103 @@
+ghost use Rattle.std.specs.Prelude.{◌≡◌, ◌<◌, [], ◌∷◌, IfOk, length};
+ghost use Rattle.cq_value.specs.declared.change.Change.TheVariants.{Add};
+ghost use Rattle.cq_store.specs.Stores.{IsSpare};
+
+use crate::fault::FaultStore;
+use crate::mem::MemStore;
+use crate::store::{BoxedStore, Store, StoreError};
+use crate::worker::{TakeError, Worker};
+use cq_value::{Change, Changes, NoMemory, Row, Value};
+use std::alloc::Global;
+use std::test::Fail;
+
+/// One change: the row of one number, under the id 0.
+fn first_row(alloc: Global, number: i128) -> Result<Changes, NoMemory>
+    ensures { IfOk result (λ changes. (row : _) × (changes ≡ Add 0 row ∷ [])) }
+{
+    let mut row = Row::new(alloc);
+    row.put(Value::Int(number))?;
+    let mut changes = Changes::new(alloc);
+    changes.put(Change::Add(0, row))?;
+    Ok(changes)
+}
+
+#[test]
+fn rows_are_there_once_committed(rt: HostRuntime) -> Result<(), Fail> {
+    let alloc = rt.alloc();
+    let mut store: BoxedStore = Box::new(alloc, MemStore::new(alloc, 7))?;
+    store.adopt(102008);
+    store.stage(&first_row(alloc, 5)?)?;
+    assert_eq!(rt; store.scan()?.len(), 0);
+    store.commit();
+    let rows = store.scan()?;
+    assert_eq!(rt; rows.len(), 1);
+    assert_eq!(rt; rows.next(), 1);
+    assert!(rt; matches!(rows.row(0).get(0), Some(Value::Int(5))));
+    assert_eq!(rt; store.node(), 7);
+    assert_eq!(rt; store.shard(), 102008);
+    Ok(())
+}
+
+#[test]
+fn discarded_rows_are_gone(rt: HostRuntime) -> Result<(), Fail> {
+    let alloc = rt.alloc();
+    let mut store: BoxedStore = Box::new(alloc, MemStore::new(alloc, 7))?;
+    store.adopt(102008);
+    store.stage(&first_row(alloc, 5)?)?;
+    store.discard();
+    store.commit();
+    assert_eq!(rt; store.scan()?.len(), 0);
+    store.stage(&first_row(alloc, 6)?)?;
+    store.commit();
+    assert_eq!(rt; store.scan()?.len(), 1);
+    store.release();
+    assert_eq!(rt; store.shard(), 0);
+    assert_eq!(rt; store.scan()?.len(), 0);
+    assert_eq!(rt; store.faults(), 0);
+    Ok(())
+}
+
+#[test]
+fn listed_calls_fail(rt: HostRuntime) -> Result<(), Fail> {
+    let alloc = rt.alloc();
+    let fails = [2, 4].to_vec(alloc)?;
+    let mut store: BoxedStore = Box::new(alloc, FaultStore::new(alloc, 7, fails))?;
+    store.adopt(102008);
+    store.stage(&first_row(alloc, 5)?)?;
+    assert_eq!(rt; store.scan().err(), Some(StoreError::Failed));
+    assert_eq!(rt; store.faults(), 1);
+    store.commit();
+    assert_eq!(rt; store.scan()?.len(), 1);
+    assert_eq!(rt; store.scan().err(), Some(StoreError::Failed));
+    assert_eq!(rt; store.faults(), 2);
+    assert_eq!(rt; store.scan()?.len(), 1);
+    assert_eq!(rt; store.faults(), 2);
+    Ok(())
+}
+
+#[test]
+fn stores_are_taken_and_given(rt: HostRuntime) -> Result<(), Fail> {
+    let alloc = rt.alloc();
+    let mut stores: Vec<BoxedStore> = Vec::new(alloc);
+    let memory: BoxedStore = Box::new(alloc, MemStore::new(alloc, 3))?;
+    stores.push(memory)?;
+    let faulty: BoxedStore = Box::new(alloc, FaultStore::new(alloc, 3, [1].to_vec(alloc)?))?;
+    stores.push(faulty)?;
+    let mut worker = Worker::new(3, stores);
+    assert_eq!(rt;
+        worker.take(3).err(),
+        Some(TakeError::NoRoom { free: 2, needed: 3 })
+    );
+    let mut taken = worker.take(1)?;
+    assert_eq!(rt; taken.len(), 1);
+    assert_eq!(rt; worker.stores().len(), 1);
+    let mut store = taken.pop().ok_or("none was taken")?;
+    assert_eq!(rt; store.scan()?.len(), 0);
+    store.adopt(102009);
+    store.release();
+    worker.give(store);
+    assert_eq!(rt; worker.stores().len(), 2);
+    worker.make_room(5)?;
+    assert_eq!(rt; worker.take(2)?.len(), 2);
+    Ok(())
+}
