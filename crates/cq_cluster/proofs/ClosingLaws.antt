@@ -1,6 +1,5 @@
 -- The shards that stand last in the workers' lists, as group after group hands its store back.
-use Rattle.std.proofs.Common.{◌≡◌, ◌≢◌, ◌⊎◌, inl, inr, ℕ, zero, suc, ◌+◌, ◌-◌, ◌%◌, ◌/◌, ◌<◌, ◌≤◌, Bool, true, false, cond, nat_eq, List, [], ◌∷◌, ◌++◌, length, get_or, map, refl, sym, ap, subst, ◌∙◌, arith, Some, None, slice_get, All, length-set, length-append, eq-eqb, append_assoc, append-nil}
-use Rattle.std.specs.List.{AllByRecursion}
+use Rattle.std.proofs.Common.{◌≡◌, ◌≢◌, inl, inr, ℕ, suc, ◌+◌, ◌-◌, ◌%◌, ◌<◌, true, false, cond, nat_eq, List, [], ◌∷◌, ◌++◌, length, get_or, map, refl, sym, ap, subst, ◌∙◌, arith, Some, slice_get, length-set, length-append, eq-eqb, append_assoc, append-nil}
 use Rattle.std.proofs.Math.ListN.{set}
 use Rattle.std.proofs.lemmas.Bool.{ne_eqb}
 use Rattle.std.proofs.lemmas.List.{map-append, length-map}
@@ -13,8 +12,8 @@ use Rattle.cq_store.specs.Workers.{room}
 use Rattle.cq_store.specs.declared.worker.Worker.{Worker}
 use Rattle.cq_group.specs.declared.group.GroupState.{GroupState}
 use Rattle.cq_group.specs.Groups.{entries_of, stores_of}
-use Rattle.cq_cluster.specs.Cluster.{nodes, node_of, groups_on, stores_in, IsWaiting, IsWorkerAt, AreWorkers, IsGroupAt, AreGroups}
-use Rattle.cq_cluster.specs.Ending.{IsShard, journals_on, AreShards, IsWorkerFinal, IsFinal, AreJournals}
+use Rattle.cq_cluster.specs.Cluster.{nodes, node_of, IsWaiting, AreWorkers, IsGroupAt, AreGroups}
+use Rattle.cq_cluster.specs.Ending.{journals_on, AreShards, IsFinal, AreJournals}
 use Rattle.cq_cluster.specs.Moving.{AreGroupsFrom, HaveRoom, HasBack, HaveBack}
 use Rattle.cq_cluster.proofs.ListLaws.{got_after, got_other, got_more, item_at, there}
 use Rattle.cq_cluster.proofs.GroupLaws.{store_of_group, groups_first, groups_next}

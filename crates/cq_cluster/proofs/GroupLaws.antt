@@ -1,10 +1,9 @@
 -- The groups of a table, in order, and the one store of each.
-use Rattle.std.proofs.Common.{nat_eq, false, All, append-nil, ◌≡◌, ◌≢◌, ◌⊎◌, inl, inr, ℕ, zero, suc, ◌+◌, ◌%◌, ◌<◌, ◌≤◌, List, [], ◌∷◌, ◌++◌, length, map, refl, sym, ap, subst, ◌∙◌, arith, Some, None, slice_get, All, append-nil}
+use Rattle.std.proofs.Common.{nat_eq, false, All, append-nil, ◌≡◌, ◌≢◌, inl, inr, ℕ, suc, ◌+◌, ◌<◌, List, [], ◌∷◌, ◌++◌, length, map, refl, sym, ap, subst, ◌∙◌, arith, All, append-nil}
 use Rattle.std.specs.Prelude.{IsTrue}
 use Rattle.std.proofs.Math.ListN.{set}
 use Rattle.std.proofs.lemmas.Bool.{ne_eqb}
 use Rattle.std.proofs.lemmas.List.Elements.{recursion_from_All, All-same, All-weaker, All-head, All-cons, All-nil}
-use Rattle.std.proofs.lemmas.Option.{slice_get_within}
 use Rattle.cq_value.specs.declared.schema.Shape.{Shape}
 use Rattle.cq_store.specs.Stores.{StoreState}
 use Rattle.cq_group.specs.declared.group.GroupTable.{GroupTable}

@@ -1,14 +1,14 @@
 -- How many stores wait in the workers' lists as groups take stores out of them and hand them back.
-use Rattle.std.proofs.Common.{◌≡◌, ◌≢◌, ◌⊎◌, inl, inr, ℕ, zero, suc, ◌+◌, ◌-◌, ◌%◌, ◌/◌, ◌<◌, ◌≤◌, List, [], ◌∷◌, ◌++◌, length, get_or, map, refl, sym, ap, subst, ◌∙◌, arith, Some, None, slice_get, All, length-set, length-append, Result, Ok, Err, OnOk, OnErr}
+use Rattle.std.proofs.Common.{◌≡◌, ◌≢◌, inl, inr, ℕ, ◌+◌, ◌%◌, ◌<◌, ◌≤◌, List, [], ◌∷◌, ◌++◌, length, get_or, refl, sym, ap, subst, ◌∙◌, arith, Some, slice_get, All, length-set, length-append, Result, Ok, Err, OnOk, OnErr}
 use Rattle.std.proofs.Math.ListN.{set}
 use Rattle.std.proofs.lemmas.Bool.{cases_lt}
 use Rattle.std.proofs.lemmas.Option.{slice_get_read}
 use Rattle.cq_store.specs.Stores.{StoreState}
 use Rattle.cq_store.specs.Workers.{room}
 use Rattle.cq_store.specs.declared.worker.Worker.{Worker}
-use Rattle.cq_cluster.specs.Cluster.{nodes, node_of, groups_on, stores_in, IsWaiting, IsWorkerAt, AreWorkers, IsIdle, AreIdle}
+use Rattle.cq_cluster.specs.Cluster.{nodes, node_of, groups_on, stores_in, IsWaiting, IsWorkerAt, AreWorkers, AreIdle}
 use Rattle.cq_cluster.specs.Moving.{AllWait, Lacks, AreInUse, HaveRoom}
-use Rattle.cq_cluster.proofs.ListLaws.{got_after, got_other, item_at, there}
+use Rattle.cq_cluster.proofs.ListLaws.{got_after, got_other, there}
 
 -- before a group is opened the workers are as they were handed in
 pub workers_self : {X : Type 0} (state : X → StoreState) (workers : List (Worker X)) → AreIdle state workers → AreWorkers state workers 0 workers

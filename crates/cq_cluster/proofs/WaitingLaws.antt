@@ -1,10 +1,9 @@
 -- A worker's list, all of whose stores wait, as stores are taken out and put back.
-use Rattle.std.proofs.Common.{◌≡◌, ℕ, zero, suc, ◌+◌, ◌<◌, ◌≤◌, List, [], ◌∷◌, ◌++◌, length, map, refl, sym, ap, subst, ◌∙◌, arith, All, nat_eq, get_or}
+use Rattle.std.proofs.Common.{◌≡◌, ℕ, ◌<◌, List, [], ◌∷◌, length, map, refl, sym, ap, subst, ◌∙◌, arith, All, get_or}
 use Rattle.std.proofs.Math.ListN.{set}
-use Rattle.std.specs.Prelude.{IsTrue}
 use Rattle.std.proofs.lemmas.List.{length-map}
 use Rattle.std.proofs.lemmas.List.Elements.{All-head, All-tail, All-nil, All-cons}
-use Rattle.cq_store.specs.Stores.{StoreState, IsSpare, Becomes}
+use Rattle.cq_store.specs.Stores.{StoreState, Becomes}
 use Rattle.cq_store.specs.Workers.{spares, taken, kept}
 use Rattle.cq_cluster.specs.Cluster.{IsWaiting}
 use Rattle.cq_cluster.specs.Moving.{IsAdopted}

@@ -1,10 +1,10 @@
-ghost use Rattle.std.specs.Prelude.{◌≡◌, ◌+◌, ◌-◌, ◌<◌, ◌≤◌, ◌++◌, ℕ, List, [], ◌∷◌, length, map, slice_get, Some};
+ghost use Rattle.std.specs.Prelude.{◌≡◌, ◌+◌, ◌-◌, ◌<◌, ◌≤◌, ◌++◌, List, [], ◌∷◌, length, map, slice_get, Some};
 ghost use Rattle.cq_value.specs.declared.schema.Shape.{Shape};
 ghost use Rattle.cq_tree.specs.declared.journal.Entry.{Entry};
-ghost use Rattle.cq_group.specs.Groups.{entries_of, stores_of};
 ghost use Rattle.cq_store.specs.Workers.{room};
 ghost use Rattle.cq_store.specs.declared.worker.Worker.{Worker};
-ghost use Rattle.cq_cluster.specs.Cluster.{node_of, IsGroupAt, AreGroups, AreWorkers};
+ghost use Rattle.cq_group.specs.Groups.{entries_of, stores_of};
+ghost use Rattle.cq_cluster.specs.Cluster.{IsGroupAt, AreGroups, AreWorkers};
 ghost use Rattle.cq_cluster.specs.Ending.{IsFinal, AreJournals};
 ghost use Rattle.cq_cluster.specs.Moving.{IsGroupOn, HaveRoom, HaveBack};
 
@@ -38,8 +38,9 @@ fn close_at<S: Store>(workers: &mut Vec<Worker<S>>, group: GroupState<S>) -> Jou
     close_on(worker, group)
 }
 
-/// Closes the groups: their journals are put last in order, and each group's store last in the list of its worker, as it is.
-/// Takes no memory: there is room for the journals and for the stores.
+/// Closes the groups of a table: the journals stand in order of group, and each group's store last in the list of its
+/// worker, as it is. Takes no memory: the list of journals is empty and has room for them, and the workers have room for
+/// the stores that the groups took from them.
 pub fn close_groups<S: Store>(
     workers: &mut Vec<Worker<S>>,
     groups: Vec<GroupState<S>>,

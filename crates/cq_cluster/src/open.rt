@@ -1,9 +1,9 @@
-ghost use Rattle.std.specs.Prelude.{◌≡◌, ◌+◌, ◌%◌, ◌<◌, ◌≤◌, ◌++◌, [], ◌∷◌, ℕ, List, length, All, IfOk, IfErr, OnOk, OnErr};
-ghost use Rattle.cq_group.specs.Groups.{entries_of, stores_of};
+ghost use Rattle.std.specs.Prelude.{◌≡◌, ◌+◌, ◌<◌, ◌≤◌, [], length, All, IfOk, IfErr, OnOk, OnErr};
+ghost use Rattle.cq_value.specs.declared.schema.Shape.{Shape};
 ghost use Rattle.cq_store.specs.Workers.{room};
+ghost use Rattle.cq_group.specs.Groups.{entries_of};
 ghost use Rattle.cq_cluster.specs.Cluster.{nodes, node_of, IsWaiting, IsGroupAt, AreGroups, AreIdle, AreWorkers};
 ghost use Rattle.cq_cluster.specs.Moving.{IsSteadyOn, IsGroupOn, AllWait, Lacks, AreInUse};
-ghost use Rattle.cq_value.specs.declared.schema.Shape.{Shape};
 
 use crate::worker::{release_all, take_waiting};
 use cq_group::{Closed, GroupState};
@@ -154,9 +154,11 @@ fn undo_all<S: Store>(workers: &mut Vec<Worker<S>>, groups: &mut Vec<GroupState<
     }
 }
 
-/// Opens the groups of a table that is distributed into so many shards, with no rows: each on the first spare store of its
-/// worker, in turn (Citus, `create_distributed_table`: shards are placed on the workers round-robin). `Err`: no group is
-/// open, and all stores are spare again.
+/// Opens the groups of a table that is distributed into 1 to 128 shards, with no rows: each on the first spare store of its
+/// worker, and the workers take turns (Citus, `create_distributed_table`: shards are placed on the workers round-robin).
+/// No group is open before, and all stores of the workers wait.
+///
+/// Errors: want of memory. No group is open, and all stores are spare again.
 pub fn open_groups<S: Store>(
     alloc: Global,
     workers: &mut Vec<Worker<S>>,

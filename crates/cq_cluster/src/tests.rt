@@ -1,6 +1,6 @@
 //! Four groups over two workers, whose stores are of one type, and boxed.
 
-ghost use Rattle.std.specs.Prelude.{◌≡◌, ◌≤◌, ◌+◌, ℕ, All, IfOk, length};
+ghost use Rattle.std.specs.Prelude.{◌≡◌, ◌≤◌, ◌+◌, ℕ, [], All, IfOk, length};
 ghost use Rattle.cq_cluster.specs.Cluster.{IsWaiting, AreIdle};
 
 use crate::{close_groups, open_groups};

@@ -6,7 +6,7 @@ ghost use Rattle.cq_cluster.specs.Moving.{IsSteadyOn, AllWait, Lacks};
 use cq_store::{Store, TakeError, Worker};
 use cq_value::NoMemory;
 
-/// Takes a store out of a worker's list, all of which wait. `Err`: the list stays.
+/// Takes one store out of a worker's list, in which all wait. `Err`: the list stays.
 pub(crate) fn take_waiting<S: Store>(worker: &mut Worker<S>) -> Result<Vec<S>, NoMemory>
     requires waiting { AllWait S.state worker.old }
     requires some { 0 < length worker.old.stores.items }

@@ -1,4 +1,4 @@
-use Rattle.std.proofs.Common.{◌≡◌, ◌+◌, ◌-◌, ◌%◌, Some, slice_get, length, refl, arith}
+use Rattle.std.proofs.Common.{◌≡◌, ◌-◌, Some, slice_get, length, refl, arith}
 use Rattle.std.proofs.lemmas.Option.{slice_get_read, slice_get_within}
 use Rattle.cq_cluster.proofs.ClosingLaws.{back_more}
 use Rattle.cq_cluster.proofs.close.close_at.Goals as goal

@@ -1,4 +1,4 @@
-use Rattle.std.proofs.Common.{◌≡◌, ◌+◌, ◌<◌, length, arith, ◌∙◌, length-set}
+use Rattle.std.proofs.Common.{◌≡◌, length, arith, ◌∙◌, length-set}
 use Rattle.std.proofs.Math.ListN.{set}
 use Rattle.cq_cluster.specs.Cluster.{node_of, shard_of}
 use Rattle.cq_cluster.proofs.WaitingLaws.{only_adopted}

@@ -1,4 +1,4 @@
-use Rattle.std.proofs.Common.{◌≡◌, ℕ, List, sym, subst}
+use Rattle.std.proofs.Common.{ℕ, sym, subst}
 use Rattle.cq_cluster.specs.Cluster.{AreWorkers}
 use Rattle.cq_cluster.proofs.OpeningLaws.{workers_self}
 use Rattle.cq_cluster.proofs.open.open_groups.Goals as goal

@@ -1,4 +1,4 @@
-use Rattle.std.proofs.Common.{rules, ◌≡◌, ◌≤◌, ◌%◌, ℕ, List, length, sym, ◌∙◌, ap, subst, arith, length-set}
+use Rattle.std.proofs.Common.{rules, ◌≡◌, ◌%◌, ℕ, List, length, sym, ◌∙◌, ap, subst, arith, length-set}
 use Rattle.cq_group.specs.declared.group.GroupState.{GroupState}
 use Rattle.cq_cluster.specs.Cluster.{AreGroups}
 use Rattle.cq_cluster.proofs.GroupLaws.{groups_less}

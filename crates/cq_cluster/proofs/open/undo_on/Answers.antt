@@ -1,4 +1,4 @@
-use Rattle.std.proofs.Common.{◌≡◌, ◌+◌, ◌<◌, ◌≤◌, length, arith, ap, subst, ◌∙◌, ℕ}
+use Rattle.std.proofs.Common.{length, arith, ap, subst, ◌∙◌, ℕ}
 use Rattle.std.proofs.lemmas.List.Elements.{All-same}
 use Rattle.cq_cluster.specs.Moving.{IsSteadyOn, Lacks}
 use Rattle.cq_cluster.proofs.GroupLaws.{stores_of_group}

@@ -1,4 +1,4 @@
-use Rattle.std.proofs.Common.{◌≡◌, ◌+◌, ◌<◌, ◌≤◌, length, All}
+use Rattle.std.proofs.Common.{◌≡◌, ◌+◌, ◌≤◌, length, All}
 use Rattle.cq_store.specs.Workers.{room}
 use Rattle.cq_cluster.specs.Moving.{IsSteadyOn, AllWait}
 use Rattle.cq_cluster.proofs.worker.release_all.Given as goal
