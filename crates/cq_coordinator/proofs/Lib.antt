@@ -1,0 +1,4 @@
+pub mod Answering
+pub mod Bound
+pub mod GroupCalls
+pub mod Opening

@@ -1,0 +1,2 @@
+pub mod Coordination
+pub mod Responses
