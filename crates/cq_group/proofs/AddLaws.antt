@@ -16,8 +16,9 @@ use Rattle.cq_group.specs.declared.group.GroupTable.{GroupTable}
 use Rattle.cq_group.specs.declared.group.GroupState.{GroupState}
 use Rattle.cq_group.specs.Groups.{entries_of, stores_of, Outline, outline, outlines, shape_at, or_no_shape, copies_of, IsNamed, AreReplicasFrom, IsTableKept, IsKept, AreDistinct, IsTableQuiet, IsQuiet}
 use Rattle.cq_group.specs.Opening.{AreFreshFrom, AreFresh, first_shard}
+use Rattle.cq_group.proofs.Zips.{all_weaker, all_push}
 use Rattle.cq_group.proofs.PlaceLaws.{not_same}
-use Rattle.cq_group.proofs.GroupLaws.{copies_same, all_weaker}
+use Rattle.cq_group.proofs.GroupLaws.{copies_same}
 
 -- a table that is found is found beside one more, and its shape is the same
 found_more : (os : List Outline) (o : Outline) (table : ℕ) → IsSome (shape_at os table) → shape_at (os ++ o ∷ []) table ≡ shape_at os table
@@ -79,10 +80,6 @@ distinct_more (p ∷ os) o h none =
     let first = none_first (nat_eq p.0 o.0) p.1 (shape_at os o.0) none in
     (none_more os o p.0 h.0 (not_same p.0 o.0 first.0), distinct_more os o h.1 first.1)
 
-all_push : {Y : Type 0} (P : Y → Type 0) (ys : List Y) (y : Y) → AllByRecursion P ys → P y → AllByRecursion P (ys ++ y ∷ [])
-all_push P [] y h p = (p, tt)
-all_push P (z ∷ zs) y h p = (h.0, all_push P zs y h.1 p)
-
 module _ {X : Type 0} (state : X → StoreState) where
   fresh_replicas : (place node : ℕ) (es : List Entry) (table : ℕ) (shape : Shape) (shard : ℕ) (ss : List StoreState) → replay table shape es ≡ empty_table → AreFreshFrom place node shard ss →
       AreReplicasFrom place node es table shape shard ss
@@ -134,7 +131,7 @@ module _ {X : Type 0} (state : X → StoreState) where
             (all_got (λ (x : Entry). IsNamed (outlines g) x.kind) (entries_of g) place e k.named is) (k.replied place e is)));
         named = subst (λ rs. AllByRecursion (λ (x : Entry). IsNamed rs x.kind) (entries_of h)) (sym os)
             (subst (λ es. AllByRecursion (λ (x : Entry). IsNamed more x.kind) es) (sym entries)
-            (all_weaker state (λ (x : Entry). IsNamed (outlines g) x.kind) (λ (x : Entry). IsNamed more x.kind) (λ x named. named_more (outlines g) (outline v) x.kind named) (entries_of g) k.named));
+            (all_weaker (λ (x : Entry). IsNamed (outlines g) x.kind) (λ (x : Entry). IsNamed more x.kind) (λ x named. named_more (outlines g) (outline v) x.kind named) (entries_of g) k.named));
         tables =
             subst (λ n. AllByRecursion (IsTableKept state n (copies_of h) (entries_of h)) h.tables.items) (sym node)
             (subst (λ c. AllByRecursion (IsTableKept state g.node c (entries_of h)) h.tables.items) (sym (copies_same state g h node nodes))

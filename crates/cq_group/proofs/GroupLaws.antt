@@ -15,7 +15,7 @@ use Rattle.cq_group.specs.declared.group.GroupTable.{GroupTable}
 use Rattle.cq_group.specs.declared.group.GroupState.{GroupState}
 use Rattle.cq_group.specs.Groups.{entries_of, stores_of, outline, outlines, shape_at, or_no_shape, shapes, copies_of, IsNamed, AreReplicasFrom, IsTableKept, IsKept, AreDistinct, IsTableQuiet, IsQuiet, IsSteady}
 use Rattle.cq_group.specs.Calls.{Rests, KeepsRows, GoesOn, Failed, Lifted, Blames, IsSameTable, IsRestingTable, IsSameBut, GroupGoesOn, captured}
-use Rattle.cq_group.proofs.Zips.{zip_trans, zip_weaker, zip_flat, all_along, some_not}
+use Rattle.cq_group.proofs.Zips.{zip_trans, zip_weaker, zip_flat, all_along, some_not, all_weaker, all_push, all_append}
 use Rattle.cq_group.proofs.TableLaws.{table_trans, table_weaker, quiet_rested}
 use Rattle.cq_group.proofs.JournalLaws.{replay_more, replied_more}
 use Rattle.std.proofs.lemmas.Bool.{false≢true}
@@ -124,14 +124,6 @@ module _ {X : Type 0} (state : X → StoreState) where
     replicas = replicas_unmoved 0 node es more t.table t.shape t.shard (map state t.stores.items) e h.replicas;
   }
 
-  pub all_weaker : {Y : Type 0} (P Q : Y → Type 0) → ((y : Y) → P y → Q y) → (ys : List Y) → AllByRecursion P ys → AllByRecursion Q ys
-  all_weaker P Q f [] h = tt
-  all_weaker P Q f (y ∷ ys) h = (f y h.0, all_weaker P Q f ys h.1)
-
-  all_push : {Y : Type 0} (P : Y → Type 0) (ys : List Y) (y : Y) → AllByRecursion P ys → P y → AllByRecursion P (ys ++ y ∷ [])
-  all_push P [] y h p = (p, tt)
-  all_push P (z ∷ zs) y h p = (h.0, all_push P zs y h.1 p)
-
   -- a group with one more entry, which its tables hold
   pub kept_more : (g h : GroupState X) (e : Entry) → IsKept state g → h.node ≡ g.node → h.nodes ≡ g.nodes → h.room ≡ g.room → outlines h ≡ outlines g → length (stores_of h) ≡ length (stores_of g) →
       entries_of h ≡ entries_of g ++ e ∷ [] → IsReplied (shapes g) (entries_of g) e.kind → IsNamed (outlines g) e.kind →
@@ -189,10 +181,6 @@ module _ {X : Type 0} (state : X → StoreState) where
 
   pub steady_along : (g h : GroupState X) → AllZip (IsSameTable (Lifted state GoesOn)) g.tables.items h.tables.items → IsSteady state g → IsSteady state h
   steady_along g h s k = steady_tables g.tables.items h.tables.items k s
-
-  all_append : {Y : Type 0} (P : Y → Type 0) (xs ys : List Y) → AllByRecursion P xs → AllByRecursion P ys → AllByRecursion P (xs ++ ys)
-  all_append P [] ys h k = k
-  all_append P (x ∷ xs) ys h k = (h.0, all_append P xs ys h.1 k)
 
   steady_stores : (ts : List (GroupTable X)) → AllByRecursion (λ (t : GroupTable X). AllByRecursion (λ (x : X). IsTrue (state x).steady) t.stores.items) ts →
       AllByRecursion (λ (x : X). IsTrue (state x).steady) (flat_map (λ (t : GroupTable X). t.stores.items) ts)

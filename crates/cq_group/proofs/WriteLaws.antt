@@ -1,5 +1,5 @@
 -- A write that is staged in one table of a group.
-use Rattle.std.proofs.Common.{◌≡◌, ◌∙◌, ◌+◌, ℕ, ◌<◌, ◌≤◌, Bool, true, false, if◌then◌else◌, nat_eq, IsSome, Some, List, [], ◌∷◌, length, get_or, map, refl, sym, ap, subst, eq-eqb, arith}
+use Rattle.std.proofs.Common.{◌≡◌, ◌∙◌, ◌+◌, ℕ, ◌<◌, ◌≤◌, true, false, nat_eq, IsSome, Some, List, [], ◌∷◌, length, get_or, map, refl, sym, ap, subst, eq-eqb, arith}
 use Rattle.std.proofs.Math.ListN.{set}
 use Rattle.std.specs.List.{AllByRecursion, AllZip}
 use Rattle.cq_value.specs.declared.schema.Shape.{Shape}
@@ -7,10 +7,7 @@ use Rattle.cq_value.specs.Tables.{Table, rows_of}
 use Rattle.cq_tree.specs.declared.journal.Entry.{Entry}
 use Rattle.cq_tree.specs.declared.journal.Reply.{Reply}
 use Rattle.cq_tree.specs.declared.journal.ShardOp.{ShardOp}
-use Rattle.cq_tree.specs.declared.journal.ShardOp.TheVariants.{Insert}
-use Rattle.cq_tree.specs.declared.journal.Reply.TheVariants.{Count, Duplicate}
-use Rattle.cq_value.specs.declared.value.Value.{Value}
-use Rattle.cq_meaning.specs.Effects.{repeats, reply_of, table_of, inserts}
+use Rattle.cq_meaning.specs.Effects.{reply_of, table_of, inserts}
 use Rattle.cq_history.specs.Journals.{replay}
 use Rattle.cq_store.specs.Stores.{StoreState}
 use Rattle.cq_group.specs.declared.group.GroupTable.{GroupTable}
@@ -134,10 +131,6 @@ module _ {X : Type 0} (state : X → StoreState) where
           staged = subst (λ ts. AllByRecursion (IsTableStaged state op) ts) (sym tables) (staged_set op u e q r s);
         }
 
-  -- where the replay is the same
-  pub next_along : (g h : GroupState X) (table : ℕ) → outlines h ≡ outlines g → entries_of h ≡ entries_of g → next_id h table ≡ next_id g table
-  next_along g h table o e = λ i. (replay table (or_no_shape (shape_at (o i) table)) (e i)).next
-
   pub goes_on_twice : (f g h : GroupState X) → GroupGoesOn state f g → GroupGoesOn state g h → GroupGoesOn state f h
   goes_on_twice f g h a b = record {
     same = record {
@@ -150,10 +143,3 @@ module _ {X : Type 0} (state : X → StoreState) where
     stores = zip_trans (Lifted state GoesOn) (Lifted state GoesOn) (Lifted state GoesOn) (λ x y z. goes_on_more (state x) (state y) (state z)) (stores_of f) (stores_of g) (stores_of h) a.stores b.stores;
     steady = λ s. b.steady (a.steady s);
   }
-
-  pub count_is : (op : ShardOp) (rows : List (List Value)) (shape : Shape) (n : ℕ) → Count n ≡ reply_of op rows shape → n ≡ length (inserts op)
-  count_is (Insert table rows) there shape n e = by_cases (repeats shape.key there rows) e
-    where
-      by_cases : (b : Bool) → Count n ≡ (if b then Duplicate else Count (length rows)) → n ≡ length rows
-      by_cases true clash = absurd (cc clash)
-      by_cases false is = cc

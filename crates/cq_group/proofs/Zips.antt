@@ -111,3 +111,15 @@ if_ok_both (Err e) P Q R f h k = tt
 pub map_same : {X : Type 0} (xs : List X) → xs ≡ map (λ (x : X). x) xs
 map_same [] = refl
 map_same (x ∷ xs) = ap (λ ys. x ∷ ys) (map_same xs)
+
+pub all_weaker : {Y : Type 0} (P Q : Y → Type 0) → ((y : Y) → P y → Q y) → (ys : List Y) → AllByRecursion P ys → AllByRecursion Q ys
+all_weaker P Q f [] h = tt
+all_weaker P Q f (y ∷ ys) h = (f y h.0, all_weaker P Q f ys h.1)
+
+pub all_push : {Y : Type 0} (P : Y → Type 0) (ys : List Y) (y : Y) → AllByRecursion P ys → P y → AllByRecursion P (ys ++ y ∷ [])
+all_push P [] y h p = (p, tt)
+all_push P (z ∷ zs) y h p = (h.0, all_push P zs y h.1 p)
+
+pub all_append : {Y : Type 0} (P : Y → Type 0) (xs ys : List Y) → AllByRecursion P xs → AllByRecursion P ys → AllByRecursion P (xs ++ ys)
+all_append P [] ys h k = k
+all_append P (x ∷ xs) ys h k = (h.0, all_append P xs ys h.1 k)
