@@ -1,0 +1,4 @@
+pub mod Answering
+pub mod RunLaws
+pub mod Showing
+pub mod MakingLaws

@@ -1,0 +1,179 @@
+-- The end of a run: its log, its stores, and the status after its last line.
+use Rattle.std.proofs.Common.{◌≡◌, ◌≢◌, ◌+◌, ◌<◌, ◌≤◌, ◌⊎◌, inl, inr, ℕ, List, [], ◌∷◌, length, map, take, drop, All, refl, sym, ◌∙◌, ap, subst, arith, Some, Option, slice_get, IsTrue, append-nil}
+use Rattle.std.specs.Prelude.{◌↔◌, nat_eq}
+use Rattle.std.proofs.lemmas.Bool.{eqb-true}
+use Rattle.std.proofs.lemmas.Bool.Decides.{nat_tests}
+use Rattle.std.specs.List.{AllByRecursion}
+use Rattle.std.proofs.lemmas.List.{length-map, take-append-drop}
+use Rattle.std.proofs.lemmas.List.Elements.{All-head, All-tail}
+use Rattle.cq_value.specs.declared.schema.Shape.{Shape}
+use Rattle.cq_tree.specs.declared.answer.Answered.{Answered}
+use Rattle.cq_tree.specs.declared.journal.Entry.{Entry}
+use Rattle.cq_tree.specs.declared.journal.Journal.{Journal}
+use Rattle.cq_catalog.specs.declared.catalog.Catalog.{Catalog}
+use Rattle.cq_history.specs.Journals.{EachJournal, IsLegal}
+use Rattle.cq_history.specs.Log.{AllStand, IsInOrder, IsOfFirst}
+use Rattle.cq_history.specs.Between.{IsConsistent}
+use Rattle.cq_history.proofs.Standing.{all_stand}
+use Rattle.cq_history.proofs.Lists.{two_ways}
+use Rattle.cq_history.proofs.Ddl.{consistent_first}
+use Rattle.cq_store.specs.Stores.{StoreState, IsSpare}
+use Rattle.cq_store.specs.declared.worker.Worker.{Worker}
+use Rattle.cq_cluster.specs.Cluster.{stores_in, AreIdle, IsWaiting}
+use Rattle.cq_cluster.specs.Ending.{IsFinal, AreJournals}
+use Rattle.cq_script.specs.Scripts.{statements, whole_statements}
+use Rattle.cq_script.specs.Streams.{SourceState, SinkState, Rose}
+use Rattle.cq_coordinator.specs.Coordination.{histories}
+use Rattle.cq_top.specs.declared.log.RunLog.{RunLog}
+use Rattle.cq_top.specs.declared.status.Status.{Status}
+use Rattle.cq_top.specs.declared.status.Status.TheVariants.{Done, Usage, ReadFault, Stopped, WriteFault, Memory, TooLong, Script}
+use Rattle.cq_top.specs.Scripts.{AnswersTo, AnswersFirst, IsAnswered, Serves}
+use Rattle.cq_top.specs.Serving.{IsEndedBy, IsRunEnd, BlamesSource, BlamesSink, BlamesLast}
+use Rattle.cq_top.specs.Runs.{IsEmptyLog, IsWhole, IsMisused, HasCause, journals_of}
+use Rattle.cq_top.proofs.Answering.{answers_first, first_of_all}
+
+-- a log of consistent answers and journals
+pub whole_of : {X : Type 0} (log : RunLog X) (histories : List (List Entry)) → IsConsistent log.catalog log.answers histories → journals_of log ≡ histories → AreJournals log.journals.list → log.retired ≡ [] → log.waves ≡ [] → IsWhole log
+whole_of log histories c is opened retired waves = record {
+  catalog = c.catalog;
+  numbered = c.numbered;
+  count = (let e : length (journals_of log) ≡ length log.journals.list = length-map _ _ in sym e ∙ ap length is ∙ c.groups);
+  opened = opened;
+  legal = subst (EachJournal (IsLegal log.catalog)) (sym is) c.legal;
+  known = subst (EachJournal (λ group es. AllByRecursion (IsOfFirst (length log.answers)) es)) (sym is) c.older;
+  ordered = subst (EachJournal (λ group es. IsInOrder es)) (sym is) c.order;
+  retired = retired;
+  waves = waves;
+}
+
+pub stand_of : (cat : Catalog) (answers : List Answered) (journals histories : List (List Entry)) → IsConsistent cat answers histories → journals ≡ histories → AllStand cat journals answers
+stand_of cat answers journals histories c is = subst (λ (v : List (List Entry)). AllStand cat v answers) (sym is) (all_stand cat histories answers c)
+
+-- the empty log
+pub no_journals : {X : Type 0} (log : RunLog X) → IsEmptyLog log → journals_of log ≡ []
+no_journals log e = ap (map (λ (j : Journal). j.entries.list)) e.journals
+
+empty_consistent : {X : Type 0} (log : RunLog X) → IsEmptyLog log → IsConsistent log.catalog log.answers []
+empty_consistent log e = consistent_first log.catalog log.answers [] e.catalog e.answers refl
+
+none_opened : (js : List Journal) → js ≡ [] → AreJournals js
+none_opened js e group j s = (let nothing : slice_get [] group ≡ Some j = ap (λ v. slice_get v group) (sym e) ∙ s in cc)
+
+pub empty_whole : {X : Type 0} (log : RunLog X) → IsEmptyLog log → IsWhole log
+empty_whole log e = whole_of log [] (empty_consistent log e) (no_journals log e) (none_opened log.journals.list e.journals) e.retired e.waves
+
+-- workers whose stores all wait
+spare_of_waiting : {X : Type 0} (state : X → StoreState) (node : ℕ) (xs : List X) → All (λ x. IsWaiting node (state x)) xs → AllByRecursion (λ x. IsSpare (state x)) xs
+spare_of_waiting state node [] all = tt
+spare_of_waiting state node (x ∷ xs) all = ((All-head (λ x. IsWaiting node (state x)) x xs all).spare, spare_of_waiting state node xs (All-tail (λ x. IsWaiting node (state x)) x xs all))
+
+pub final_idle : {X : Type 0} (state : X → StoreState) (shape : Shape) (journals : List (List Entry)) (workers : List (Worker X)) → AreIdle state workers → journals ≡ [] → IsFinal state workers shape journals workers
+final_idle {X} state shape journals workers idle none = subst (λ (v : List (List Entry)). IsFinal state workers shape v workers) (sym none) (record {
+  same_length = refl;
+  used = λ place w h s. record {
+    node = (idle place w s).node;
+    total = ap stores_in (sym s);
+    stores = (w.stores.items, [], sym (append-nil w.stores.items), spare_of_waiting state (place + 1) w.stores.items (idle place w s).stores, tt);
+  };
+  unused = λ place h. refl;
+})
+
+-- the statements that are answered when the last line can't be written
+answered_cut : (bytes : List ℕ) (n : ℕ) (answers : List Answered) → AnswersFirst (whole_statements (take n bytes)) answers → AnswersFirst (statements bytes) answers
+answered_cut bytes n answers first = subst (λ (v : List ℕ). AnswersFirst (statements v) answers) (take-append-drop n bytes) (first_of_all (take n bytes) (drop n bytes) answers first)
+
+all_first : (texts : List (List ℕ)) (answers : List Answered) → AnswersTo texts answers → AnswersFirst texts answers
+all_first texts answers all = answers_first texts texts [] answers (append-nil texts) all
+
+cut_usage : (bytes : List ℕ) (n : ℕ) (answers : List Answered) → IsAnswered Usage bytes n answers → AnswersFirst (statements bytes) answers
+cut_usage bytes n answers a = answers_first (statements bytes) [] (statements bytes) answers refl a.1
+
+cut_read : (bytes : List ℕ) (n : ℕ) (answers : List Answered) → IsAnswered ReadFault bytes n answers → AnswersFirst (statements bytes) answers
+cut_read bytes n answers a = answered_cut bytes n answers (all_first (whole_statements (take n bytes)) answers a)
+
+cut_long : (bytes : List ℕ) (n : ℕ) (answers : List Answered) → IsAnswered TooLong bytes n answers → AnswersFirst (statements bytes) answers
+cut_long bytes n answers a = answered_cut bytes 16777216 answers (all_first (whole_statements (take 16777216 bytes)) answers a.1)
+
+either_cut : (status end : Status) (bytes : List ℕ) (n : ℕ) (answers : List Answered) → ((end ≡ status) ⊎ ((end ≡ WriteFault) ⊎ (end ≡ Memory))) → IsAnswered status bytes n answers → AnswersFirst (statements bytes) answers → IsAnswered end bytes n answers
+either_cut status end bytes n answers (inl e) a first = subst (λ (s : Status). IsAnswered s bytes n answers) (sym e) a
+either_cut status end bytes n answers (inr (inl e)) a first = subst (λ (s : Status). IsAnswered s bytes n answers) (sym e) first
+either_cut status end bytes n answers (inr (inr e)) a first = subst (λ (s : Status). IsAnswered s bytes n answers) (sym e) first
+
+answered_ended : (status end : Status) (bytes : List ℕ) (n : ℕ) (answers : List Answered) → IsEndedBy status end → IsAnswered status bytes n answers → IsAnswered end bytes n answers
+answered_ended Done end bytes n answers e a = subst (λ (s : Status). IsAnswered s bytes n answers) (sym e) a
+answered_ended Usage end bytes n answers e a = either_cut Usage end bytes n answers e a (cut_usage bytes n answers a)
+answered_ended ReadFault end bytes n answers e a = either_cut ReadFault end bytes n answers e a (cut_read bytes n answers a)
+answered_ended Stopped end bytes n answers e a = subst (λ (s : Status). IsAnswered s bytes n answers) (sym e) a
+answered_ended WriteFault end bytes n answers e a = subst (λ (s : Status). IsAnswered s bytes n answers) (sym e) a
+answered_ended Memory end bytes n answers e a = subst (λ (s : Status). IsAnswered s bytes n answers) (sym e) a
+answered_ended TooLong end bytes n answers e a = either_cut TooLong end bytes n answers e a (cut_long bytes n answers a)
+answered_ended Script end bytes n answers e a = subst (λ (s : Status). IsAnswered s bytes n answers) (sym e) a
+
+pub serves_ended : (status end : Status) (bytes : List ℕ) (left : Option (List ℕ)) (answers : List Answered) → IsEndedBy status end → Serves status bytes left answers → Serves end bytes left answers
+serves_ended status end bytes left answers e s = record { taken = s.taken; left_over = s.left_over; most = s.most; answered = answered_ended status end bytes s.taken answers e s.answered }
+
+-- a status that no last line makes stays what it was
+pub ended_usage : (status end : Status) → IsEndedBy status end → end ≡ Usage → status ≡ Usage
+ended_usage Done end e h = cc
+ended_usage Usage end e h = refl
+ended_usage ReadFault end e h = elim e [ inl p ↦ cc | inr q ↦ elim q [ inl p ↦ cc | inr p ↦ cc ] ]
+ended_usage Stopped end e h = cc
+ended_usage WriteFault end e h = cc
+ended_usage Memory end e h = cc
+ended_usage TooLong end e h = elim e [ inl p ↦ cc | inr q ↦ elim q [ inl p ↦ cc | inr p ↦ cc ] ]
+ended_usage Script end e h = cc
+
+pub ended_read : (status end : Status) → IsEndedBy status end → end ≡ ReadFault → status ≡ ReadFault
+ended_read Done end e h = cc
+ended_read Usage end e h = elim e [ inl p ↦ cc | inr q ↦ elim q [ inl p ↦ cc | inr p ↦ cc ] ]
+ended_read ReadFault end e h = refl
+ended_read Stopped end e h = cc
+ended_read WriteFault end e h = cc
+ended_read Memory end e h = cc
+ended_read TooLong end e h = elim e [ inl p ↦ cc | inr q ↦ elim q [ inl p ↦ cc | inr p ↦ cc ] ]
+ended_read Script end e h = cc
+
+ended_stopped : (status end : Status) → IsRunEnd status → IsEndedBy status end → end ≢ Stopped
+ended_stopped Done end r e h = cc
+ended_stopped Usage end r e h = elim e [ inl p ↦ cc | inr q ↦ elim q [ inl p ↦ cc | inr p ↦ cc ] ]
+ended_stopped ReadFault end r e h = elim e [ inl p ↦ cc | inr q ↦ elim q [ inl p ↦ cc | inr p ↦ cc ] ]
+ended_stopped Stopped end r e h = r
+ended_stopped WriteFault end r e h = cc
+ended_stopped Memory end r e h = cc
+ended_stopped TooLong end r e h = elim e [ inl p ↦ cc | inr q ↦ elim q [ inl p ↦ cc | inr p ↦ cc ] ]
+ended_stopped Script end r e h = cc
+
+ended_script : (status end : Status) → IsRunEnd status → IsEndedBy status end → end ≢ Script
+ended_script Done end r e h = cc
+ended_script Usage end r e h = elim e [ inl p ↦ cc | inr q ↦ elim q [ inl p ↦ cc | inr p ↦ cc ] ]
+ended_script ReadFault end r e h = elim e [ inl p ↦ cc | inr q ↦ elim q [ inl p ↦ cc | inr p ↦ cc ] ]
+ended_script Stopped end r e h = cc
+ended_script WriteFault end r e h = cc
+ended_script Memory end r e h = cc
+ended_script TooLong end r e h = elim e [ inl p ↦ cc | inr q ↦ elim q [ inl p ↦ cc | inr p ↦ cc ] ]
+ended_script Script end r e h = r
+
+-- a count that rose, among calls that never let it fall
+at_most : (n m : ℕ) → n ≤ m → (n < m) ⊎ (n ≡ m)
+at_most n m h = elim (two_ways (nat_eq n m)) [ inl t ↦ inr (eqb-true n m t) | inr f ↦ inl (grind (arith, nat_tests)) ]
+
+rose_before : (a b c : ℕ) → Rose a b → b ≤ c → Rose a c
+rose_before a b c (inl lt) h = inl (omega (arith, lt, h))
+rose_before a b c (inr e) h = elim (at_most b c h) [ inl lt ↦ inl (omega (arith, e.0, e.1, lt)) | inr same ↦ inr (e.0, sym same ∙ e.1) ]
+
+rose_later : (a b c : ℕ) → a ≤ b → Rose b c → Rose a c
+rose_later a b c h (inl lt) = inl (omega (arith, lt, h))
+rose_later a b c h (inr e) = elim (at_most a b h) [ inl lt ↦ inl (omega (arith, e.0, e.1, lt)) | inr same ↦ inr (same ∙ e.0, e.1) ]
+
+pub cause_of : (status end : Status) (words workers : ℕ) (source source_end : SourceState) (sink mid sink_end : SinkState) → IsRunEnd status → IsEndedBy status end → ((status ≡ Usage) ↔ IsMisused words workers) →
+    BlamesSource status source source_end → BlamesSink status sink mid → BlamesLast status end mid sink_end → HasCause end words workers source source_end sink sink_end
+cause_of status end words workers source source_end sink mid sink_end r e u so si la = record {
+  usage = λ h. u.0 (ended_usage status end e h);
+  misused = λ m. subst (λ (s : Status). IsEndedBy s end) (u.1 m) e;
+  read_fault = λ h. so.rose (ended_read status end e h);
+  write_fault = λ h. elim (la.rose h) [ inl w ↦ rose_before sink.faults mid.faults sink_end.faults (si.rose w) la.faults | inr w ↦ rose_later sink.faults mid.faults sink_end.faults si.faults w ];
+  steady_source = λ s h. so.never s (ended_read status end e h);
+  steady_sink = λ s h. si.never s (la.never (subst IsTrue (sym si.steady) s) h);
+  no_stop = ended_stopped status end r e;
+  no_script = ended_script status end r e;
+}

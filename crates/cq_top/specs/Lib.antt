@@ -1,0 +1,4 @@
+pub mod Outputs
+pub mod Runs
+pub mod Scripts
+pub mod Serving
