@@ -66,6 +66,13 @@ impl<S> Worker<S> {
         &self.stores
     }
 
+    /// The stores, in order, taken out of their worker.
+    pub fn into_stores(self) -> Vec<S>
+        ensures { result ≡ self.stores }
+    {
+        self.stores
+    }
+
     /// Makes room for n more stores than there is room for. `Err`: the room stays.
     pub fn make_room(&mut self, n: u64) -> Result<(), NoMemory>
         ensures node { self.new.node ≡ self.old.node }

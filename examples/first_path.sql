@@ -1,0 +1,9 @@
+CREATE TABLE accounts (id bigint, balance bigint, PRIMARY KEY (id));
+SELECT create_distributed_table('accounts', 'id', shard_count => 4);
+INSERT INTO accounts VALUES (1,10);
+INSERT INTO accounts VALUES (2,-25);
+INSERT INTO accounts VALUES (1,99);
+SELECT * FROM accounts WHERE id = 1;
+SELECT * FROM accounts WHERE id = 2;
+SELECT * FROM accounts WHERE id = 5;
+DROP TABLE accounts;
