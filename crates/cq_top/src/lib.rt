@@ -11,6 +11,8 @@ mod serve;
 mod serving;
 mod status;
 mod stop;
+#[cfg(test)]
+mod tests;
 
 pub use cq_group as group;
 pub use cq_group::{Gate, IdleGate, Point};
