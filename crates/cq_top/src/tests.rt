@@ -1,8 +1,8 @@
 //! Scripts with their answers, journals and stores worked out by hand, through `run`: one at a time, with sources and sinks
 //! that fail, with words, and over too few workers.
 
-ghost use Rattle.std.specs.Prelude.{◌≡◌, ◌<◌, ◌^◌, IfOk};
-ghost use Rattle.cq_cluster.specs.Cluster.{AreIdle, IsWaiting};
+ghost use Rattle.std.specs.Prelude.{ℕ, IfOk};
+ghost use Rattle.cq_cluster.specs.Cluster.{IsWaiting};
 
 use crate::{IdleGate, RunLog, Status, make_workers, run};
 use cq_script::{MemSink, MemSource};
@@ -15,21 +15,21 @@ use std::sync::Wait;
 use std::test::Fail;
 use std::thread::Threads;
 
-/// What a test hands to `run`: the number of workers, and the numbers of the calls that fail, 0 for none.
+/// The numbers of the calls that fail, 0 for none; the number of workers; and how many words there are, 0 or 1.
 #[derive(Clone, Copy)]
 struct Setting {
-    nodes: u32,
-    words: bool,
     take_fails: u64,
     put_fails: u64,
+    workers: u16,
+    words: u8,
 }
 
-/// Two workers, and nothing fails.
+/// Nothing fails.
 const PLAIN: Setting = Setting {
-    nodes: 2,
-    words: false,
     take_fails: 0,
     put_fails: 0,
+    workers: 2,
+    words: 0,
 };
 
 /// What a run left.
@@ -55,14 +55,16 @@ type Noted = (u32, u64, Did);
 /// A row of a store: the node, the shard, and the row's key and other value.
 type Held = (u32, u64, i128, i128);
 
-fn workers_of(alloc: Global, nodes: u32) -> Result<Vec<Worker>, AllocError>
-    requires few { nodes < 2 ^ 16 }
-    ensures idle { IfOk result (λ ws. AreIdle ⟦<Box<dyn Store + Send> as Store>⟧.state ws.items) }
-{
-    let make = |node: u32| -> Result<BoxedStore, AllocError>
-        ensures { IfOk result (λ b. IsWaiting node (state b)) }
-    { Ok(Box::new(alloc, MemStore::new(alloc, node))?) };
-    make_workers(alloc, nodes, 128, make)
+/// A script with what its run must leave.
+#[derive(Clone, Copy)]
+struct Case<'a> {
+    script: &'a [u8],
+    setting: Setting,
+    status: Status,
+    written: &'a [u8],
+    answers: u64,
+    entries: &'a [Noted],
+    rows: &'a [Held],
 }
 
 /// The number alone, or none.
@@ -74,17 +76,20 @@ fn fails_at(alloc: Global, call: u64) -> Result<Vec<u64>, AllocError> {
     Ok(fails)
 }
 
-fn run_with<R: Threads + Wait + Sync>(
+/// Runs the script over workers of 128 stores each, which the closure makes.
+fn run_with<R: Threads + Wait + Sync, F: Fn(u32) -> Result<BoxedStore, AllocError>>(
     rt: &R,
     alloc: Global,
+    make: F,
     script: Vec<u8>,
     setting: Setting,
 ) -> Result<Outcome, AllocError>
-    requires few { setting.nodes < 2 ^ 16 }
+    requires callable { F.IsAlwaysCallable make }
+    requires waiting { (n : ℕ) (r : _) → F.post make n r → IfOk r (λ b. IsWaiting n (⟦<Box<dyn Store + Send> as Store>⟧.state b)) }
 {
-    let mut workers = workers_of(alloc, setting.nodes)?;
+    let mut workers = make_workers(alloc, setting.workers as u32, 128, make)?;
     let mut words = Vec::new(alloc);
-    if setting.words {
+    for _ in 0..setting.words {
         words.push(String::new(alloc))?;
     }
     let mut source = MemSource::new(script, fails_at(alloc, setting.take_fails)?);
@@ -154,136 +159,133 @@ fn rows(alloc: Global, workers: Vec<Worker>) -> Result<Vec<Held>, Fail> {
     Ok(all)
 }
 
-/// The script's run gives this status, these bytes, these entries and these rows.
-fn expect<R: Threads + Wait + Sync + Abort>(
-    rt: &R,
-    alloc: Global,
-    script: &[u8],
-    setting: Setting,
-    wanted: (Status, &[u8], &[Noted], &[Held]),
-) -> Result<(), Fail>
-    requires few { setting.nodes < 2 ^ 16 }
-{
-    let ran = run_with(rt, alloc, script.to_vec(alloc)?, setting)?;
-    assert_eq!(rt; ran.status, wanted.0);
-    assert_eq!(rt; ran.written.as_slice(), wanted.1);
-    assert_eq!(rt; entries(alloc, &ran.log)?.as_slice(), wanted.2);
-    assert_eq!(rt; rows(alloc, ran.workers)?.as_slice(), wanted.3);
+fn expect<R: Abort>(rt: &R, alloc: Global, ran: Outcome, case: Case) -> Result<(), Fail> {
+    assert_eq!(rt; ran.status, case.status);
+    assert_eq!(rt; ran.written.as_slice(), case.written);
+    assert_eq!(rt; ran.log.answers.len(), case.answers);
+    assert_eq!(rt; entries(alloc, &ran.log)?.as_slice(), case.entries);
+    assert_eq!(rt; rows(alloc, ran.workers)?.as_slice(), case.rows);
     Ok(())
 }
 
 #[test]
-fn nothing(rt: HostRuntime) -> Result<(), Fail> {
+fn scripts_are_answered(rt: HostRuntime) -> Result<(), Fail> {
     let alloc = rt.alloc();
-    let ran = run_with(&rt, alloc, Vec::new(alloc), PLAIN)?;
-    assert_eq!(rt; ran.status, Status::Done);
-    assert_eq!(rt; ran.written.len(), 0);
-    assert_eq!(rt; ran.log.answers.len(), 0);
-    assert_eq!(rt; ran.log.journals.len(), 0);
-    Ok(())
-}
-
-#[test]
-fn a_row_is_read_back(rt: HostRuntime) -> Result<(), Fail> {
-    let script = b"CREATE TABLE t (k bigint, v bigint, PRIMARY KEY (k));
+    let make = |node: u32| -> Result<BoxedStore, AllocError>
+        ensures { IfOk result (λ b. IsWaiting node (state b)) }
+    { Ok(Box::new(alloc, MemStore::new(alloc, node))?) };
+    let cases = [
+        // no statement
+        Case {
+            script: b" \n;; ",
+            setting: PLAIN,
+            status: Status::Done,
+            written: b"",
+            answers: 0,
+            entries: &[],
+            rows: &[],
+        },
+        // a row, read back
+        Case {
+            script: b"CREATE TABLE t (k bigint, v bigint, PRIMARY KEY (k));
 SELECT create_distributed_table('t', 'k', shard_count => 4);
 INSERT INTO t VALUES (1,10);
 SELECT * FROM t WHERE k = 1;
-";
-    let output =
-        b"CREATE TABLE\ncreate_distributed_table\n\n(1 row)\nINSERT 0 1\nk|v\n1|10\n(1 row)\n";
-    let noted = [(0, 3, Did::Inserted(1)), (0, 4, Did::Read)];
-    let held = [(1, 102008, 1, 10)];
-    expect(
-        &rt,
-        rt.alloc(),
-        script,
-        PLAIN,
-        (Status::Done, output, &noted, &held),
-    )
-}
-
-#[test]
-fn a_taken_key_and_a_key_without_a_row(rt: HostRuntime) -> Result<(), Fail> {
-    let script = b"CREATE TABLE t (k bigint, v bigint, PRIMARY KEY (k));
+",
+            setting: PLAIN,
+            status: Status::Done,
+            written: b"CREATE TABLE\ncreate_distributed_table\n\n(1 row)\nINSERT 0 1\nk|v\n1|10\n(1 row)\n",
+            answers: 4,
+            entries: &[(0, 3, Did::Inserted(1)), (0, 4, Did::Read)],
+            rows: &[(1, 102008, 1, 10)],
+        },
+        // a key that is taken, one without a row, and what isn't built
+        Case {
+            script: b"CREATE TABLE t (k bigint, v bigint, PRIMARY KEY (k));
 SELECT create_distributed_table('t', 'k', shard_count => 4);
-INSERT INTO t VALUES (1,10);
-INSERT INTO t VALUES (1,10);SELECT * FROM t WHERE k = 5;
-DROP TABLE t;SELECT * FROM t WHERE k = 5";
-    let output =
-        b"CREATE TABLE\ncreate_distributed_table\n\n(1 row)\nINSERT 0 1\nERROR 30 duplicate key\nk|v\n(0 rows)\nERROR 35 not built\nk|v\n(0 rows)\n";
-    let noted = [
-        (0, 3, Did::Inserted(1)),
-        (0, 4, Did::Refused),
-        (2, 5, Did::Read),
-        (2, 7, Did::Read),
+INSERT INTO t VALUES (1,10);INSERT INTO t VALUES (1,10);
+SELECT * FROM t WHERE k = 5;DROP TABLE t;SELECT * FROM t WHERE k = 5",
+            setting: PLAIN,
+            status: Status::Done,
+            written: b"CREATE TABLE\ncreate_distributed_table\n\n(1 row)\nINSERT 0 1\nERROR 30 duplicate key\nk|v\n(0 rows)\nERROR 35 not built\nk|v\n(0 rows)\n",
+            answers: 7,
+            entries: &[
+                (0, 3, Did::Inserted(1)),
+                (0, 4, Did::Refused),
+                (2, 5, Did::Read),
+                (2, 7, Did::Read),
+            ],
+            rows: &[(1, 102008, 1, 10)],
+        },
+        // the source's second call fails: the last statement isn't whole
+        Case {
+            script: b"CREATE TABLE t (k bigint, v bigint, PRIMARY KEY (k));SELECT 1;SELECT 2",
+            setting: Setting {
+                take_fails: 2,
+                ..PLAIN
+            },
+            status: Status::ReadFault,
+            written: b"CREATE TABLE\nERROR 35 not built\nFATAL read\n",
+            answers: 2,
+            entries: &[],
+            rows: &[],
+        },
+        // the sink's first call fails
+        Case {
+            script: b"CREATE TABLE t (k bigint, v bigint, PRIMARY KEY (k));SELECT 1;",
+            setting: Setting {
+                put_fails: 1,
+                ..PLAIN
+            },
+            status: Status::WriteFault,
+            written: b"",
+            answers: 1,
+            entries: &[],
+            rows: &[],
+        },
+        // a word, and one worker alone
+        Case {
+            script: b"SELECT 1",
+            setting: Setting { words: 1, ..PLAIN },
+            status: Status::Usage,
+            written: b"FATAL usage\n",
+            answers: 0,
+            entries: &[],
+            rows: &[],
+        },
+        Case {
+            script: b"SELECT 1",
+            setting: Setting {
+                workers: 1,
+                ..PLAIN
+            },
+            status: Status::Usage,
+            written: b"FATAL usage\n",
+            answers: 0,
+            entries: &[],
+            rows: &[],
+        },
     ];
-    let held = [(1, 102008, 1, 10)];
-    expect(
-        &rt,
-        rt.alloc(),
-        script,
-        PLAIN,
-        (Status::Done, output, &noted, &held),
-    )
-}
-
-#[test]
-fn sources_and_sinks_fail(rt: HostRuntime) -> Result<(), Fail> {
-    let alloc = rt.alloc();
-    let script = b"CREATE TABLE t (k bigint, v bigint, PRIMARY KEY (k));SELECT 1;SELECT * FROM t";
-    let take = Setting {
-        take_fails: 2,
-        ..PLAIN
-    };
-    let output = b"CREATE TABLE\nERROR 35 not built\nFATAL read\n";
-    expect(
-        &rt,
-        alloc,
-        script,
-        take,
-        (Status::ReadFault, output, &[], &[]),
-    )?;
-    let put = Setting {
-        put_fails: 1,
-        ..PLAIN
-    };
-    let ran = run_with(&rt, alloc, script.to_vec(alloc)?, put)?;
-    assert_eq!(rt; ran.status, Status::WriteFault);
-    assert_eq!(rt; ran.written.len(), 0);
-    assert_eq!(rt; ran.log.answers.len(), 1);
+    for case in cases {
+        let ran = run_with(&rt, alloc, &make, case.script.to_vec(alloc)?, case.setting)?;
+        expect(&rt, alloc, ran, case)?;
+    }
     Ok(())
 }
 
 #[test]
 fn a_script_too_long(rt: HostRuntime) -> Result<(), Fail> {
     let alloc = rt.alloc();
+    let make = |node: u32| -> Result<BoxedStore, AllocError>
+        ensures { IfOk result (λ b. IsWaiting node (state b)) }
+    { Ok(Box::new(alloc, MemStore::new(alloc, node))?) };
     let mut script = Vec::new(alloc);
     script.resize(16_777_217, b' ')?;
-    let ran = run_with(&rt, alloc, script, PLAIN)?;
+    let ran = run_with(&rt, alloc, make, script, PLAIN)?;
     assert_eq!(rt; ran.status, Status::TooLong);
     assert_eq!(rt;
         ran.written.as_slice(),
         b"FATAL limit bytes 16777216\n".as_slice()
     );
-    Ok(())
-}
-
-#[test]
-fn words_and_too_few_workers(rt: HostRuntime) -> Result<(), Fail> {
-    let words = Setting {
-        words: true,
-        ..PLAIN
-    };
-    let alone = Setting { nodes: 1, ..PLAIN };
-    for setting in [words, alone] {
-        expect(
-            &rt,
-            rt.alloc(),
-            b"SELECT 1",
-            setting,
-            (Status::Usage, b"FATAL usage\n", &[], &[]),
-        )?;
-    }
     Ok(())
 }
