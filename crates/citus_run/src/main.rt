@@ -6,7 +6,7 @@ ghost use Rattle.std.specs.Prelude.{IfOk};
 ghost use Rattle.cq_cluster.specs.Cluster.{IsWaiting};
 
 use cq_script::{ReadSource, WriteSink};
-use cq_store::{BoxedStore, MemStore, Worker};
+use cq_store::{BoxedStore, MemStore};
 use cq_top::{IdleGate, RunLog, Status, make_workers, run};
 use std::alloc::{AllocError, Global};
 use std::process::ExitCode;
@@ -36,7 +36,7 @@ fn main(rt: HostRuntime) -> ExitCode {
     let Ok(words) = words_of(alloc, env::args(&rt)) else {
         return ExitCode::from(Status::Memory.number());
     };
-    let Ok(mut workers) = make_workers(alloc, NODES, STORES, make) else {
+    let Ok(mut workers) = make_workers(alloc, NODES, STORES, &make) else {
         return ExitCode::from(Status::Memory.number());
     };
     let mut log = RunLog::new(alloc);

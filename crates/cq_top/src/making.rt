@@ -30,18 +30,18 @@ pub fn make_workers<S: Store, F: Fn(u32) -> Result<S, AllocError>>(
     alloc: Global,
     nodes: u32,
     count: u32,
-    make: F,
+    make: &F,
 ) -> Result<Vec<Worker<S>>, AllocError>
-    requires callable { F.IsAlwaysCallable make }
+    requires callable { F.IsAlwaysCallable make.now }
     requires few { nodes < 2 ^ 16 }
     requires enough { 128 ≤ count }
-    requires waiting { (n : ℕ) (r : _) → F.post make n r → IfOk r (λ s. IsWaiting n (S.state s)) }
+    requires waiting { (n : ℕ) (r : _) → F.post make.now n r → IfOk r (λ s. IsWaiting n (S.state s)) }
     ensures idle { IfOk result (λ workers. AreIdle S.state workers.items) }
     ensures count { IfOk result (λ workers. length workers.items ≡ nodes) }
 {
     let mut workers = Vec::new(alloc);
     for node in 0..nodes {
-        let stores = make_stores(alloc, node + 1, count, &make)?;
+        let stores = make_stores(alloc, node + 1, count, make)?;
         workers.push(Worker::new(node + 1, stores))?;
     }
     Ok(workers)

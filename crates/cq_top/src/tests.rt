@@ -1,8 +1,8 @@
 //! Scripts with their answers, journals and stores worked out by hand, through `run`: one at a time, with sources and sinks
 //! that fail, with words, and over too few workers.
 
-ghost use Rattle.std.specs.Prelude.{ℕ, IfOk};
-ghost use Rattle.cq_cluster.specs.Cluster.{IsWaiting};
+ghost use Rattle.std.specs.Prelude.{IfOk};
+ghost use Rattle.cq_cluster.specs.Cluster.{AreIdle, IsWaiting};
 
 use crate::{IdleGate, RunLog, Status, make_workers, run};
 use cq_script::{MemSink, MemSource};
@@ -76,18 +76,16 @@ fn fails_at(alloc: Global, call: u64) -> Result<Vec<u64>, AllocError> {
     Ok(fails)
 }
 
-/// Runs the script over workers of 128 stores each, which the closure makes.
-fn run_with<R: Threads + Wait + Sync, F: Fn(u32) -> Result<BoxedStore, AllocError>>(
+/// Runs the script over the workers.
+fn run_with<R: Threads + Wait + Sync>(
     rt: &R,
     alloc: Global,
-    make: F,
+    mut workers: Vec<Worker>,
     script: Vec<u8>,
     setting: Setting,
 ) -> Result<Outcome, AllocError>
-    requires callable { F.IsAlwaysCallable make }
-    requires waiting { (n : ℕ) (r : _) → F.post make n r → IfOk r (λ b. IsWaiting n (⟦<Box<dyn Store + Send> as Store>⟧.state b)) }
+    requires idle { AreIdle ⟦<Box<dyn Store + Send> as Store>⟧.state workers.items }
 {
-    let mut workers = make_workers(alloc, setting.workers as u32, 128, make)?;
     let mut words = Vec::new(alloc);
     for _ in 0..setting.words {
         words.push(String::new(alloc))?;
@@ -267,7 +265,14 @@ SELECT * FROM t WHERE k = 5;DROP TABLE t;SELECT * FROM t WHERE k = 5",
         },
     ];
     for case in cases {
-        let ran = run_with(&rt, alloc, &make, case.script.to_vec(alloc)?, case.setting)?;
+        let workers = make_workers(alloc, case.setting.workers as u32, 128, &make)?;
+        let ran = run_with(
+            &rt,
+            alloc,
+            workers,
+            case.script.to_vec(alloc)?,
+            case.setting,
+        )?;
         expect(&rt, alloc, ran, case)?;
     }
     Ok(())
@@ -279,9 +284,10 @@ fn a_script_too_long(rt: HostRuntime) -> Result<(), Fail> {
     let make = |node: u32| -> Result<BoxedStore, AllocError>
         ensures { IfOk result (λ b. IsWaiting node (state b)) }
     { Ok(Box::new(alloc, MemStore::new(alloc, node))?) };
+    let workers = make_workers(alloc, 2, 128, &make)?;
     let mut script = Vec::new(alloc);
     script.resize(16_777_217, b' ')?;
-    let ran = run_with(&rt, alloc, make, script, PLAIN)?;
+    let ran = run_with(&rt, alloc, workers, script, PLAIN)?;
     assert_eq!(rt; ran.status, Status::TooLong);
     assert_eq!(rt;
         ran.written.as_slice(),
