@@ -1,6 +1,7 @@
 #!/bin/sh
 # How long single-row INSERTs and reads by the key take in citus_run, sqlite3 and psql, as ratios to sqlite3's time.
-# All run the same statements in one run of this script; what is not installed, or finds no server, is left out.
+# All run the same statements in one run of this script; what is not installed is left out. For psql the script starts a
+# server of its own.
 # Usage: bench/first_path.sh [rows, 9990 if left out]
 set -eu
 top=$(cd "$(dirname "$0")/.." && pwd)
@@ -50,8 +51,22 @@ theirs=$(best_of_three "$work/sqlite.sql" sqlite3)
 ratio() { awk -v a="$1" -v b="$theirs" 'BEGIN { printf "%.2f", a / (b > 0 ? b : 1) }'; }
 echo "sqlite3 (in memory): 1.00"
 echo "citus_run: $(ratio "$ours")"
-if command -v psql >/dev/null && psql -qAtc 'SELECT 1' >"$work/log" 2>&1; then
-    echo "psql: $(ratio "$(best_of_three "$work/psql.sql" psql -q)")"
+# Starts a server in the work folder, as the user postgres where this is run as root. It ends with this script.
+start_server() {
+    bin=$(ls -d /usr/lib/postgresql/*/bin 2>/dev/null | tail -n 1)
+    command -v psql >/dev/null && [ -n "$bin" ] || return 1
+    as_owner=
+    if [ "$(id -u)" -eq 0 ]; then
+        as_owner='runuser -u postgres --'
+        chown postgres "$work" || return 1
+    fi
+    $as_owner "$bin/initdb" -D "$work/data" -U postgres -A trust || return 1
+    trap '$as_owner "$bin/pg_ctl" -D "$work/data" -m immediate stop >/dev/null 2>&1; rm -rf "$work"' EXIT
+    $as_owner "$bin/pg_ctl" -D "$work/data" -w -l "$work/server.log" -o "-k $work -h ''" start
+}
+
+if start_server >"$work/log" 2>&1; then
+    echo "psql: $(ratio "$(best_of_three "$work/psql.sql" psql -q -h "$work" -U postgres)")"
 else
-    echo 'psql: left out, it is not installed or finds no server'
+    echo 'psql: left out, PostgreSQL is not installed'
 fi
