@@ -215,6 +215,50 @@ SELECT * FROM t WHERE k = 5;DROP TABLE t;SELECT * FROM t WHERE k = 5",
             ],
             rows: &[(1, 102008, 1, 10)],
         },
+        // each key goes to the group of its token
+        Case {
+            script: b"CREATE TABLE t (k bigint, v bigint, PRIMARY KEY (k));
+SELECT create_distributed_table('t', 'k', shard_count => 4);
+INSERT INTO t VALUES (0,0);INSERT INTO t VALUES (1,0);INSERT INTO t VALUES (2,0);
+INSERT INTO t VALUES (3,0);INSERT INTO t VALUES (4,0);INSERT INTO t VALUES (5,0);
+INSERT INTO t VALUES (6,0);INSERT INTO t VALUES (7,0);INSERT INTO t VALUES (8,0);
+INSERT INTO t VALUES (9,0);INSERT INTO t VALUES (10,0);INSERT INTO t VALUES (-1,0);
+INSERT INTO t VALUES (9223372036854775807,0);",
+            setting: PLAIN,
+            status: Status::Done,
+            written: b"CREATE TABLE\ncreate_distributed_table\n\n(1 row)\nINSERT 0 1\nINSERT 0 1\nINSERT 0 1\nINSERT 0 1\nINSERT 0 1\nINSERT 0 1\nINSERT 0 1\nINSERT 0 1\nINSERT 0 1\nINSERT 0 1\nINSERT 0 1\nINSERT 0 1\nINSERT 0 1\n",
+            answers: 15,
+            entries: &[
+                (0, 4, Did::Inserted(1)),
+                (0, 9, Did::Inserted(1)),
+                (0, 12, Did::Inserted(1)),
+                (1, 6, Did::Inserted(1)),
+                (1, 11, Did::Inserted(1)),
+                (2, 3, Did::Inserted(1)),
+                (2, 5, Did::Inserted(1)),
+                (2, 8, Did::Inserted(1)),
+                (2, 13, Did::Inserted(1)),
+                (3, 7, Did::Inserted(1)),
+                (3, 10, Did::Inserted(1)),
+                (3, 14, Did::Inserted(1)),
+                (3, 15, Did::Inserted(1)),
+            ],
+            rows: &[
+                (1, 102008, 1, 0),
+                (1, 102008, 6, 0),
+                (1, 102008, 9, 0),
+                (1, 102010, 0, 0),
+                (1, 102010, 2, 0),
+                (1, 102010, 5, 0),
+                (1, 102010, 10, 0),
+                (2, 102009, 3, 0),
+                (2, 102009, 8, 0),
+                (2, 102011, 4, 0),
+                (2, 102011, 7, 0),
+                (2, 102011, -1, 0),
+                (2, 102011, 9223372036854775807, 0),
+            ],
+        },
         // the source's second call fails: the last statement isn't whole
         Case {
             script: b"CREATE TABLE t (k bigint, v bigint, PRIMARY KEY (k));SELECT 1;SELECT 2",
