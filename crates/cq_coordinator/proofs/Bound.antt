@@ -6,11 +6,11 @@ use Rattle.cq_tree.specs.declared.journal.ShardOp.{ShardOp}
 use Rattle.cq_tree.specs.declared.statement.Query.{Query}
 use Rattle.cq_tree.specs.declared.statement.Statement.{Statement}
 use Rattle.cq_tree.specs.declared.statement.Statement.TheVariants as statement
-use Rattle.cq_catalog.specs.declared.catalog.Catalog.{Catalog}
-use Rattle.cq_catalog.specs.declared.catalog.TableInfo.{TableInfo}
-use Rattle.cq_catalog.specs.declared.catalog.Place.{Place}
-use Rattle.cq_catalog.specs.declared.catalog.Place.TheVariants.{Local, Distributed}
-use Rattle.cq_catalog.specs.Tables.{groups_of, place_in, shards_of}
+use Rattle.cq_single.specs.declared.catalog.Catalog.{Catalog}
+use Rattle.cq_single.specs.declared.catalog.TableInfo.{TableInfo}
+use Rattle.cq_single.specs.declared.catalog.Place.{Place}
+use Rattle.cq_single.specs.declared.catalog.Place.TheVariants.{Local, Distributed}
+use Rattle.cq_single.specs.Tables.{groups_of, place_in, shards_of}
 use Rattle.cq_history.specs.Between.{IsByFirst, IsByFirstColumn}
 use Rattle.cq_forms.specs.Reading.{IsBoundOver, IsDistributed, IsOneRow}
 use Rattle.cq_coordinator.specs.Coordination.{IsLocalTable}

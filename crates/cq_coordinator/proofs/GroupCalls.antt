@@ -10,7 +10,7 @@ use Rattle.cq_tree.specs.declared.journal.Reply.{Reply}
 use Rattle.cq_tree.specs.declared.journal.ShardOp.{ShardOp}
 use Rattle.cq_meaning.specs.Values.{Row}
 use Rattle.cq_meaning.specs.Effects.{reply_of, table_of}
-use Rattle.cq_catalog.specs.Tables.{shape_of, groups_of}
+use Rattle.cq_single.specs.Tables.{shape_of, groups_of}
 use Rattle.cq_history.specs.Journals.{replay}
 use Rattle.cq_history.specs.Between.{Grows}
 use Rattle.cq_store.specs.Stores.{StoreState}

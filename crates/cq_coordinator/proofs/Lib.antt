@@ -2,3 +2,4 @@ pub mod Answering
 pub mod Bound
 pub mod GroupCalls
 pub mod Opening
+pub mod ReadingLaws

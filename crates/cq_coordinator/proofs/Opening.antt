@@ -1,10 +1,10 @@
 -- The coordinator before and after its shard groups are opened.
 use Rattle.std.proofs.Common.{suc, zero, ◌≡◌, ◌<◌, ◌≤◌, ℕ, List, [], ◌∷◌, length, map, All, refl, sym, ◌∙◌, ap, subst, arith, Some, None, Option, slice_get}
 use Rattle.std.proofs.lemmas.List.Elements.{All-head, All-tail}
-use Rattle.cq_catalog.specs.declared.catalog.Catalog.{Catalog}
-use Rattle.cq_catalog.specs.declared.catalog.TableInfo.{TableInfo}
-use Rattle.cq_catalog.specs.declared.catalog.Place.TheVariants.{Distributed}
-use Rattle.cq_catalog.specs.Tables.{shape_of, shape_of_info, groups_of, place_in, shards_of}
+use Rattle.cq_single.specs.declared.catalog.Catalog.{Catalog}
+use Rattle.cq_single.specs.declared.catalog.TableInfo.{TableInfo}
+use Rattle.cq_single.specs.declared.catalog.Place.TheVariants.{Distributed}
+use Rattle.cq_single.specs.Tables.{shape_of, shape_of_info, groups_of, place_in, shards_of}
 use Rattle.cq_history.specs.Journals.{EachJournal}
 use Rattle.cq_history.specs.Between.{IsByFirstColumn}
 use Rattle.cq_store.specs.Stores.{StoreState}

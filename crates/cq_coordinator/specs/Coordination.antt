@@ -6,10 +6,10 @@ use Rattle.cq_tree.specs.declared.journal.Reply.{Reply}
 use Rattle.cq_tree.specs.declared.journal.ShardOp.{ShardOp}
 use Rattle.cq_meaning.specs.Effects.{reply_of, table_of}
 use Rattle.cq_history.specs.Journals.{replay}
-use Rattle.cq_catalog.specs.declared.catalog.Catalog.{Catalog}
-use Rattle.cq_catalog.specs.declared.catalog.TableInfo.{TableInfo}
-use Rattle.cq_catalog.specs.declared.catalog.Place.TheVariants.{Local}
-use Rattle.cq_catalog.specs.Tables.{shape_of, groups_of}
+use Rattle.cq_single.specs.declared.catalog.Catalog.{Catalog}
+use Rattle.cq_single.specs.declared.catalog.TableInfo.{TableInfo}
+use Rattle.cq_single.specs.declared.catalog.Place.TheVariants.{Local}
+use Rattle.cq_single.specs.Tables.{shape_of, groups_of}
 use Rattle.cq_history.specs.Between.{IsByFirstColumn}
 use Rattle.cq_store.specs.Stores.{StoreState}
 use Rattle.cq_store.specs.declared.worker.Worker.{Worker}

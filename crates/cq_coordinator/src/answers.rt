@@ -1,5 +1,5 @@
 ghost use Rattle.std.specs.Prelude.{◌≡◌, ◌<◌, ◌≤◌, ℕ, [], ◌∷◌, length, IfOk, IfSome, IsSome, OnOk, OnErr, Some, None};
-ghost use Rattle.cq_catalog.specs.Tables.{groups_of};
+ghost use Rattle.cq_single.specs.Tables.{groups_of};
 ghost use Rattle.cq_history.specs.Between.{Responds};
 ghost use Rattle.cq_history.specs.Journals.{EachJournal};
 ghost use Rattle.cq_history.specs.Log.{distributed};
@@ -10,10 +10,10 @@ ghost use Rattle.cq_coordinator.specs.Responses.{ReadsAs};
 use crate::coordinator::Coordinator;
 use crate::groups::WriteError;
 use crate::tables::{distributed_notice, local_table, shape};
-use cq_catalog::Place;
 use cq_cluster::open_groups;
 use cq_engine::run_query;
 use cq_forms::read_statement;
+use cq_single::Place;
 use cq_store::Store;
 use cq_tree::{Answer, Fault, Query, Reply, ShardOp, Statement, Tag, What, Who};
 use cq_value::{Columns, NoMemory, Positions, Row, Text, With};
@@ -198,20 +198,6 @@ impl<S: Store> Coordinator<S> {
         }
     }
 
-    /// The answer of a text: that of the statement that it is read as over the catalogue, or that it is not built.
-    fn answer(&mut self, alloc: Global, who: Who, bound: &Option<Statement>) -> Answer
-        requires sound { IsSound S.state self.old }
-        requires bound { IfSome bound.now (IsBoundOver self.old.catalog) }
-        ensures responds { Responds self.old.catalog self.new.catalog who (histories self.old) (histories self.new) bound.now result }
-        ensures sound { IsSound S.state self.new }
-        ensures stores { KeepsStores S.state self.old self.new }
-    {
-        match bound {
-            Some(statement) => self.run(alloc, who, statement),
-            None => Answer::Failed(Fault::NotBuilt),
-        }
-    }
-
     /// Reads a statement's text over the catalogue and answers it.
     pub fn respond(&mut self, alloc: Global, who: Who, text: &[u8]) -> Response
         requires { IsSound S.state self.old }
@@ -220,13 +206,18 @@ impl<S: Store> Coordinator<S> {
         ensures sound { IsSound S.state self.new }
         ensures stores { KeepsStores S.state self.old self.new }
     {
-        let Ok(bound) = read_statement(alloc, text, &self.catalog) else {
-            return Response {
+        match read_statement(alloc, text, &self.catalog) {
+            Ok(statement) => {
+                let answer = self.run(alloc, who, &statement);
+                Response {
+                    bound: Some(statement),
+                    answer,
+                }
+            }
+            Err(fault) => Response {
                 bound: None,
-                answer: Answer::Failed(Fault::Memory),
-            };
-        };
-        let answer = self.answer(alloc, who, &bound);
-        Response { bound, answer }
+                answer: Answer::Failed(fault),
+            },
+        }
     }
 }

@@ -1,5 +1,5 @@
-use cq_catalog::Catalog;
 use cq_group::GroupState;
+use cq_single::Catalog;
 use cq_store::Worker;
 
 /// The coordinator of a run: its catalogue, the shard groups, and the workers with the stores that no group has.

@@ -1,7 +1,7 @@
 ghost use Rattle.std.specs.Prelude.{◌≡◌, ◌<◌, ◌+◌, ◌≤◌, ℕ, [], ◌∷◌, ◌++◌, length, IfOk, IfErr, OnOk, OnErr, slice_get, Some};
 ghost use Rattle.cq_value.specs.Tables.{rows_of};
 ghost use Rattle.cq_meaning.specs.Effects.{reply_of, table_of, inserts};
-ghost use Rattle.cq_catalog.specs.Tables.{shape_of, group_of, groups_of};
+ghost use Rattle.cq_single.specs.Tables.{shape_of, group_of, groups_of};
 ghost use Rattle.cq_history.specs.Journals.{replay};
 ghost use Rattle.cq_history.specs.Between.{Grows};
 ghost use Rattle.cq_history.specs.Standing.{home_of, most_ids};

@@ -1,9 +1,9 @@
 ghost use Rattle.std.specs.Prelude.{◌≡◌, [], ◌∷◌, IfOk, IfSome, Some};
-ghost use Rattle.cq_catalog.specs.Tables.{shape_of_info};
-ghost use Rattle.cq_catalog.specs.declared.catalog.Place.TheVariants.{Local};
+ghost use Rattle.cq_single.specs.Tables.{shape_of_info};
+ghost use Rattle.cq_single.specs.declared.catalog.Place.TheVariants.{Local};
 ghost use Rattle.cq_history.specs.Standing.{IsDistributed};
 
-use cq_catalog::{Place, TableInfo};
+use cq_single::{Place, TableInfo};
 use cq_value::{Columns, Kinds, Names, NoMemory, Positions, Row, Rows, Shape, Text, Value};
 use std::alloc::Global;
 

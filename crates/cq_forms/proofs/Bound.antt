@@ -1,16 +1,23 @@
 -- What every statement that is read has.
-use Rattle.std.proofs.Common.{◌≡◌, ◌⊎◌, inl, inr, ◌≤◌, ℕ, ℤ, pos, negsuc, Bool, true, false, List, refl, arith, Option, Some, None}
-use Rattle.std.specs.Prelude.{⊤, not, ◌&&◌, if◌then◌else◌, nat_le, bytes_eq, option_map, option_and_then, IfSome}
+use Rattle.std.proofs.Common.{◌≡◌, ◌⊎◌, inl, inr, ◌≤◌, ℕ, ℤ, Bool, true, false, List, refl, arith, Option, Some, None, Result, Ok, Err}
+use Rattle.std.specs.Prelude.{⊤, not, ◌&&◌, if◌then◌else◌, nat_le, bytes_eq, option_map, option_and_then, IfSome, IfOk, length}
 use Rattle.std.proofs.lemmas.Bool.Decides.{nat_tests}
 use Rattle.cq_tree.specs.declared.statement.Statement.{Statement}
-use Rattle.cq_catalog.specs.declared.catalog.Catalog.{Catalog}
-use Rattle.cq_catalog.specs.declared.catalog.TableInfo.{TableInfo}
-use Rattle.cq_catalog.specs.declared.catalog.Place.{Place}
-use Rattle.cq_catalog.specs.declared.catalog.Place.TheVariants.{Local, Distributed}
+use Rattle.cq_single.specs.declared.catalog.Catalog.{Catalog}
+use Rattle.cq_single.specs.declared.catalog.TableInfo.{TableInfo}
+use Rattle.cq_single.specs.declared.catalog.Place.{Place}
+use Rattle.cq_single.specs.declared.catalog.Place.TheVariants.{Local, Distributed}
 use Rattle.cq_forms.specs.declared.form.Form.{Form}
 use Rattle.cq_forms.specs.declared.form.Form.TheVariants as form
+use Rattle.cq_tree.specs.declared.answer.Fault.{Fault}
+use Rattle.cq_forms.specs.Finding.{Reads}
 use Rattle.cq_forms.specs.Forms.{form_of}
-use Rattle.cq_forms.specs.Reading.{is_local, local_table, distributed_table, begins_with, shard_count, bound_create, bound_distribute, bound_insert, bound_select, bound, reading, IsDistributed, IsBoundOver}
+use Rattle.cq_token.specs.declared.token.Token.{Token}
+use Rattle.cq_token.specs.declared.error.LexError.{LexError}
+use Rattle.cq_token.specs.Tokens.{tokens}
+use Rattle.cq_grammar.specs.declared.statement.Ast.{Ast}
+use Rattle.cq_grammar.specs.Verdicts.{Complaint, verdict}
+use Rattle.cq_forms.specs.Reading.{is_local, local_table, distributed_table, begins_with, shard_count, bound_create, bound_distribute, bound_insert, bound_select, bound, built, of_tree, of_tokens, reading, IsDistributed, IsBoundOver}
 
 two_ways : (b : Bool) → (b ≡ true) ⊎ (b ≡ false)
 two_ways true = inl refl
@@ -55,18 +62,17 @@ distributed_table_bound name None = tt
 distributed_table_bound name (Some info) =
     elim (two_ways (bytes_eq info.name name && not (is_local info.place))) [ inl t ↦ rw t (refl, distributed_place info.place (bytes_eq info.name name) t) | inr f ↦ rw f tt ]
 
-shard_count_bound : (count : ℤ) → IfSome (shard_count count) (λ n. (1 ≤ n) × (n ≤ 128))
+shard_count_bound : (count : ℕ) → IfSome (shard_count count) (λ n. (1 ≤ n) × (n ≤ 128))
 unfolding shard_count
-shard_count_bound (pos n) =
+shard_count_bound n =
     elim (two_ways (nat_le 1 n && nat_le n 128)) [ inl t ↦ rw t (grind (arith, nat_tests), grind (arith, nat_tests)) | inr f ↦ rw f tt ]
-shard_count_bound (negsuc n) = tt
 
 create_bound : (table first second key : List ℕ) (o : Option TableInfo) → IfSome (bound_create table first second key (record { table = o })) (IsBoundOver (record { table = o }))
 unfolding bound_create IsBoundOver
 create_bound table first second key None = IfSome-if (not (bytes_eq first second) && bytes_eq key first) _ _ (refl, refl, refl)
 create_bound table first second key (Some info) = tt
 
-distribute_bound : (table column : List ℕ) (shards : ℤ) (cat : Catalog) → IfSome (bound_distribute table column shards cat) (IsBoundOver cat)
+distribute_bound : (table column : List ℕ) (shards : ℕ) (cat : Catalog) → IfSome (bound_distribute table column shards cat) (IsBoundOver cat)
 unfolding bound_distribute IsBoundOver
 distribute_bound table column shards cat =
     IfSome-and_then (local_table table cat) _ (λ info. (cat.table ≡ Some info) × (info.place ≡ Local)) (IsBoundOver cat) (local_table_bound table cat.table)
@@ -92,10 +98,29 @@ form_bound (form.Distribute table column shards) cat = distribute_bound table co
 form_bound (form.Insert table first second) cat = insert_bound table first second cat
 form_bound (form.Select table column key) cat = select_bound table column key cat
 
-all_bound : (text : List ℕ) (cat : Catalog) → IfSome (reading text cat) (IsBoundOver cat)
+form_or_none : (o : Option Form) (cat : Catalog) → IfSome (option_and_then (λ f. bound f cat) o) (IsBoundOver cat)
+form_or_none o cat = IfSome-and_then o (λ f. bound f cat) (λ _. ⊤) (IsBoundOver cat) (IfSome-always o) (λ f _. form_bound f cat)
+
+built_bound : (o : Option Statement) (cat : Catalog) → IfSome o (IsBoundOver cat) → IfOk (built o) (IsBoundOver cat)
+built_bound None cat h = tt
+built_bound (Some s) cat h = h
+
+tree_bound : (v : Result Ast Complaint) (cat : Catalog) → IfOk (of_tree v cat) (IsBoundOver cat)
+tree_bound (Ok a) cat = built_bound (option_and_then (λ f. bound f cat) (form_of a)) cat (form_or_none (form_of a) cat)
+tree_bound (Err c) cat = tt
+
+tokens_bound : (ts : Result (List Token) LexError) (end : ℕ) (cat : Catalog) → IfOk (of_tokens ts end cat) (IsBoundOver cat)
+tokens_bound (Ok ts) end cat = tree_bound (verdict ts end) cat
+tokens_bound (Err e) end cat = tt
+
+all_bound : (text : List ℕ) (cat : Catalog) → IfOk (reading text cat) (IsBoundOver cat)
 unfolding reading
-all_bound text cat = IfSome-and_then (form_of text) (λ f. bound f cat) (λ _. ⊤) (IsBoundOver cat) (IfSome-always (form_of text)) (λ f _. form_bound f cat)
+all_bound text cat = tokens_bound (tokens text) (length text) cat
 
 -- a statement that is read over a catalogue has what `IsBoundOver` says
-pub reading_bound : (text : List ℕ) (cat : Catalog) (s : Statement) → reading text cat ≡ Some s → IsBoundOver cat s
+pub reading_bound : (text : List ℕ) (cat : Catalog) (s : Statement) → reading text cat ≡ Ok s → IsBoundOver cat s
 reading_bound text cat s e = rw e at (all_bound text cat)
+
+pub reads_bound : (text : List ℕ) (cat : Catalog) (r : Result Statement Fault) → Reads (reading text cat) r → IfOk r (IsBoundOver cat)
+reads_bound text cat (Ok s) e = reading_bound text cat s e
+reads_bound text cat (Err f) e = tt

@@ -1,2 +1,3 @@
 pub mod Bound
-pub mod FormLaws
+pub mod MeaningLaws
+pub mod ParsingLaws

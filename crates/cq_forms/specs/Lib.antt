@@ -1,3 +1,5 @@
-pub mod Cursor
+pub mod Finding
 pub mod Forms
+pub mod Layers
 pub mod Reading
+pub mod Meanings

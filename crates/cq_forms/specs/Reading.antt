@@ -1,5 +1,5 @@
 -- What a statement's text is read as over a catalogue.
-use Rattle.std.specs.Prelude.{◌≡◌, ◌≤◌, ℕ, ℤ, pos, negsuc, ⊤, Bool, true, false, not, ◌&&◌, if◌then◌else◌, nat_le, List, [], ◌∷◌, length, map, bytes_eq, Option, Some, None, option_map, option_and_then, is_none, IsSomeAnd}
+use Rattle.std.specs.Prelude.{◌≡◌, ◌≤◌, ℕ, ℤ, ⊤, Bool, true, false, not, ◌&&◌, if◌then◌else◌, nat_le, List, [], ◌∷◌, length, map, bytes_eq, Option, Some, None, Result, Ok, Err, option_map, option_and_then, is_none, IsSomeAnd}
 use Rattle.cq_value.specs.declared.value.Value.TheVariants.{Int}
 use Rattle.cq_value.specs.declared.schema.Column.{Column}
 use Rattle.cq_value.specs.declared.schema.Kind.TheVariants.{Bigint}
@@ -9,13 +9,25 @@ use Rattle.cq_tree.specs.declared.journal.ShardOp.TheVariants as op
 use Rattle.cq_tree.specs.declared.statement.Query.{Query}
 use Rattle.cq_tree.specs.declared.statement.Statement.{Statement}
 use Rattle.cq_tree.specs.declared.statement.Statement.TheVariants as statement
-use Rattle.cq_catalog.specs.declared.catalog.Catalog.{Catalog}
-use Rattle.cq_catalog.specs.declared.catalog.TableInfo.{TableInfo}
-use Rattle.cq_catalog.specs.declared.catalog.Place.{Place}
-use Rattle.cq_catalog.specs.declared.catalog.Place.TheVariants.{Local, Distributed}
+use Rattle.cq_single.specs.declared.catalog.Catalog.{Catalog}
+use Rattle.cq_single.specs.declared.catalog.TableInfo.{TableInfo}
+use Rattle.cq_single.specs.declared.catalog.Place.{Place}
+use Rattle.cq_single.specs.declared.catalog.Place.TheVariants.{Local, Distributed}
 use Rattle.cq_forms.specs.declared.form.Form.{Form}
 use Rattle.cq_forms.specs.declared.form.Form.TheVariants as form
 use Rattle.cq_forms.specs.Forms.{form_of}
+use Rattle.cq_token.specs.declared.token.Token.{Token}
+use Rattle.cq_token.specs.declared.error.LexError.{LexError}
+use Rattle.cq_token.specs.declared.error.LexError.TheVariants as lexing
+use Rattle.cq_token.specs.Tokens.{tokens}
+use Rattle.cq_tree.specs.declared.answer.Fault.{Fault}
+use Rattle.cq_tree.specs.declared.answer.Fault.TheVariants as fault
+use Rattle.cq_tree.specs.declared.answer.What.TheVariants.{Depth}
+use Rattle.cq_grammar.specs.declared.statement.Ast.{Ast}
+use Rattle.cq_grammar.specs.Statements.{max_depth}
+use Rattle.cq_parse.specs.declared.error.ParseError.{ParseError}
+use Rattle.cq_parse.specs.declared.error.ParseError.TheVariants as parsing
+use Rattle.cq_grammar.specs.Verdicts.{Complaint, syntax, depth, verdict}
 
 abbrev pub is_local : Place → Bool
 is_local Local = true
@@ -40,9 +52,8 @@ begins_with name [] = false
 begins_with name (c ∷ cs) = bytes_eq c.name name
 
 -- a shard count from 1 to 128
-unfoldable pub shard_count : ℤ → Option ℕ
-shard_count (pos n) = if nat_le 1 n && nat_le n 128 then Some n else None
-shard_count (negsuc n) = None
+unfoldable pub shard_count : ℕ → Option ℕ
+shard_count n = if nat_le 1 n && nat_le n 128 then Some n else None
 
 abbrev pub bigint : List ℕ → Column
 bigint name = record { name = name; kind = Bigint }
@@ -56,7 +67,7 @@ bound_create table first second key cat =
     if is_none cat.table && not (bytes_eq first second) && bytes_eq key first then Some (statement.CreateTable table (bigint first ∷ bigint second ∷ []) (0 ∷ [])) else None
 
 -- the table is local, the column its first, and the count from 1 to 128
-unfoldable pub bound_distribute : List ℕ → List ℕ → ℤ → Catalog → Option Statement
+unfoldable pub bound_distribute : List ℕ → List ℕ → ℕ → Catalog → Option Statement
 bound_distribute table column shards cat =
     option_and_then (λ info. if begins_with column info.columns then option_map (λ n. statement.Distribute table column (Some n) Default) (shard_count shards) else None)
     (local_table table cat)
@@ -79,9 +90,45 @@ bound (form.Distribute table column shards) cat = bound_distribute table column 
 bound (form.Insert table first second) cat = bound_insert table first second cat
 bound (form.Select table column key) cat = bound_select table column key cat
 
--- the statement that a text is over the catalogue; none, if it has no form or the catalogue not what its form needs
-unfoldable pub reading : List ℕ → Catalog → Option Statement
-reading text cat = option_and_then (λ f. bound f cat) (form_of text)
+-- the statement that a tree is over the catalogue, if it has a form with what the form needs
+abbrev pub bound_tree : Ast → Catalog → Option Statement
+bound_tree a cat = option_and_then (λ f. bound f cat) (form_of a)
+
+-- the fault that a text without tokens has
+abbrev pub lexing_fault : LexError → Fault
+lexing_fault (lexing.OpenQuote at) = fault.OpenQuote at
+lexing_fault (lexing.BadCharacter at) = fault.BadCharacter at
+lexing_fault (lexing.TooLarge at) = fault.NumberTooLarge at
+lexing_fault lexing.Memory = fault.Memory
+
+-- the fault that tokens have which are no statement
+abbrev pub parsing_fault : Complaint → Fault
+parsing_fault (syntax at) = fault.Syntax at
+parsing_fault depth = fault.Limit Depth max_depth
+
+-- the same of the parser's error
+abbrev pub parser_fault : ParseError → Fault
+parser_fault (parsing.Syntax at) = fault.Syntax at
+parser_fault (parsing.Limit what number) = fault.Limit what number
+parser_fault parsing.Memory = fault.Memory
+
+-- a statement that runs, or none that is built
+abbrev pub built : Option Statement → Result Statement Fault
+built None = Err fault.NotBuilt
+built (Some s) = Ok s
+
+abbrev pub of_tree : Result Ast Complaint → Catalog → Result Statement Fault
+of_tree (Ok a) cat = built (bound_tree a cat)
+of_tree (Err c) cat = Err (parsing_fault c)
+
+abbrev pub of_tokens : Result (List Token) LexError → ℕ → Catalog → Result Statement Fault
+of_tokens (Ok ts) end cat = of_tree (verdict ts end) cat
+of_tokens (Err e) end cat = Err (lexing_fault e)
+
+-- The statement that a text is over the catalogue, or why it is refused: first what its bytes show, then what its tokens
+-- do, and then that the statement isn't one of the forms with what it needs.
+unfoldable pub reading : List ℕ → Catalog → Result Statement Fault
+reading text cat = of_tokens (tokens text) (length text) cat
 
 abbrev pub IsDistributed : Place → Type 0
 IsDistributed Local = ⊥

@@ -1,11 +1,11 @@
 ghost use Rattle.std.specs.Prelude.{◌≡◌, [], ◌∷◌, length, IfOk, bytes_eq, option_copied};
 ghost use Rattle.cq_value.specs.declared.value.Value.TheVariants.{Int};
-ghost use Rattle.cq_forms.specs.Cursor.{Finds};
+ghost use Rattle.cq_forms.specs.Finding.{Finds};
 ghost use Rattle.cq_forms.specs.Reading.{is_local as is_local_place, local_table as local_in, distributed_table as distributed_in, begins_with as begins_in, shard_count as count_of, bigint, names_of as names_in, bound_create, bound_distribute, bound_insert, bound_select, bound as bound_form};
 
-use crate::cursor::Stop;
 use crate::form::Form;
-use cq_catalog::{Catalog, Place, TableInfo};
+use crate::stop::Stop;
+use cq_single::{Catalog, Place, TableInfo};
 use cq_tree::{Query, ShardOp, Statement};
 use cq_value::{Column, Columns, Kind, Names, NoMemory, Positions, Row, Rows, Text, Value, With};
 use std::alloc::Global;
@@ -59,7 +59,7 @@ fn begins_with(name: &Text, columns: &Columns) -> bool
 
 /// A shard count from 1 to 128.
 #[tactic(auto, unfolding(crate::specs::Reading::shard_count))]
-fn shard_count(count: i128) -> Option<u32>
+fn shard_count(count: u64) -> Option<u32>
     ensures { result ≡ count_of count }
 {
     if 1 <= count && count <= 128 {
@@ -134,7 +134,7 @@ fn create(
 
 /// Distributes a table: it is local, the column is its first, and the count from 1 to 128.
 #[tactic(auto, unfolding(crate::specs::Reading::bound_distribute))]
-fn distribute(table: Text, column: Text, shards: i128, catalog: &Catalog) -> Option<Statement>
+fn distribute(table: Text, column: Text, shards: u64, catalog: &Catalog) -> Option<Statement>
     ensures { result ≡ bound_distribute table column shards catalog.now }
 {
     let info = local_table(&table, catalog)?;

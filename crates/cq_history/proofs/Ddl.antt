@@ -12,10 +12,10 @@ use Rattle.cq_tree.specs.declared.answer.Answered.{Answered}
 use Rattle.cq_tree.specs.declared.answer.Tag.TheVariants as tag
 use Rattle.cq_tree.specs.declared.answer.Fault.TheVariants as fault
 use Rattle.cq_value.specs.declared.schema.With.{With}
-use Rattle.cq_catalog.specs.declared.catalog.Catalog.{Catalog}
-use Rattle.cq_catalog.specs.declared.catalog.TableInfo.{TableInfo}
-use Rattle.cq_catalog.specs.declared.catalog.Place.TheVariants.{Local}
-use Rattle.cq_catalog.specs.Tables.{groups_of, place_in, shards_of}
+use Rattle.cq_single.specs.declared.catalog.Catalog.{Catalog}
+use Rattle.cq_single.specs.declared.catalog.TableInfo.{TableInfo}
+use Rattle.cq_single.specs.declared.catalog.Place.TheVariants.{Local}
+use Rattle.cq_single.specs.Tables.{groups_of, place_in, shards_of}
 use Rattle.cq_meaning.specs.Values.{Row}
 use Rattle.cq_history.specs.Journals.{EachJournal, IsLegal}
 use Rattle.cq_history.specs.Places.{made_by, NoEntry}
@@ -29,8 +29,7 @@ use Rattle.cq_history.proofs.Steps.{catalog_of-more, numbered-more, by_next}
 silent_moves : (cat new_cat : Catalog) (journals new : List (List Entry)) (who : Who) (bound : Option Statement) (a : Answer) → IsSilent bound → NoEntry new who → StandsHere cat journals who bound a → StandsHere new_cat new who bound a
 silent_moves cat new_cat journals new who (Some (statement.Select q)) a silent none here = absurd silent
 silent_moves cat new_cat journals new who (Some (statement.Write op)) a silent none here = absurd silent
-silent_moves cat new_cat journals new who None (answer.Failed fault.NotBuilt) silent none here = none
-silent_moves cat new_cat journals new who None (answer.Failed fault.Memory) silent none here = none
+silent_moves cat new_cat journals new who None (answer.Failed f) silent none here = none
 silent_moves cat new_cat journals new who (Some (statement.CreateTable name columns key)) (answer.Tag tag.CreateTable) silent none here = none
 silent_moves cat new_cat journals new who (Some (statement.CreateTable name columns key)) (answer.Failed fault.Memory) silent none here = none
 silent_moves cat new_cat journals new who (Some (statement.Distribute table column count with)) (answer.Table names rows) silent none here = (none, here.1)

@@ -10,8 +10,8 @@ use Rattle.cq_tree.specs.declared.journal.EntryKind.{EntryKind}
 use Rattle.cq_tree.specs.declared.journal.EntryKind.TheVariants.{Read, Write}
 use Rattle.cq_tree.specs.declared.journal.ShardOp.{ShardOp}
 use Rattle.cq_tree.specs.declared.journal.ShardOp.TheVariants.{Insert}
-use Rattle.cq_catalog.specs.declared.catalog.Catalog.{Catalog}
-use Rattle.cq_catalog.specs.Tables.{shape_of}
+use Rattle.cq_single.specs.declared.catalog.Catalog.{Catalog}
+use Rattle.cq_single.specs.Tables.{shape_of}
 use Rattle.cq_meaning.specs.Values.{Row}
 use Rattle.cq_meaning.specs.Effects.{effect, repeats, numbered, with_rows, table_of, inserts}
 use Rattle.cq_history.specs.Journals.{entered, replay_from, EachReplied, IsReplied, IsPlaced, PlacesRows, IsLegal}

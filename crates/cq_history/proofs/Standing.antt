@@ -25,11 +25,11 @@ use Rattle.cq_tree.specs.declared.answer.Answered.{Answered}
 use Rattle.cq_tree.specs.declared.answer.Tag.TheVariants as tag
 use Rattle.cq_tree.specs.declared.answer.What.TheVariants as what
 use Rattle.cq_tree.specs.declared.answer.Fault.TheVariants as fault
-use Rattle.cq_catalog.specs.declared.catalog.Catalog.{Catalog}
-use Rattle.cq_catalog.specs.declared.catalog.TableInfo.{TableInfo}
-use Rattle.cq_catalog.specs.declared.catalog.Place.{Place}
-use Rattle.cq_catalog.specs.declared.catalog.Place.TheVariants.{Local, Distributed}
-use Rattle.cq_catalog.specs.Tables.{shape_of, shape_in, place_in, column_of, shards_of, group_of, groups_of, distribution_of}
+use Rattle.cq_single.specs.declared.catalog.Catalog.{Catalog}
+use Rattle.cq_single.specs.declared.catalog.TableInfo.{TableInfo}
+use Rattle.cq_single.specs.declared.catalog.Place.{Place}
+use Rattle.cq_single.specs.declared.catalog.Place.TheVariants.{Local, Distributed}
+use Rattle.cq_single.specs.Tables.{shape_of, shape_in, place_in, column_of, shards_of, group_of, groups_of, distribution_of}
 use Rattle.cq_meaning.specs.Values.{Row, column}
 use Rattle.cq_meaning.specs.Queries.{keeps, meaning}
 use Rattle.cq_meaning.specs.Effects.{same_key}
@@ -194,7 +194,7 @@ here_later cat old new group e who (Some (statement.Select q)) (answer.Table nam
 here_later cat old new group e who (Some (statement.Write (Insert table (row ∷ [])))) (answer.Tag (tag.Insert n)) g h here = (here.0, EntersOver-later cat old new group (home_of cat row) e who _ _ g (other who e h) here.1)
 here_later cat old new group e who (Some (statement.Write (Insert table (row ∷ [])))) (answer.Failed fault.Duplicate) g h here = EntersOver-later cat old new group (home_of cat row) e who _ _ g (other who e h) here
 here_later cat old new group e who (Some (statement.Write (Insert table (row ∷ [])))) (answer.Failed (fault.Limit what.Ids n)) g h here = (here.0, LacksIds-later cat old new group e who row g h here.1)
-here_later cat old new group e who None (answer.Failed fault.NotBuilt) g h here = NoEntry-later old new group e who g (other who e h) here
+here_later cat old new group e who None (answer.Failed f) g h here = NoEntry-later old new group e who g (other who e h) here
 here_later cat old new group e who (Some (statement.CreateTable name columns key)) (answer.Tag tag.CreateTable) g h here = NoEntry-later old new group e who g (other who e h) here
 here_later cat old new group e who (Some (statement.Distribute table column count with)) (answer.Table names rows) g h here = (NoEntry-later old new group e who g (other who e h) here.0, here.1)
 here_later cat old new group e who (Some (statement.Select q)) (answer.Failed fault.Memory) g h here = elim here [

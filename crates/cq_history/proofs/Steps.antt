@@ -22,9 +22,10 @@ use Rattle.cq_tree.specs.declared.answer.Answer.TheVariants as answer
 use Rattle.cq_tree.specs.declared.answer.Answered.{Answered}
 use Rattle.cq_tree.specs.declared.answer.Tag.TheVariants as tag
 use Rattle.cq_tree.specs.declared.answer.What.TheVariants as what
+use Rattle.cq_tree.specs.declared.answer.Fault.{Fault}
 use Rattle.cq_tree.specs.declared.answer.Fault.TheVariants as fault
-use Rattle.cq_catalog.specs.declared.catalog.Catalog.{Catalog}
-use Rattle.cq_catalog.specs.Tables.{shape_of, group_of, groups_of, no_table}
+use Rattle.cq_single.specs.declared.catalog.Catalog.{Catalog}
+use Rattle.cq_single.specs.Tables.{shape_of, group_of, groups_of, no_table}
 use Rattle.cq_meaning.specs.Values.{Row, column}
 use Rattle.cq_meaning.specs.Queries.{meaning}
 use Rattle.cq_history.specs.Journals.{replay, EachJournal, IsLegal, IsReplied, PlacesRows}
@@ -222,7 +223,7 @@ pub responds_memory : (cat : Catalog) (who : Who) (journals : List (List Entry))
 responds_memory cat who journals bound silent = by_next cat cat who journals journals bound (answer.Failed fault.Memory) (λ answers w c.
     consistent_none cat answers journals bound (answer.Failed fault.Memory) c refl silent (stands_memory cat journals (next_who answers) bound (none_yet (length answers) (next_who answers) journals c.older (omega arith))))
 
--- a text that is no statement
-pub responds_not_built : (cat : Catalog) (who : Who) (journals : List (List Entry)) → Responds cat cat who journals journals None (answer.Failed fault.NotBuilt)
-responds_not_built cat who journals = by_next cat cat who journals journals None (answer.Failed fault.NotBuilt) (λ answers w c.
-    consistent_none cat answers journals None (answer.Failed fault.NotBuilt) c refl (λ z. tt) (none_yet (length answers) (next_who answers) journals c.older (omega arith)))
+-- a text that is refused before it is bound
+pub responds_refused : (cat : Catalog) (who : Who) (journals : List (List Entry)) (f : Fault) → Responds cat cat who journals journals None (answer.Failed f)
+responds_refused cat who journals f = by_next cat cat who journals journals None (answer.Failed f) (λ answers w c.
+    consistent_none cat answers journals None (answer.Failed f) c refl (λ z. tt) (none_yet (length answers) (next_who answers) journals c.older (omega arith)))

@@ -9,8 +9,8 @@ use Rattle.cq_tree.specs.declared.journal.Who.{Who}
 use Rattle.cq_tree.specs.declared.journal.Entry.{Entry}
 use Rattle.cq_tree.specs.declared.journal.ShardOp.TheVariants.{Insert}
 use Rattle.cq_tree.specs.declared.journal.Reply.TheVariants.{Count, Duplicate}
-use Rattle.cq_catalog.specs.declared.catalog.Catalog.{Catalog}
-use Rattle.cq_catalog.specs.Tables.{shape_of, group_of, distribution_of}
+use Rattle.cq_single.specs.declared.catalog.Catalog.{Catalog}
+use Rattle.cq_single.specs.Tables.{shape_of, group_of, distribution_of}
 use Rattle.cq_meaning.specs.Values.{Row, column, same_value}
 use Rattle.cq_meaning.specs.Effects.{same_key, repeats, reply_of}
 use Rattle.cq_history.specs.Journals.{replay, EachJournal, IsPlaced, PlacesRows, IsLegal}

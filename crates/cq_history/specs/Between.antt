@@ -17,11 +17,11 @@ use Rattle.cq_tree.specs.declared.answer.Answer.TheVariants as answer
 use Rattle.cq_tree.specs.declared.answer.Answered.{Answered}
 use Rattle.cq_tree.specs.declared.answer.Tag.TheVariants as tag
 use Rattle.cq_tree.specs.declared.answer.Fault.TheVariants as fault
-use Rattle.cq_catalog.specs.declared.catalog.Catalog.{Catalog}
-use Rattle.cq_catalog.specs.declared.catalog.TableInfo.{TableInfo}
-use Rattle.cq_catalog.specs.declared.catalog.Place.{Place}
-use Rattle.cq_catalog.specs.declared.catalog.Place.TheVariants.{Local, Distributed}
-use Rattle.cq_catalog.specs.Tables.{shape_of, group_of, groups_of}
+use Rattle.cq_single.specs.declared.catalog.Catalog.{Catalog}
+use Rattle.cq_single.specs.declared.catalog.TableInfo.{TableInfo}
+use Rattle.cq_single.specs.declared.catalog.Place.{Place}
+use Rattle.cq_single.specs.declared.catalog.Place.TheVariants.{Local, Distributed}
+use Rattle.cq_single.specs.Tables.{shape_of, group_of, groups_of}
 use Rattle.cq_meaning.specs.Values.{Row}
 use Rattle.cq_meaning.specs.Queries.{meaning}
 use Rattle.cq_meaning.specs.Effects.{reply_of}

@@ -6,8 +6,8 @@ use Rattle.cq_value.specs.Tables.{Table, empty_table, rows_of}
 use Rattle.cq_tree.specs.declared.journal.Entry.{Entry}
 use Rattle.cq_tree.specs.declared.journal.EntryKind.{EntryKind}
 use Rattle.cq_tree.specs.declared.journal.EntryKind.TheVariants.{Read, Write}
-use Rattle.cq_catalog.specs.Tables.{shape_of, group_of, distribution_of}
-use Rattle.cq_catalog.specs.declared.catalog.Catalog.{Catalog}
+use Rattle.cq_single.specs.Tables.{shape_of, group_of, distribution_of}
+use Rattle.cq_single.specs.declared.catalog.Catalog.{Catalog}
 use Rattle.cq_meaning.specs.Values.{Row, column}
 use Rattle.cq_meaning.specs.Effects.{effect, reply_of, table_of, inserts}
 

@@ -9,10 +9,10 @@ use Rattle.cq_tree.specs.declared.answer.Answer.{Answer}
 use Rattle.cq_tree.specs.declared.answer.Answer.TheVariants.{Failed}
 use Rattle.cq_tree.specs.declared.answer.Answered.{Answered}
 use Rattle.cq_tree.specs.declared.answer.Settings.{Settings}
-use Rattle.cq_catalog.specs.declared.catalog.Catalog.{Catalog}
-use Rattle.cq_catalog.specs.declared.catalog.TableInfo.{TableInfo}
-use Rattle.cq_catalog.specs.declared.catalog.Place.TheVariants.{Local, Distributed}
-use Rattle.cq_catalog.specs.Tables.{no_table}
+use Rattle.cq_single.specs.declared.catalog.Catalog.{Catalog}
+use Rattle.cq_single.specs.declared.catalog.TableInfo.{TableInfo}
+use Rattle.cq_single.specs.declared.catalog.Place.TheVariants.{Local, Distributed}
+use Rattle.cq_single.specs.Tables.{no_table}
 use Rattle.cq_history.specs.Standing.{Stands}
 
 abbrev pub who_of : Answered → Who

@@ -4,8 +4,8 @@ use Rattle.cq_value.specs.Tables.{rows_of}
 use Rattle.cq_tree.specs.declared.journal.Who.{Who}
 use Rattle.cq_tree.specs.declared.journal.Entry.{Entry}
 use Rattle.cq_tree.specs.declared.journal.EntryKind.{EntryKind}
-use Rattle.cq_catalog.specs.Tables.{shape_of}
-use Rattle.cq_catalog.specs.declared.catalog.Catalog.{Catalog}
+use Rattle.cq_single.specs.Tables.{shape_of}
+use Rattle.cq_single.specs.declared.catalog.Catalog.{Catalog}
 use Rattle.cq_meaning.specs.Values.{Row}
 use Rattle.cq_history.specs.Journals.{replay, EachJournal}
 

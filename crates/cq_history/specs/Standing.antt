@@ -16,8 +16,8 @@ use Rattle.cq_tree.specs.declared.answer.Answer.TheVariants as answer
 use Rattle.cq_tree.specs.declared.answer.Tag.TheVariants as tag
 use Rattle.cq_tree.specs.declared.answer.What.TheVariants as what
 use Rattle.cq_tree.specs.declared.answer.Fault.TheVariants as fault
-use Rattle.cq_catalog.specs.Tables.{shape_of, group_of, distribution_of}
-use Rattle.cq_catalog.specs.declared.catalog.Catalog.{Catalog}
+use Rattle.cq_single.specs.Tables.{shape_of, group_of, distribution_of}
+use Rattle.cq_single.specs.declared.catalog.Catalog.{Catalog}
 use Rattle.cq_meaning.specs.Values.{Row, column}
 use Rattle.cq_meaning.specs.Queries.{Answers}
 use Rattle.cq_meaning.specs.Effects.{reply_of}
@@ -57,7 +57,7 @@ pub record IsDistributed (names : List (List ℕ)) (rows : List Row) : Type 0 wh
 -- what the answer of a statement says of the journals. A statement that is refused before it is bound has no entry, and want
 -- of memory leaves at most the Read of a query
 abbrev pub Stands : Catalog → List (List Entry) → Who → Option Statement → Answer → Type 0
-Stands cat journals who None (answer.Failed fault.NotBuilt) = NoEntry journals who
+Stands cat journals who None (answer.Failed f) = NoEntry journals who
 Stands cat journals who (Some (statement.CreateTable name columns key)) (answer.Tag tag.CreateTable) = NoEntry journals who
 Stands cat journals who (Some (statement.Distribute table column count with)) (answer.Table names rows) = NoEntry journals who × IsDistributed names rows
 Stands cat journals who (Some (statement.Select q)) (answer.Table names rows) = StandsQuery cat journals who q names rows

@@ -1,4 +1,4 @@
-pub mod CuttingLaws
 pub mod ScheduleLaws
 pub mod TextLaws
 pub mod WritingLaws
+pub mod CuttingLaws

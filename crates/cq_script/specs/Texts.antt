@@ -10,7 +10,7 @@ use Rattle.cq_tree.specs.declared.answer.Tag.TheVariants.{CreateTable, Insert}
 use Rattle.cq_tree.specs.declared.answer.Fault.{Fault}
 use Rattle.cq_tree.specs.declared.answer.Fault.TheVariants as faults
 use Rattle.cq_tree.specs.declared.answer.What.{What}
-use Rattle.cq_tree.specs.declared.answer.What.TheVariants.{Ids}
+use Rattle.cq_tree.specs.declared.answer.What.TheVariants.{Ids, Depth}
 use Rattle.cq_script.specs.declared.fatal.Fatal.{Fatal}
 use Rattle.cq_script.specs.declared.fatal.Fatal.TheVariants as ends
 
@@ -38,8 +38,13 @@ count_line n = if nat_eq n 1 then codes "(1 row)\n" else codes "(" ++ decimal n 
 
 unfoldable pub what_text : What → List ℕ
 what_text Ids = codes "ids"
+what_text Depth = codes "depth"
 
 unfoldable pub fault_text : Fault → List ℕ
+fault_text (faults.OpenQuote at) = codes "1 open quote at " ++ decimal at
+fault_text (faults.BadCharacter at) = codes "2 bad character at " ++ decimal at
+fault_text (faults.NumberTooLarge at) = codes "3 number too large at " ++ decimal at
+fault_text (faults.Syntax at) = codes "4 syntax at " ++ decimal at
 fault_text faults.Memory = codes "24 out of memory"
 fault_text faults.Duplicate = codes "30 duplicate key"
 fault_text (faults.Limit what number) = codes "33 limit " ++ what_text what ++ codes " " ++ decimal number

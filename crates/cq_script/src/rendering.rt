@@ -1,4 +1,4 @@
-ghost use Rattle.std.specs.Prelude.{◌≡◌, ℕ, List, ◌∷◌, ◌++◌, map, flat_map, IfOk, OnOk};
+ghost use Rattle.std.specs.Prelude.{◌≡◌, ℕ, List, ◌∷◌, ◌++◌, map, flat_map, decimal, IfOk, OnOk};
 ghost use Rattle.std.specs.List.{join_with_byte};
 ghost use Rattle.cq_script.specs.Texts.{escaped_byte, escaped, value_text, fields_line, row_line, count_line, what_text, fault_text, text_of};
 
@@ -134,7 +134,17 @@ fn name_of(what: What) -> &'static [u8]
 {
     match what {
         What::Ids => b"ids",
+        What::Depth => b"depth",
     }
+}
+
+/// Puts the words and the number last.
+fn push_with(out: &mut Vec<u8>, words: &[u8], number: u64) -> Result<(), AllocError>
+    ensures { OnOk result (out.new.items ≡ out.old.items ++ (words.now ++ decimal number)) }
+{
+    let mut buffer = Buffer::new();
+    out.extend_from_slice(words)?;
+    out.extend_from_slice(buffer.format(number).as_bytes())
 }
 
 #[tactic(auto, unfolding(crate::specs::Texts::fault_text))]
@@ -142,14 +152,16 @@ fn push_fault(out: &mut Vec<u8>, fault: Fault) -> Result<(), AllocError>
     ensures { OnOk result (out.new.items ≡ out.old.items ++ fault_text fault) }
 {
     match fault {
+        Fault::OpenQuote { at } => push_with(out, b"1 open quote at ", at),
+        Fault::BadCharacter { at } => push_with(out, b"2 bad character at ", at),
+        Fault::NumberTooLarge { at } => push_with(out, b"3 number too large at ", at),
+        Fault::Syntax { at } => push_with(out, b"4 syntax at ", at),
         Fault::Memory => out.extend_from_slice(b"24 out of memory"),
         Fault::Duplicate => out.extend_from_slice(b"30 duplicate key"),
         Fault::Limit { what, number } => {
-            let mut buffer = Buffer::new();
             out.extend_from_slice(b"33 limit ")?;
             out.extend_from_slice(name_of(what))?;
-            out.extend_from_slice(b" ")?;
-            out.extend_from_slice(buffer.format(number).as_bytes())
+            push_with(out, b" ", number)
         }
         Fault::NotBuilt => out.extend_from_slice(b"35 not built"),
     }

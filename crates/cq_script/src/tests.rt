@@ -2,12 +2,13 @@
 //! once with ample memory.
 
 ghost use Rattle.std.specs.Prelude.{◌≡◌, ◌<◌, ℕ, List, ◌++◌, map, IfOk, OnOk};
-ghost use Rattle.cq_script.specs.Scripts.{Cut, statements};
+ghost use Rattle.cq_script.specs.Scripts.{Cut, statements, statement_of, if_any};
 
 use crate::cutter::Cutter;
 use crate::fatal::Fatal;
 use crate::memory::{MemSink, MemSource};
 use crate::rendering::render;
+use crate::scan::statement_in;
 use crate::sink::{Sink, SinkError, emit};
 use crate::source::{Failed, Source};
 use crate::standard::{ReadSource, WriteSink};
@@ -16,13 +17,32 @@ use cq_value::{Items, Names, NoMemory, Row, Rows, Text, Value};
 use std::alloc::Global;
 use std::test::Fail;
 
-/// Cuts a piece of a script, and puts the statements last.
-fn feed(cutter: &mut Cutter, piece: &[u8], list: &mut Items<Vec<u8>>) -> Result<(), NoMemory>
+/// Puts the statement of a piece last, if it has a byte.
+fn put_statement(alloc: Global, piece: &[u8], list: &mut Items<Vec<u8>>) -> Result<(), NoMemory>
+    ensures { OnOk result (map (λ v. v.items) list.new ≡ map (λ v. v.items) list.old ++ if_any (statement_of piece.now)) }
+{
+    let statement = statement_in(piece);
+    if statement.is_empty() {
+        return Ok(());
+    }
+    match statement.to_vec(alloc) {
+        Ok(text) => list.put(text),
+        Err(_) => Err(NoMemory),
+    }
+}
+
+/// Cuts bytes of a script, and puts the statements last.
+fn feed(
+    alloc: Global,
+    cutter: &mut Cutter,
+    piece: &[u8],
+    list: &mut Items<Vec<u8>>,
+) -> Result<(), NoMemory>
     ensures { OnOk result ((taken : List ℕ) → Cut taken (map (λ v. v.items) list.old) cutter.old → Cut (taken ++ piece.now) (map (λ v. v.items) list.new) cutter.new) }
 {
     let mut left = piece;
     while let Some(step) = cutter.next_in(left)? {
-        list.put(step.statement)?;
+        put_statement(alloc, step.piece.as_slice(), list)?;
         left = step.left;
     }
     Ok(())
@@ -38,12 +58,11 @@ fn statements_in(alloc: Global, script: &[u8], size: usize) -> Result<Items<Vec<
     let mut at = 0;
     while at < script.len() {
         let end = at + size.min(script.len() - at);
-        feed(&mut cutter, &script[at..end], &mut list)?;
+        feed(alloc, &mut cutter, &script[at..end], &mut list)?;
         at = end;
     }
-    if let Some(last) = cutter.finish() {
-        list.put(last)?;
-    }
+    let last = cutter.finish();
+    put_statement(alloc, last.as_slice(), &mut list)?;
     Ok(list)
 }
 
@@ -68,6 +87,37 @@ fn scripts_are_cut(rt: HostRuntime) -> Result<(), Fail> {
         assert_eq!(rt; list[2].as_slice(), b"last ".as_slice(), "pieces of {size}");
     }
     assert_eq!(rt; statements_in(alloc, b" \n;; \t", 2)?.len(), 0);
+    Ok(())
+}
+
+#[test]
+fn semicolons_in_quotes_and_comments_end_nothing(rt: HostRuntime) -> Result<(), Fail> {
+    let alloc = rt.alloc();
+    let script = b"-- first; \n SELECT ';', 'it''s;' -- ; '\n, 2 - 1; -- ;\n--\n;- -;- 'a--;';b--";
+    for size in [1usize, 2, 3, 5, 4096] {
+        let list = statements_in(alloc, script, size)?;
+        let list = list.as_slice();
+        assert_eq!(rt; list.len(), 4, "pieces of {size}");
+        assert_eq!(rt;
+            list[0].as_slice(),
+            b"SELECT ';', 'it''s;' -- ; '\n, 2 - 1".as_slice(),
+            "pieces of {size}"
+        );
+        assert_eq!(rt; list[1].as_slice(), b"- -".as_slice(), "pieces of {size}");
+        assert_eq!(rt;
+            list[2].as_slice(),
+            b"- 'a--;'".as_slice(),
+            "pieces of {size}"
+        );
+        assert_eq!(rt; list[3].as_slice(), b"b--".as_slice(), "pieces of {size}");
+    }
+    let open = statements_in(alloc, b"SELECT 'a;b", 3)?;
+    assert_eq!(rt; open.len(), 1);
+    assert_eq!(rt; open.as_slice()[0].as_slice(), b"SELECT 'a;b".as_slice());
+    assert_eq!(rt;
+        statements_in(alloc, b"-- nothing; here\n ; --", 4)?.len(),
+        0
+    );
     Ok(())
 }
 
@@ -171,9 +221,30 @@ fn other_answers_are_rendered(rt: HostRuntime) -> Result<(), Fail> {
         what: What::Ids,
         number: 4294967296,
     };
+    let depth = Fault::Limit {
+        what: What::Depth,
+        number: 64,
+    };
     for (answer, want) in [
         (Answer::Tag(Tag::CreateTable), "CREATE TABLE\n"),
         (Answer::Tag(Tag::Insert(12)), "INSERT 0 12\n"),
+        (
+            Answer::Failed(Fault::OpenQuote { at: 7 }),
+            "ERROR 1 open quote at 7\n",
+        ),
+        (
+            Answer::Failed(Fault::BadCharacter { at: 0 }),
+            "ERROR 2 bad character at 0\n",
+        ),
+        (
+            Answer::Failed(Fault::NumberTooLarge { at: 7 }),
+            "ERROR 3 number too large at 7\n",
+        ),
+        (
+            Answer::Failed(Fault::Syntax { at: 1234 }),
+            "ERROR 4 syntax at 1234\n",
+        ),
+        (Answer::Failed(depth), "ERROR 33 limit depth 64\n"),
         (Answer::Failed(Fault::Memory), "ERROR 24 out of memory\n"),
         (Answer::Failed(Fault::Duplicate), "ERROR 30 duplicate key\n"),
         (Answer::Failed(limit), "ERROR 33 limit ids 4294967296\n"),

@@ -5,12 +5,12 @@ use Rattle.std.proofs.Math.ListN.{set}
 use Rattle.std.proofs.lemmas.Grind.{common_steps}
 use Rattle.std.proofs.lemmas.List.{take-append-drop}
 use Rattle.cq_tree.specs.declared.answer.Answered.{Answered}
-use Rattle.cq_catalog.specs.declared.catalog.Catalog.{Catalog}
-use Rattle.cq_catalog.specs.Tables.{no_table}
+use Rattle.cq_single.specs.declared.catalog.Catalog.{Catalog}
+use Rattle.cq_single.specs.Tables.{no_table}
 use Rattle.cq_history.specs.Log.{catalog_after}
 use Rattle.cq_forms.specs.Reading.{reading}
 use Rattle.cq_coordinator.specs.Responses.{ReadsAs}
-use Rattle.cq_script.specs.Scripts.{Cut, Gives, statements, whole_statements, rest_of, last_statement}
+use Rattle.cq_script.specs.Scripts.{Cut, Gives, pieces, statement_of, statements, whole_statements, rest_of, if_any}
 use Rattle.cq_script.specs.Streams.{SourceState, SinkState, Took, Moved}
 use Rattle.cq_script.proofs.CuttingLaws.{cut_first, cutting_more, cutting_gives, cutting_done, cut_last}
 use Rattle.cq_top.specs.declared.stop.Stop.{Stop}
@@ -18,7 +18,7 @@ use Rattle.cq_top.specs.declared.stop.Stop.TheVariants as stops
 use Rattle.cq_top.specs.declared.status.Status.{Status}
 use Rattle.cq_top.specs.declared.status.Status.TheVariants.{WriteFault, Memory}
 use Rattle.cq_top.specs.Scripts.{AnswersFrom, AnswersTo, AnswersFirst, IsAnswered}
-use Rattle.cq_top.specs.Serving.{AnswersNext, AnswersMaybe, IsAnsweredUpTo, IsAnswering, IsTaken, IsShownInPart, IsShownBy}
+use Rattle.cq_top.specs.Serving.{AnswersNext, AnswersAny, AnswersAnyMaybe, IsAnsweredUpTo, IsAnswering, IsTaken, IsShownInPart, IsShownBy}
 
 -- the last item is exchanged
 pub set_last : {X : Type 0} (xs ys zs : List X) (p a : X) (n : ℕ) → n ≡ length xs + 1 → ys ≡ xs ++ p ∷ [] → zs ≡ set ys (n - 1) a → zs ≡ xs ++ a ∷ []
@@ -39,6 +39,11 @@ answers_from_more cat (t ∷ texts) [] text a all r = absurd all
 pub answers_more : (texts : List (List ℕ)) (old new : List Answered) (text : List ℕ) → AnswersTo texts old → AnswersNext old new text → AnswersTo (texts ++ text ∷ []) new
 answers_more texts old new text all next = subst (AnswersTo (texts ++ text ∷ [])) (sym next.1) (answers_from_more no_table texts old text next.0 all next.2)
 
+-- one more text with its answer, if it has a byte
+pub answers_any : (texts : List (List ℕ)) (old new : List Answered) (text : List ℕ) → AnswersTo texts old → AnswersAny old new text → AnswersTo (texts ++ if_any text) new
+answers_any texts old new [] all same = subst (λ v. AnswersTo v new) (sym (append-nil texts)) (subst (AnswersTo texts) (sym same) all)
+answers_any texts old new (b ∷ bs) all next = answers_more texts old new (b ∷ bs) all next
+
 -- the texts of the answers are a front of the texts
 pub answers_first : (texts given rest : List (List ℕ)) (answers : List Answered) → given ++ rest ≡ texts → AnswersTo given answers → AnswersFirst texts answers
 answers_first texts given rest answers e all = (given, rest, sym e, all)
@@ -51,46 +56,38 @@ answered_first = ([], tt, cut_first)
 pub answering_more : (taken more text : List ℕ) (answers : List Answered) → IsAnsweredUpTo taken text answers → IsAnswering (taken ++ more) text more answers
 answering_more taken more text answers a = (a.0, a.1, cutting_more taken more a.0 text a.2)
 
--- a statement is answered
-pub answering_next : (bytes text left statement after : List ℕ) (old new : List Answered) → IsAnswering bytes text left old → Gives text left statement after → AnswersNext old new statement → IsAnswering bytes [] after new
-answering_next bytes text left statement after old new a g next = (a.0 ++ statement ∷ [], answers_more a.0 old new statement a.1 next, cutting_gives bytes a.0 text left statement after a.2 g)
+-- the statement of a piece is answered
+pub answering_next : (bytes text left piece after : List ℕ) (old new : List Answered) → IsAnswering bytes text left old → Gives text left piece after → AnswersAny old new (statement_of piece) → IsAnswering bytes [] after new
+answering_next bytes text left piece after old new a g next = (a.0 ++ if_any (statement_of piece), answers_any a.0 old new (statement_of piece) a.1 next, cutting_gives bytes a.0 text left piece after a.2 g)
 
 -- all bytes are used
-pub answering_done : (bytes text left after : List ℕ) (answers : List Answered) → IsAnswering bytes text left answers → Cut (text ++ left) [] after → IsAnsweredUpTo bytes after answers
+pub answering_done : (bytes text left after : List ℕ) (answers : List Answered) → IsAnswering bytes text left answers → pieces (text ++ left) ≡ after ∷ [] → IsAnsweredUpTo bytes after answers
 answering_done bytes text left after answers a c = (a.0, a.1, cutting_done bytes a.0 text left after a.2 c)
 
 -- in the middle of the bytes, the first of their whole statements are answered
 pub answering_first : (bytes text left : List ℕ) (answers : List Answered) → IsAnswering bytes text left answers → AnswersFirst (whole_statements bytes) answers
 answering_first bytes text left answers a = answers_first (whole_statements bytes) a.0 (whole_statements (text ++ left)) answers a.2.whole a.1
 
--- a statement is answered, or there was no memory for it
-pub answering_maybe : (bytes text left statement after : List ℕ) (old new : List Answered) → IsAnswering bytes text left old → Gives text left statement after → AnswersMaybe old new statement → AnswersFirst (whole_statements bytes) new
-answering_maybe bytes text left statement after old new a g (inl e) = subst (AnswersFirst (whole_statements bytes)) (sym e) (answering_first bytes text left old a)
-answering_maybe bytes text left statement after old new a g (inr next) = answering_first bytes [] after new (answering_next bytes text left statement after old new a g next)
+-- the statement of a piece is answered, or there was no memory for it
+pub answering_maybe : (bytes text left piece after : List ℕ) (old new : List Answered) → IsAnswering bytes text left old → Gives text left piece after → AnswersAnyMaybe old new (statement_of piece) → AnswersFirst (whole_statements bytes) new
+answering_maybe bytes text left piece after old new a g (inl e) = subst (AnswersFirst (whole_statements bytes)) (sym e) (answering_first bytes text left old a)
+answering_maybe bytes text left piece after old new a g (inr next) = answering_first bytes [] after new (answering_next bytes text left piece after old new a g next)
 
 pub answered_whole : (taken text : List ℕ) (answers : List Answered) → IsAnsweredUpTo taken text answers → AnswersTo (whole_statements taken) answers
 answered_whole taken text answers a = subst (λ v. AnswersTo v answers) a.2.whole a.1
 
--- the end of the script, where no statement was begun
-pub answered_end : (bytes text : List ℕ) (answers : List Answered) → IsAnsweredUpTo bytes text answers → text ≡ [] → AnswersTo (statements bytes) answers
-answered_end bytes text answers a e = subst (λ v. AnswersTo v answers) (sym (append-nil a.0) ∙ ap (λ (t : List ℕ). a.0 ++ last_statement t) (sym e) ∙ cut_last bytes a.0 text a.2) a.1
-
-some_statement : (text : List ℕ) → text ≢ [] → last_statement text ≡ text ∷ []
-some_statement [] n = absurd (n refl)
-some_statement (b ∷ bs) n = refl
-
--- and where the last statement is answered
-pub answered_last : (bytes text : List ℕ) (old new : List Answered) → IsAnsweredUpTo bytes text old → text ≢ [] → AnswersNext old new text → AnswersTo (statements bytes) new
-answered_last bytes text old new a n next = subst (λ v. AnswersTo v new) (ap (λ v. a.0 ++ v) (sym (some_statement text n)) ∙ cut_last bytes a.0 text a.2) (answers_more a.0 old new text a.1 next)
+-- the end of the script, where the statement of the last piece is answered
+pub answered_last : (bytes text : List ℕ) (old new : List Answered) → IsAnsweredUpTo bytes text old → AnswersAny old new (statement_of text) → AnswersTo (statements bytes) new
+answered_last bytes text old new a next = subst (λ v. AnswersTo v new) (cut_last bytes a.0 text a.2) (answers_any a.0 old new (statement_of text) a.1 next)
 
 -- or not
 pub answered_but_last : (bytes text : List ℕ) (answers : List Answered) → IsAnsweredUpTo bytes text answers → AnswersFirst (statements bytes) answers
-answered_but_last bytes text answers a = answers_first (statements bytes) a.0 (last_statement text) answers (cut_last bytes a.0 text a.2) a.1
+answered_but_last bytes text answers a = answers_first (statements bytes) a.0 (if_any (statement_of text)) answers (cut_last bytes a.0 text a.2) a.1
 
 -- the end of the script, where the answer of the last statement may be missing
-pub answered_maybe : (bytes text : List ℕ) (old new : List Answered) → IsAnsweredUpTo bytes text old → text ≢ [] → AnswersMaybe old new text → AnswersFirst (statements bytes) new
-answered_maybe bytes text old new a n (inl e) = subst (AnswersFirst (statements bytes)) (sym e) (answered_but_last bytes text old a)
-answered_maybe bytes text old new a n (inr next) = answers_first (statements bytes) (statements bytes) [] new (append-nil (statements bytes)) (answered_last bytes text old new a n next)
+pub answered_maybe : (bytes text : List ℕ) (old new : List Answered) → IsAnsweredUpTo bytes text old → AnswersAnyMaybe old new (statement_of text) → AnswersFirst (statements bytes) new
+answered_maybe bytes text old new a (inl e) = subst (AnswersFirst (statements bytes)) (sym e) (answered_but_last bytes text old a)
+answered_maybe bytes text old new a (inr next) = answers_first (statements bytes) (statements bytes) [] new (append-nil (statements bytes)) (answered_last bytes text old new a next)
 
 -- a run that is stopped has answered the first statements
 pub answered_stop : (stop : Stop) (status : Status) (bytes : List ℕ) (n : ℕ) (answers : List Answered) → ((stop ≡ stops.WriteFault) ↔ (status ≡ WriteFault)) → ((stop ≡ stops.Memory) ↔ (status ≡ Memory)) → AnswersFirst (statements bytes) answers → IsAnswered status bytes n answers
@@ -106,8 +103,8 @@ whole_first : (taken more : List ℕ) → (rest : List (List ℕ)) × (whole_sta
 whole_first taken more =
     let c = cutting_more taken more (whole_statements taken) (rest_of taken) (record { whole = refl; rest = refl }) in
     let e = cut_last (taken ++ more) (whole_statements (taken ++ more)) (rest_of (taken ++ more)) (record { whole = refl; rest = refl }) in (
-      whole_statements (rest_of taken ++ more) ++ last_statement (rest_of (taken ++ more)),
-      sym (append_assoc (whole_statements taken) (whole_statements (rest_of taken ++ more)) (last_statement (rest_of (taken ++ more)))) ∙ ap (λ v. v ++ last_statement (rest_of (taken ++ more))) c.whole ∙ e,
+      whole_statements (rest_of taken ++ more) ++ if_any (statement_of (rest_of (taken ++ more))),
+      sym (append_assoc (whole_statements taken) (whole_statements (rest_of taken ++ more)) (if_any (statement_of (rest_of (taken ++ more))))) ∙ ap (λ v. v ++ if_any (statement_of (rest_of (taken ++ more)))) c.whole ∙ e,
     )
 
 pub first_of_all : (taken more : List ℕ) (answers : List Answered) → AnswersFirst (whole_statements taken) answers → AnswersFirst (statements (taken ++ more)) answers

@@ -10,7 +10,7 @@ use Rattle.cq_value.specs.declared.schema.Shape.{Shape}
 use Rattle.cq_tree.specs.declared.answer.Answered.{Answered}
 use Rattle.cq_tree.specs.declared.journal.Entry.{Entry}
 use Rattle.cq_tree.specs.declared.journal.Journal.{Journal}
-use Rattle.cq_catalog.specs.declared.catalog.Catalog.{Catalog}
+use Rattle.cq_single.specs.declared.catalog.Catalog.{Catalog}
 use Rattle.cq_history.specs.Journals.{EachJournal, IsLegal}
 use Rattle.cq_history.specs.Log.{AllStand, IsInOrder, IsOfFirst}
 use Rattle.cq_history.specs.Between.{IsConsistent}

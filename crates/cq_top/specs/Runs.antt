@@ -4,7 +4,7 @@ use Rattle.std.specs.List.{AllByRecursion}
 use Rattle.cq_tree.specs.declared.journal.Entry.{Entry}
 use Rattle.cq_tree.specs.declared.journal.Journal.{Journal}
 use Rattle.cq_tree.specs.declared.answer.Answered.{Answered}
-use Rattle.cq_catalog.specs.Tables.{no_table, groups_of}
+use Rattle.cq_single.specs.Tables.{no_table, groups_of}
 use Rattle.cq_history.specs.Journals.{EachJournal, AllLegal}
 use Rattle.cq_history.specs.Log.{catalog_of, NumberedFrom, AllStand, IsInOrder, IsOfFirst}
 use Rattle.cq_cluster.specs.Ending.{AreJournals}

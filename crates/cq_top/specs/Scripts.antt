@@ -1,8 +1,8 @@
 -- The answers to the statements of a script: each statement is read over the catalogue that the answers before it give.
 use Rattle.std.specs.Prelude.{◌≡◌, ◌+◌, ◌<◌, ◌≤◌, ⊤, ℕ, List, [], ◌∷◌, ◌++◌, length, take, drop, Option, Some}
 use Rattle.cq_tree.specs.declared.answer.Answered.{Answered}
-use Rattle.cq_catalog.specs.declared.catalog.Catalog.{Catalog}
-use Rattle.cq_catalog.specs.Tables.{no_table}
+use Rattle.cq_single.specs.declared.catalog.Catalog.{Catalog}
+use Rattle.cq_single.specs.Tables.{no_table}
 use Rattle.cq_history.specs.Log.{catalog_after}
 use Rattle.cq_forms.specs.Reading.{reading}
 use Rattle.cq_script.specs.Scripts.{statements, whole_statements}

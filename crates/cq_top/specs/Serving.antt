@@ -30,7 +30,16 @@ AnswersNext old new text = (a : Answered) × (new ≡ old ++ a ∷ []) × ReadsA
 abbrev pub AnswersMaybe : List Answered → List Answered → List ℕ → Type 0
 AnswersMaybe old new text = (new ≡ old) ⊎ AnswersNext old new text
 
--- the statements that are whole in the bytes taken are answered, and the text is the one begun
+-- one more answer, if the text has a byte
+abbrev pub AnswersAny : List Answered → List Answered → List ℕ → Type 0
+AnswersAny old new [] = new ≡ old
+AnswersAny old new (b ∷ bs) = AnswersNext old new (b ∷ bs)
+
+-- the same, or there was no memory for it
+abbrev pub AnswersAnyMaybe : List Answered → List Answered → List ℕ → Type 0
+AnswersAnyMaybe old new text = (new ≡ old) ⊎ AnswersAny old new text
+
+-- the statements that are whole in the bytes taken are answered, and the text is the piece begun
 abbrev pub IsAnsweredUpTo : List ℕ → List ℕ → List Answered → Type 0
 IsAnsweredUpTo taken text answers = (given : List (List ℕ)) × AnswersTo given answers × Cut taken given text
 

@@ -1,7 +1,7 @@
 ghost use Rattle.std.specs.Prelude.{◌≡◌};
 ghost use Rattle.cq_top.specs.Runs.{IsEmptyLog};
 
-use cq_catalog::Catalog;
+use cq_single::Catalog;
 use cq_store::BoxedStore;
 use cq_tree::{AnsweredList, Journals, Waves, Who};
 use cq_value::Items;

@@ -4,7 +4,7 @@ ghost use Rattle.cq_coordinator.specs.Coordination.{KeepsStores};
 ghost use Rattle.cq_top.specs.Scripts.{IsAnswered, Serves, most_bytes};
 ghost use Rattle.cq_top.specs.Serving.{IsServing, IsAnsweredUpTo, IsShown, IsShownBy, IsReadingEnd, IsLastEnd, BlamesSink, BlamesSource};
 
-use crate::serve::{answer_one, feed};
+use crate::serve::{answer_piece, feed};
 use crate::serving::Serving;
 use crate::status::Status;
 use cq_group::Gate;
@@ -32,10 +32,8 @@ fn finish<S: Store, K: Sink, G: Gate>(
     ensures blames { BlamesSink result (K.shown sink.old) (K.shown sink.new) }
     ensures stores { KeepsStores S.state serving.old.coordinator serving.new.coordinator }
 {
-    let Some(text) = cutter.finish() else {
-        return Status::Done;
-    };
-    match answer_one(alloc, gate, serving, sink, text.as_slice()) {
+    let piece = cutter.finish();
+    match answer_piece(alloc, gate, serving, sink, piece.as_slice()) {
         Ok(()) => Status::Done,
         Err(stop) => stop.status(),
     }

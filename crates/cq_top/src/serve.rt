@@ -1,15 +1,15 @@
 ghost use Rattle.std.specs.Prelude.{◌≡◌, ◌<◌, ◌+◌, ◌≤◌, ◌^◌, ◌⊎◌, ◌≢◌, ℕ, List, [], ◌∷◌, ◌++◌, length, IfOk, IfErr, OnOk, OnErr, Some, IsTrue, slice_get};
-ghost use Rattle.cq_script.specs.Scripts.{whole_statements, statements};
+ghost use Rattle.cq_script.specs.Scripts.{whole_statements, statement_of};
 ghost use Rattle.cq_script.specs.Streams.{Rose};
 ghost use Rattle.cq_script.specs.Texts.{text_of};
 ghost use Rattle.cq_coordinator.specs.Coordination.{KeepsStores};
 ghost use Rattle.cq_top.specs.Scripts.{AnswersTo, AnswersFirst};
-ghost use Rattle.cq_top.specs.Serving.{IsServing, AnswersNext, AnswersMaybe, IsAnsweredUpTo, ShowsMore, ShowsPart};
+ghost use Rattle.cq_top.specs.Serving.{IsServing, AnswersNext, AnswersMaybe, AnswersAny, AnswersAnyMaybe, IsAnsweredUpTo, ShowsMore, ShowsPart};
 
 use crate::serving::Serving;
 use crate::stop::Stop;
 use cq_group::{Gate, Point};
-use cq_script::{Cutter, Sink, SinkError, emit, render};
+use cq_script::{Cutter, Sink, SinkError, emit, render, statement_in};
 use cq_store::Store;
 use cq_tree::AnsweredList;
 use cq_value::NoMemory;
@@ -27,7 +27,7 @@ fn text_at(alloc: Global, answers: &AnsweredList, place: u64) -> Result<Vec<u8>,
 ///
 /// Errors: the sink failed, or want of memory; the answer is the last then, unless there was no memory for it, and a front
 /// of its text may be written.
-pub fn answer_one<S: Store, K: Sink, G: Gate>(
+fn answer_one<S: Store, K: Sink, G: Gate>(
     alloc: Global,
     gate: &G,
     serving: &mut Serving<S>,
@@ -64,6 +64,37 @@ pub fn answer_one<S: Store, K: Sink, G: Gate>(
     Ok(())
 }
 
+/// Answers the statement of a piece of the script, if there is one, and writes the answer.
+///
+/// Errors: those of `answer_one`.
+pub fn answer_piece<S: Store, K: Sink, G: Gate>(
+    alloc: Global,
+    gate: &G,
+    serving: &mut Serving<S>,
+    sink: &mut K,
+    piece: &[u8],
+) -> Result<(), Stop>
+    requires room { length serving.old.answers < 2 ^ 62 }
+    requires serving { IsServing S.state serving.old }
+    ensures serving { IsServing S.state serving.new }
+    ensures next { OnOk result (AnswersAny serving.old.answers serving.new.answers (statement_of piece.now)) }
+    ensures maybe { AnswersAnyMaybe serving.old.answers serving.new.answers (statement_of piece.now) }
+    ensures few { length serving.new.answers ≤ length serving.old.answers + 1 }
+    ensures shows { OnOk result (ShowsMore (K.shown sink.old) (K.shown sink.new) serving.old.answers serving.new.answers) }
+    ensures part { OnErr result (ShowsPart (K.shown sink.old) (K.shown sink.new) serving.old.answers serving.new.answers) }
+    ensures fault { IfErr result (λ e. e ≡ Stop.WriteFault → Rose (K.shown sink.old).faults (K.shown sink.new).faults) }
+    ensures steady { IfErr result (λ e. IsTrue (K.shown sink.old).steady → e ≡ Stop.Memory) }
+    ensures faults { (K.shown sink.old).faults ≤ (K.shown sink.new).faults }
+    ensures same { (K.shown sink.new).steady ≡ (K.shown sink.old).steady }
+    ensures stores { KeepsStores S.state serving.old.coordinator serving.new.coordinator }
+{
+    let text = statement_in(piece);
+    if text.is_empty() {
+        return Ok(());
+    }
+    answer_one(alloc, gate, serving, sink, text)
+}
+
 /// Answers the statements that are whole in bytes of the script, after those before.
 ///
 /// Errors: the sink failed, or want of memory; the first of these statements are answered then.
@@ -95,7 +126,7 @@ pub fn feed<S: Store, K: Sink, G: Gate>(
             Err(NoMemory) => return Err(Stop::Memory),
             Ok(None) => return Ok(()),
             Ok(Some(step)) => {
-                answer_one(alloc, gate, serving, sink, step.statement.as_slice())?;
+                answer_piece(alloc, gate, serving, sink, step.piece.as_slice())?;
                 left = step.left;
             }
         }

@@ -197,21 +197,21 @@ SELECT * FROM t WHERE k = 1;
             entries: &[(0, 3, Did::Inserted(1)), (0, 4, Did::Read)],
             rows: &[(1, 102008, 1, 10)],
         },
-        // a key that is taken, one without a row, and what isn't built
+        // a key that is taken, one without a row, what isn't built, and what is no statement
         Case {
             script: b"CREATE TABLE t (k bigint, v bigint, PRIMARY KEY (k));
 SELECT create_distributed_table('t', 'k', shard_count => 4);
 INSERT INTO t VALUES (1,10);INSERT INTO t VALUES (1,10);
-SELECT * FROM t WHERE k = 5;DROP TABLE t;SELECT * FROM t WHERE k = 5",
+SELECT * FROM t WHERE k = 5;DELETE FROM t;DROP TABLE t;SELECT * FROM t WHERE k = 5",
             setting: PLAIN,
             status: Status::Done,
-            written: b"CREATE TABLE\ncreate_distributed_table\n\n(1 row)\nINSERT 0 1\nERROR 30 duplicate key\nk|v\n(0 rows)\nERROR 35 not built\nk|v\n(0 rows)\n",
-            answers: 7,
+            written: b"CREATE TABLE\ncreate_distributed_table\n\n(1 row)\nINSERT 0 1\nERROR 30 duplicate key\nk|v\n(0 rows)\nERROR 35 not built\nERROR 4 syntax at 0\nk|v\n(0 rows)\n",
+            answers: 8,
             entries: &[
                 (0, 3, Did::Inserted(1)),
                 (0, 4, Did::Refused),
                 (2, 5, Did::Read),
-                (2, 7, Did::Read),
+                (2, 8, Did::Read),
             ],
             rows: &[(1, 102008, 1, 10)],
         },
@@ -267,7 +267,7 @@ INSERT INTO t VALUES (9223372036854775807,0);",
                 ..PLAIN
             },
             status: Status::ReadFault,
-            written: b"CREATE TABLE\nERROR 35 not built\nFATAL read\n",
+            written: b"CREATE TABLE\nERROR 4 syntax at 8\nFATAL read\n",
             answers: 2,
             entries: &[],
             rows: &[],
@@ -317,6 +317,52 @@ INSERT INTO t VALUES (9223372036854775807,0);",
             case.script.to_vec(alloc)?,
             case.setting,
         )?;
+        expect(&rt, alloc, ran, case)?;
+    }
+    Ok(())
+}
+
+#[test]
+fn texts_are_read_in_any_spelling(rt: HostRuntime) -> Result<(), Fail> {
+    let alloc = rt.alloc();
+    let make = |node: u32| -> Result<BoxedStore, AllocError>
+        ensures { IfOk result (λ b. IsWaiting node (state b)) }
+    { Ok(Box::new(alloc, MemStore::new(alloc, node))?) };
+    let cases = [
+        // any spelling, with semicolons in comments and texts
+        Case {
+            script: b"-- a table; to begin with
+Create TABLE \"t (k bigint);
+create table T(K BIGINT,V Bigint,primary key(K)) ;
+select create_distributed_table ( 't' , 'k' , SHARD_COUNT=>4 );--;
+Insert Into T -- the row;
+Values ( 1 , -10 );select * from T where K=1;SELECT * FROM t WHERE k = 'a;b'",
+            setting: PLAIN,
+            status: Status::Done,
+            written: b"ERROR 2 bad character at 13\nCREATE TABLE\ncreate_distributed_table\n\n(1 row)\nINSERT 0 1\nk|v\n1|-10\n(1 row)\nERROR 35 not built\n",
+            answers: 6,
+            entries: &[(0, 4, Did::Inserted(1)), (0, 5, Did::Read)],
+            rows: &[(1, 102008, 1, -10)],
+        },
+        // what a text's bytes and tokens show, at the place of the fault
+        Case {
+            script: b"SELECT 9223372036854775808;SELECT 9223372036854775807;-- from here on
+  SELECT k FROM t WHERE ;INSERT INTO t VALUES (1,2;
+SELECT foo(1);SELECT create_reference_table('t', 't');UPDATE t SET a = 1, WHERE b = 2;
+SELECT # FROM t;SELECT * FROM t WHERE k = ((((((((((((((((((((((((((((((((((((((((((((((((((((((((((((((((1))))))))))))))))))))))))))))))))))))))))))))))))))))))))))))))));
+SELECT * FROM t WHERE k = (((((((((((((((((((((((((((((((((((((((((((((((((((((((((((((((((1)))))))))))))))))))))))))))))))))))))))))))))))))))))))))))))))));
+SELECT 'a;",
+            setting: PLAIN,
+            status: Status::Done,
+            written: b"ERROR 3 number too large at 7\nERROR 4 syntax at 26\nERROR 4 syntax at 22\nERROR 4 syntax at 25\nERROR 4 syntax at 10\nERROR 4 syntax at 7\nERROR 4 syntax at 20\nERROR 2 bad character at 7\nERROR 35 not built\nERROR 33 limit depth 64\nERROR 1 open quote at 7\n",
+            answers: 11,
+            entries: &[],
+            rows: &[],
+        },
+    ];
+    for case in cases {
+        let workers = make_workers(alloc, 2, 128, &make)?;
+        let ran = run_with(&rt, alloc, workers, case.script.to_vec(alloc)?, PLAIN)?;
         expect(&rt, alloc, ran, case)?;
     }
     Ok(())

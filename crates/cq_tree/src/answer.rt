@@ -13,11 +13,21 @@ pub enum Tag {
 pub enum What {
     /// Row ids of one table in one shard group.
     Ids,
+    /// Constructs of a statement that are open at a token.
+    Depth,
 }
 
 /// Why a statement was refused. Each has the number that its text begins with.
 #[derive(Clone, Copy, Debug, PartialEq, Eq)]
 pub enum Fault {
+    /// 1: the text that begins at this place isn't closed. Each place counts bytes from the statement's first token.
+    OpenQuote { at: u64 },
+    /// 2: the byte at this place begins no token, or the text that begins there isn't UTF-8.
+    BadCharacter { at: u64 },
+    /// 3: the number at this place is above 9223372036854775807.
+    NumberTooLarge { at: u64 },
+    /// 4: at this place stands the first token that, with those before it, begins no statement, or the end of the text.
+    Syntax { at: u64 },
     /// 24: want of memory.
     Memory,
     /// 30: an inserted row has a primary key that is taken.

@@ -1,11 +1,10 @@
 use Rattle.std.proofs.Common.{◌≡◌, ◌∙◌, ◌+◌, ◌-◌, ◌++◌, ◌≤◌, ◌∷◌, [], List, ℕ, Vec, Global, map, take, drop, length, sym, ap, subst, arith}
 use Rattle.std.proofs.lemmas.Grind.{common_steps}
 use Rattle.std.proofs.lemmas.List.{map-append}
-use Rattle.cq_script.specs.Scripts.{Cut}
-use Rattle.cq_script.proofs.CuttingLaws.{cut_first, cut_some, cut_empty}
+use Rattle.cq_script.specs.Scripts.{Cut, if_any, statement_of}
+use Rattle.cq_script.proofs.CuttingLaws.{cut_first, cut_last}
 use Rattle.cq_script.proofs.WritingLaws.{take_plus}
 use Rattle.cq_script.proofs.tests.statements_in.Goals as goal
-use Rattle.cq_script.proofs.tests.statements_in.Goals.{in-Some+in_ok-put, in_default}
 
 abbrev items : Vec ℕ Global → List ℕ
 items v = v.items
@@ -33,9 +32,6 @@ pub returns : goal.returns
 returns c =
     let whole : take c.loop-at.at c.args.script.now ≡ c.args.script.now = (let t = c.loop-at-test.false in grind (arith, common_steps)) in
     let cut = subst (λ (v : List ℕ). Cut v (map items c.loop-at.list) c.loop-at.cutter) whole c.loop-at.invariant.cut in
-    elim c.match-finish.branch [
-      | in-Some+in_ok-put w ↦ (
-          ap (map items) (w.list-is ∙ w.in_ok-put.ensures.ok) ∙ map-append items c.loop-at.list (w.in-Some.last ∷ []) ∙ ap (λ (t : List ℕ). map items c.loop-at.list ++ t ∷ []) w.in-Some.ensures.0
-          ∙ cut_some c.args.script.now (map items c.loop-at.list) c.loop-at.cutter cut w.in-Some.ensures.1)
-      | in_default w ↦ ap (map items) w.list-is ∙ cut_empty c.args.script.now (map items c.loop-at.list) c.loop-at.cutter cut w.in_default.ensures
-    ]
+    let last : if_any (statement_of c.finish-last.result.items) ≡ if_any (statement_of c.loop-at.cutter) = ap (λ t. if_any (statement_of t)) c.finish-last.ensures in
+    c.in_ok-put_statement.ensures ∙ ap (λ v. map items c.loop-at.list ++ if_any (statement_of v)) c.as_slice.ensures.value ∙ ap (λ v. map items c.loop-at.list ++ v) last
+    ∙ cut_last c.args.script.now (map items c.loop-at.list) c.loop-at.cutter cut

@@ -1,5 +1,5 @@
 use Rattle.std.proofs.Common.{sym, subst}
-use Rattle.cq_catalog.specs.Tables.{shape_of}
+use Rattle.cq_single.specs.Tables.{shape_of}
 use Rattle.cq_cluster.specs.Ending.{IsFinal}
 use Rattle.cq_coordinator.specs.Coordination.{histories}
 use Rattle.cq_top.proofs.RunLaws.{whole_of, stand_of}

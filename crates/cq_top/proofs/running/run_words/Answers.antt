@@ -1,4 +1,4 @@
-use Rattle.cq_catalog.specs.Tables.{shape_of}
+use Rattle.cq_single.specs.Tables.{shape_of}
 use Rattle.cq_top.specs.Runs.{journals_of}
 use Rattle.cq_top.proofs.RunLaws.{final_idle, no_journals}
 use Rattle.cq_top.proofs.running.run_words.Goals as goal

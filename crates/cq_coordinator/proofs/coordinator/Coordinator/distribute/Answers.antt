@@ -1,7 +1,7 @@
 use Rattle.std.proofs.Common.{sym, subst, Some}
 use Rattle.cq_tree.specs.declared.statement.Statement.TheVariants as statement
 use Rattle.cq_tree.specs.declared.answer.Answer.TheVariants as answer
-use Rattle.cq_catalog.specs.declared.catalog.Catalog.{Catalog}
+use Rattle.cq_single.specs.declared.catalog.Catalog.{Catalog}
 use Rattle.cq_history.specs.Between.{Responds}
 use Rattle.cq_history.proofs.Steps.{responds_memory}
 use Rattle.cq_history.proofs.Ddl.{responds_distribute}

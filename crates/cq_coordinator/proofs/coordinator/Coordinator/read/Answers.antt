@@ -1,6 +1,6 @@
 use Rattle.std.proofs.Common.{sym, subst, refl}
 use Rattle.std.specs.List.{AllByRecursion}
-use Rattle.cq_catalog.specs.Tables.{shape_of}
+use Rattle.cq_single.specs.Tables.{shape_of}
 use Rattle.cq_group.specs.Groups.{HasTable}
 use Rattle.cq_coordinator.proofs.GroupCalls.{group_at, its_table, its_node, sound_set, grows_set, same_set, rows_read, rows_over}
 use Rattle.cq_coordinator.proofs.coordinator.Coordinator.read.Goals as goal

@@ -1,5 +1,5 @@
 use Rattle.std.proofs.Common.{sym, subst, refl, arith}
-use Rattle.cq_catalog.specs.Tables.{shape_of}
+use Rattle.cq_single.specs.Tables.{shape_of}
 use Rattle.cq_group.specs.Groups.{HasTable}
 use Rattle.cq_coordinator.proofs.GroupCalls.{group_at, its_table, sound_set, grows_set, same_set, reply_at, next_at, if_ok_map, if_err_map, on_ok_map, on_err_map}
 use Rattle.cq_coordinator.proofs.coordinator.Coordinator.write.Goals as goal

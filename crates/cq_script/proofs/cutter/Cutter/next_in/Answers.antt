@@ -1,33 +1,28 @@
-use Rattle.std.proofs.Common.{arith, ◌≡◌, ◌≢◌, ◌++◌, List, ℕ, [], ap, sym, ◌∙◌, subst, length, length-append}
-use Rattle.std.proofs.lemmas.Grind.{common_steps}
-use Rattle.cq_script.specs.Scripts.{statement_of, Gives, IsBegun, Cut}
-use Rattle.cq_script.proofs.CuttingLaws.{Same, same_at, same_then, gives_at, gives_same, cut_none, nothing_begun}
+use Rattle.std.proofs.Common.{◌≡◌, ◌++◌, ◌∷◌, [], List, ℕ, sym, ap, ◌∙◌, subst}
+use Rattle.cq_script.specs.declared.scan.Scan.{Scan}
+use Rattle.cq_script.specs.declared.scan.Scan.TheVariants.{Code}
+use Rattle.cq_script.specs.Scripts.{pieces, scan, NoEnd, Parted, Gives}
+use Rattle.cq_script.proofs.CuttingLaws.{no_end_append, scan_append, gives_at, none_at}
 use Rattle.cq_script.proofs.cutter.Cutter.next_in.Goals as goal
 
-pub returns-then-not-is_empty-clause-step : goal.returns-then-not-is_empty-clause-step
-returns-then-not-is_empty-clause-step c =
-    let inv = c.loop-piece.invariant in
-    let items : c.replace-statement.result.items ≡ statement_of (c.loop-piece.self ++ c.in-Some.piece.now) = ap (λ v. v.items) c.replace-statement.ensures.value ∙ c.self.view_is ∙ c.in_ok-grow.ensures.ok in
-    let some : statement_of (c.loop-piece.self ++ c.in-Some.piece.now) ≢ [] = λ e. grind (arith, common_steps) in
-    let gives = gives_at c.loop-piece.self c.in-Some.piece.now c.in-Some.left.now c.loop-piece.later.now c.grow.ensures.begun.0 c.in-Some.ensures.0 c.in-Some.ensures.1 some in
-    let here = subst (λ (t : List ℕ). Gives t c.loop-piece.later.now c.replace-statement.result.items c.in-Some.left.now) inv.kept (rw items gives) in
-    (gives_same c.args.self.now c.loop-piece.later.now c.args.bytes.now c.replace-statement.result.items c.in-Some.left.now here inv.same inv.shorter, ap (λ v. v.items) c.replace-statement.ensures.after ∙ c.new.ensures.items)
+pub invariant_of-self-in-Err : goal.invariant_of-self-in-Err
+invariant_of-self-in-Err c =
+    let text = c.self.inside.text.items in
+    let more = subst (λ (s : Scan). NoEnd s c.args.bytes.now) c.self.invariant.1 c.in-Err.ensures.none.0 in
+    let end : c.in-Err.end ≡ scan Code (c.self.inside.text.items ++ c.args.bytes.now) = c.in-Err.ensures.none.1 ∙ ap (λ (s : Scan). scan s c.args.bytes.now) c.self.invariant.1 ∙ sym (scan_append Code text c.args.bytes.now) in
+    subst (λ (t : List ℕ). NoEnd Code t × (c.in-Err.end ≡ scan Code t)) (sym c.in_ok-extend-in-Err.ensures.ok) (no_end_append Code text c.args.bytes.now c.self.invariant.0 more, end)
 
-pub loop-piece-preserved : goal.loop-piece-preserved
-loop-piece-preserved c =
-    let inv = c.loop-piece.invariant in
-    let nothing : statement_of (c.loop-piece.self ++ c.in-Some.piece.now) ≡ [] = (let o = c.in_ok-grow.ensures.ok in grind (arith, common_steps)) in
-    let same = same_at c.loop-piece.self c.in-Some.piece.now c.in-Some.left.now c.loop-piece.later.now c.grow.ensures.begun c.in-Some.ensures.0 c.in-Some.ensures.1 nothing in
-    let here = subst (λ (t : List ℕ). Same (t ++ c.in-Some.left.now) (t ++ c.loop-piece.later.now)) inv.kept same in
-    record {
-      kept = c.in_ok-grow.ensures.ok ∙ nothing ∙ sym (nothing_begun c.loop-piece.self c.in-Some.piece.now c.grow.ensures.begun.1 nothing) ∙ inv.kept;
-      same = same_then _ _ _ here inv.same;
-      shorter = omega (arith, inv.shorter, ap length c.in-Some.ensures.1, length-append {A = ℕ});
-    }
+pub returns-in_ok-extend-in-Ok-clause-step : goal.returns-in_ok-extend-in-Ok-clause-step
+returns-in_ok-extend-in-Ok-clause-step c =
+    let text = c.self.inside.text.items in
+    let parted = subst (λ (s : Scan). Parted s c.args.bytes.now c.in-Ok.front.now c.in-Ok.left.now) c.self.invariant.1 c.in-Ok.ensures.found in
+    let items : c.replace-piece.result.items ≡ c.self.inside.text.items ++ c.in-Ok.front.now = ap (λ v. v.items) c.replace-piece.ensures.value ∙ c.in_ok-extend-in-Ok.ensures.ok in
+    let here = gives_at text c.in-Ok.front.now c.in-Ok.left.now c.args.bytes.now c.self.invariant.0 parted in
+    (subst (λ (t : List ℕ). Gives t c.args.bytes.now c.replace-piece.result.items c.in-Ok.left.now) c.self.view_is (rw items here), ap (λ v. v.items) c.replace-piece.ensures.after ∙ c.new.ensures.items)
 
-pub returns-clause-step : goal.returns-clause-step
-returns-clause-step c =
-    let inv = c.loop-piece.invariant in
-    let begun = subst IsBegun inv.kept c.grow-2.ensures.begun in
-    let cut = cut_none c.args.self.now c.loop-piece.later.now c.args.bytes.now begun.0 c.in_default.ensures inv.same in
-    subst (λ (t : List ℕ). Cut (c.args.self.now ++ c.args.bytes.now) [] t) (sym (c.in_ok-grow-2.ensures.ok ∙ ap (λ t. statement_of (t ++ c.loop-piece.later.now)) inv.kept)) cut
+pub returns-in_ok-extend-in-Err-clause-step : goal.returns-in_ok-extend-in-Err-clause-step
+returns-in_ok-extend-in-Err-clause-step c =
+    let text = c.self.inside.text.items in
+    let more = subst (λ (s : Scan). NoEnd s c.args.bytes.now) c.self.invariant.1 c.in-Err.ensures.none.0 in
+    let one = none_at text c.args.bytes.now c.self.invariant.0 more in
+    ap (λ (t : List ℕ). pieces (t ++ c.args.bytes.now)) (sym c.self.view_is) ∙ one ∙ ap (λ t. t ∷ []) (sym c.in_ok-extend-in-Err.ensures.ok)

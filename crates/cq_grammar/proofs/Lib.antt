@@ -1,0 +1,14 @@
+pub mod Tokens
+pub mod Laws
+pub mod Sets
+pub mod Shapes
+pub mod Ahead
+pub mod Begun
+pub mod Expressions
+pub mod Selects
+pub mod Depths
+pub mod Columns
+pub mod Commands
+pub mod Wider
+pub mod Whole
+pub mod Shorter

@@ -1,0 +1,11 @@
+pub mod Words
+pub mod Lang
+pub mod Terminals
+pub mod Nodes
+pub mod Grammar
+pub mod Statements
+pub mod Read
+pub mod Descent
+pub mod Conditions
+pub mod Reading
+pub mod Verdicts

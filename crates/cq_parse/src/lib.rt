@@ -1,0 +1,25 @@
+//! The parser: it reads a statement's tokens into a syntax tree, or says why and where they are no statement. Each
+//! function mirrors a rule of the grammar's reader, and its contract is that it gives what that rule gives. The printer of
+//! trees, `print_ast`, is handed on.
+#![tactic(auto)]
+
+mod conditions;
+mod digits;
+mod error;
+mod expr;
+mod grammar;
+mod kinds;
+mod knot;
+mod list;
+mod nodes;
+mod parser;
+mod query;
+#[cfg(test)]
+mod round_trips;
+mod statement;
+mod verdict;
+mod words;
+
+pub use cq_print::print_ast;
+pub use error::ParseError;
+pub use verdict::parse;

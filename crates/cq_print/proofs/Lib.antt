@@ -1,0 +1,3 @@
+pub mod NoWord
+pub mod Parts
+pub mod ReadAgain

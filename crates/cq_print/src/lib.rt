@@ -1,0 +1,14 @@
+//! The printer of syntax trees: the text of a statement, which is read again as the same statement but for its places.
+#![tactic(auto)]
+
+mod expr;
+mod operators;
+mod print;
+mod query;
+mod reserved;
+mod statement;
+#[cfg(test)]
+mod tests;
+mod writer;
+
+pub use print::print_ast;
