@@ -5,8 +5,8 @@ use Rattle.std.proofs.lemmas.Bool.{ne_eqb}
 use Rattle.std.proofs.lemmas.List.{map-append, length-map}
 use Rattle.std.proofs.lemmas.List.Elements.{recursion_from_All, All-weaker}
 use Rattle.cq_value.specs.declared.schema.Shape.{Shape}
-use Rattle.cq_tree.specs.declared.journal.Entry.{Entry}
-use Rattle.cq_tree.specs.declared.journal.Journal.{Journal}
+use Rattle.cq_point.specs.declared.journal.Entry.{Entry}
+use Rattle.cq_point.specs.declared.journal.Journal.{Journal}
 use Rattle.cq_store.specs.Stores.{StoreState, IsSpare}
 use Rattle.cq_store.specs.Workers.{room}
 use Rattle.cq_store.specs.declared.worker.Worker.{Worker}

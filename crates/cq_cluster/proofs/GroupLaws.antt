@@ -12,7 +12,7 @@ use Rattle.std.specs.List.{AllByRecursion, flat_map}
 use Rattle.cq_history.specs.Journals.{replay}
 use Rattle.cq_group.specs.Groups.{Outline, outline, outlines, entries_of, stores_of, copies_of, node_at, AreReplicasFrom, IsTableKept, IsTableQuiet, IsKept, IsQuiet, IsSteady, IsSameGroup}
 use Rattle.cq_group.specs.Opening.{AreFresh, AreFreshFrom, first_shard}
-use Rattle.cq_tree.specs.declared.journal.Journal.{Journal}
+use Rattle.cq_point.specs.declared.journal.Journal.{Journal}
 use Rattle.cq_cluster.specs.Cluster.{node_of, shard_of, IsGroupAt, AreGroups}
 use Rattle.cq_cluster.specs.Ending.{IsShard}
 use Rattle.cq_cluster.specs.Moving.{IsAdopted, IsSteadyOn, IsGroupOn, AreGroupsFrom}

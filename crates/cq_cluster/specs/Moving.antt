@@ -1,7 +1,7 @@
 -- How workers change as groups take stores out of their lists, and as they hand them back.
 use Rattle.std.specs.Prelude.{◌≡◌, ◌+◌, ◌<◌, ◌≤◌, ℕ, List, [], ◌++◌, length, map, All, IsTrue, Some, slice_get}
 use Rattle.cq_value.specs.declared.schema.Shape.{Shape}
-use Rattle.cq_tree.specs.declared.journal.Entry.{Entry}
+use Rattle.cq_point.specs.declared.journal.Entry.{Entry}
 use Rattle.cq_store.specs.Stores.{StoreState}
 use Rattle.cq_store.specs.Workers.{room}
 use Rattle.cq_store.specs.declared.worker.Worker.{Worker}

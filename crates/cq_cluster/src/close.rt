@@ -1,6 +1,6 @@
 ghost use Rattle.std.specs.Prelude.{◌≡◌, ◌+◌, ◌-◌, ◌<◌, ◌≤◌, ◌++◌, List, [], ◌∷◌, length, map, slice_get, Some};
 ghost use Rattle.cq_value.specs.declared.schema.Shape.{Shape};
-ghost use Rattle.cq_tree.specs.declared.journal.Entry.{Entry};
+ghost use Rattle.cq_point.specs.declared.journal.Entry.{Entry};
 ghost use Rattle.cq_store.specs.Workers.{room};
 ghost use Rattle.cq_store.specs.declared.worker.Worker.{Worker};
 ghost use Rattle.cq_group.specs.Groups.{entries_of, stores_of};
@@ -10,8 +10,8 @@ ghost use Rattle.cq_cluster.specs.Moving.{IsGroupOn, HaveRoom, HaveBack};
 
 use crate::worker::give_all;
 use cq_group::{Closed, GroupState};
+use cq_point::{Journal, Journals};
 use cq_store::{Store, Worker};
-use cq_tree::{Journal, Journals};
 
 /// Closes a group of this worker, and puts its store last in the worker's list.
 fn close_on<S: Store>(worker: &mut Worker<S>, group: GroupState<S>) -> Journal

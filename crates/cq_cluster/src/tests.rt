@@ -4,8 +4,8 @@ ghost use Rattle.std.specs.Prelude.{◌≡◌, ◌≤◌, ◌+◌, ℕ, [], All,
 ghost use Rattle.cq_cluster.specs.Cluster.{IsWaiting, AreIdle};
 
 use crate::{close_groups, open_groups};
+use cq_point::Journals;
 use cq_store::{BoxedStore, MemStore, Store, Worker};
-use cq_tree::Journals;
 use cq_value::{Kinds, NoMemory, Positions, Shape};
 use std::alloc::{AllocError, Global};
 use std::process::Abort;

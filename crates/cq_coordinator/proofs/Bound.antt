@@ -2,10 +2,10 @@
 use Rattle.std.proofs.Common.{◌≡◌, ◌<◌, ◌≤◌, ℕ, List, [], ◌∷◌, refl, subst, arith, Some, None, Option, IsSome, rules}
 use Rattle.cq_value.specs.declared.schema.Column.{Column}
 use Rattle.cq_value.specs.declared.schema.With.{With}
-use Rattle.cq_tree.specs.declared.journal.ShardOp.{ShardOp}
-use Rattle.cq_tree.specs.declared.statement.Query.{Query}
-use Rattle.cq_tree.specs.declared.statement.Statement.{Statement}
-use Rattle.cq_tree.specs.declared.statement.Statement.TheVariants as statement
+use Rattle.cq_point.specs.declared.journal.ShardOp.{ShardOp}
+use Rattle.cq_point.specs.declared.statement.Query.{Query}
+use Rattle.cq_point.specs.declared.statement.Statement.{Statement}
+use Rattle.cq_point.specs.declared.statement.Statement.TheVariants as statement
 use Rattle.cq_single.specs.declared.catalog.Catalog.{Catalog}
 use Rattle.cq_single.specs.declared.catalog.TableInfo.{TableInfo}
 use Rattle.cq_single.specs.declared.catalog.Place.{Place}

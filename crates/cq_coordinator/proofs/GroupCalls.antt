@@ -5,11 +5,11 @@ use Rattle.std.proofs.lemmas.List.{map-set, length-set}
 use Rattle.std.proofs.Math.Seq.{map-set_same}
 use Rattle.cq_value.specs.declared.schema.Shape.{Shape}
 use Rattle.cq_value.specs.Tables.{rows_of}
-use Rattle.cq_tree.specs.declared.journal.Entry.{Entry}
-use Rattle.cq_tree.specs.declared.journal.Reply.{Reply}
-use Rattle.cq_tree.specs.declared.journal.ShardOp.{ShardOp}
-use Rattle.cq_meaning.specs.Values.{Row}
-use Rattle.cq_meaning.specs.Effects.{reply_of, table_of}
+use Rattle.cq_point.specs.declared.journal.Entry.{Entry}
+use Rattle.cq_point.specs.declared.journal.Reply.{Reply}
+use Rattle.cq_point.specs.declared.journal.ShardOp.{ShardOp}
+use Rattle.cq_point_meaning.specs.Values.{Row}
+use Rattle.cq_point_meaning.specs.Effects.{reply_of, table_of}
 use Rattle.cq_single.specs.Tables.{shape_of, groups_of}
 use Rattle.cq_history.specs.Journals.{replay}
 use Rattle.cq_history.specs.Between.{Grows}

@@ -1,10 +1,10 @@
 -- What the coordinator keeps between two statements.
 use Rattle.std.specs.Prelude.{◌≡◌, ◌≤◌, List, length, map, Some}
 use Rattle.cq_value.specs.Tables.{rows_of}
-use Rattle.cq_tree.specs.declared.journal.Entry.{Entry}
-use Rattle.cq_tree.specs.declared.journal.Reply.{Reply}
-use Rattle.cq_tree.specs.declared.journal.ShardOp.{ShardOp}
-use Rattle.cq_meaning.specs.Effects.{reply_of, table_of}
+use Rattle.cq_point.specs.declared.journal.Entry.{Entry}
+use Rattle.cq_point.specs.declared.journal.Reply.{Reply}
+use Rattle.cq_point.specs.declared.journal.ShardOp.{ShardOp}
+use Rattle.cq_point_meaning.specs.Effects.{reply_of, table_of}
 use Rattle.cq_history.specs.Journals.{replay}
 use Rattle.cq_single.specs.declared.catalog.Catalog.{Catalog}
 use Rattle.cq_single.specs.declared.catalog.TableInfo.{TableInfo}

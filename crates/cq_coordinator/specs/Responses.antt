@@ -1,6 +1,6 @@
 -- What a statement's text was read as.
 use Rattle.std.specs.Prelude.{◌≡◌, ⊤, Option, Some, None, Result, Ok, Err}
-use Rattle.cq_tree.specs.declared.statement.Statement.{Statement}
+use Rattle.cq_point.specs.declared.statement.Statement.{Statement}
 use Rattle.cq_tree.specs.declared.answer.Answer.{Answer}
 use Rattle.cq_tree.specs.declared.answer.Answer.TheVariants.{Failed}
 use Rattle.cq_tree.specs.declared.answer.Fault.{Fault}

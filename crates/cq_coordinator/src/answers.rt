@@ -11,11 +11,12 @@ use crate::coordinator::Coordinator;
 use crate::groups::WriteError;
 use crate::tables::{distributed_notice, local_table, shape};
 use cq_cluster::open_groups;
-use cq_engine::run_query;
 use cq_forms::read_statement;
+use cq_point::{Query, Reply, ShardOp, Statement};
+use cq_point_engine::run_query;
 use cq_single::Place;
 use cq_store::Store;
-use cq_tree::{Answer, Fault, Query, Reply, ShardOp, Statement, Tag, What, Who};
+use cq_tree::{Answer, Fault, Tag, What, Who};
 use cq_value::{Columns, NoMemory, Positions, Row, Text, With};
 use std::alloc::Global;
 

@@ -1,6 +1,6 @@
 ghost use Rattle.std.specs.Prelude.{◌≡◌, ◌<◌, ◌+◌, ◌≤◌, ℕ, [], ◌∷◌, ◌++◌, length, IfOk, IfErr, OnOk, OnErr, slice_get, Some};
 ghost use Rattle.cq_value.specs.Tables.{rows_of};
-ghost use Rattle.cq_meaning.specs.Effects.{reply_of, table_of, inserts};
+ghost use Rattle.cq_point_meaning.specs.Effects.{reply_of, table_of, inserts};
 ghost use Rattle.cq_single.specs.Tables.{shape_of, group_of, groups_of};
 ghost use Rattle.cq_history.specs.Journals.{replay};
 ghost use Rattle.cq_history.specs.Between.{Grows};
@@ -11,8 +11,9 @@ ghost use Rattle.cq_coordinator.specs.Coordination.{IsSound, histories, reply_ov
 
 use crate::coordinator::Coordinator;
 use cq_group::{Capture, GroupState, Staged};
+use cq_point::{EntryKind, Reply, ShardOp};
 use cq_store::Store;
-use cq_tree::{EntryKind, Reply, ShardOp, Who};
+use cq_tree::Who;
 use cq_value::{NoMemory, Positions, Row, Rows, Value, shard_index, token};
 use std::alloc::Global;
 

@@ -1,2 +1,2 @@
-pub mod InsertLaws
 pub mod KeyLaws
+pub mod ChangeLaws

@@ -1,29 +1,20 @@
--- What the engine says of a write: its reply, and row changes that fit the table and give the write's effect.
-use Rattle.std.specs.Prelude.{◌≡◌, ℕ, ◌+◌, List, [], map, length}
+-- What the engine says of a write.
+use Rattle.std.specs.Prelude.{◌≡◌}
 use Rattle.cq_value.specs.declared.schema.Shape.{Shape}
-use Rattle.cq_value.specs.declared.change.Change.{Change}
-use Rattle.cq_value.specs.declared.change.Change.TheVariants.{Add}
-use Rattle.cq_value.specs.Tables.{Table, rows_of}
+use Rattle.cq_value.specs.Tables.{Table}
 use Rattle.cq_value.specs.Changes.{applied, Fit}
-use Rattle.cq_tree.specs.declared.journal.ShardOp.{ShardOp}
-use Rattle.cq_tree.specs.declared.journal.Reply.TheVariants.{Count, Duplicate}
-use Rattle.cq_meaning.specs.Values.{Row}
-use Rattle.cq_meaning.specs.Effects.{reply_of, effect, numbered}
+use Rattle.cq_tree.specs.declared.write.ShardOp.{ShardOp}
+use Rattle.cq_meaning.specs.Effects.{reply_of, effect, row_changes}
 use Rattle.cq_engine.specs.declared.write.Effect.{Effect}
 
--- one Add for each row, under the ids from n on
-abbrev pub adds : ℕ → List Row → List Change
-adds n rows = map (λ p. Add p.0 p.1) (numbered n rows)
+-- the write's reply, its row changes, and the next id after them
+abbrev pub made_by : ShardOp → Table → Shape → Effect
+made_by op table shape = record { reply = reply_of op table shape; changes = row_changes op table shape; next = (effect op table shape).next }
 
--- what an insertion of the rows comes to under the ids from n on
-abbrev pub inserted : ℕ → List Row → Effect
-inserted n rows = record { reply = Count (length rows); changes = adds n rows; next = n + length rows }
-
--- the write's reply, changes that fit the table and make of it what the write does, and the next id after them.
--- A refused write has no changes
+-- these, and that the changes fit the table and make of it what the write does
 pub record IsEffect (op : ShardOp) (table : Table) (shape : Shape) (made : Effect) : Type 0 where
-  pub replied : made.reply ≡ reply_of op (rows_of table) shape
+  pub replied : made.reply ≡ reply_of op table shape
+  pub listed : made.changes ≡ row_changes op table shape
   pub fitting : Fit table made.changes
   pub changed : applied table made.changes ≡ effect op table shape
   pub counted : made.next ≡ (effect op table shape).next
-  pub refused : made.reply ≡ Duplicate → made.changes ≡ []

@@ -1,11 +1,11 @@
-//! The worker engine: it computes the rows of a query and the row changes of a write.
+//! The worker engine: the row changes that an INSERT, an UPDATE or a DELETE comes to. The calls that compute expressions and
+//! the rows of queries are handed on.
 #![tactic(auto)]
 
-mod query;
-mod row;
-#[cfg(test)]
-mod tests;
+mod change;
+mod key;
+mod update;
 mod write;
 
-pub use query::run_query;
+pub use cq_queries::{Tables, eval, run_query, test};
 pub use write::{Effect, changes_of};

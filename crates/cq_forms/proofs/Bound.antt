@@ -2,7 +2,7 @@
 use Rattle.std.proofs.Common.{◌≡◌, ◌⊎◌, inl, inr, ◌≤◌, ℕ, ℤ, Bool, true, false, List, refl, arith, Option, Some, None, Result, Ok, Err}
 use Rattle.std.specs.Prelude.{⊤, not, ◌&&◌, if◌then◌else◌, nat_le, bytes_eq, option_map, option_and_then, IfSome, IfOk, length}
 use Rattle.std.proofs.lemmas.Bool.Decides.{nat_tests}
-use Rattle.cq_tree.specs.declared.statement.Statement.{Statement}
+use Rattle.cq_point.specs.declared.statement.Statement.{Statement}
 use Rattle.cq_single.specs.declared.catalog.Catalog.{Catalog}
 use Rattle.cq_single.specs.declared.catalog.TableInfo.{TableInfo}
 use Rattle.cq_single.specs.declared.catalog.Place.{Place}

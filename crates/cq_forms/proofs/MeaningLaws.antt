@@ -4,7 +4,7 @@ use Rattle.cq_token.specs.declared.token.Token.{Token}
 use Rattle.cq_token.specs.declared.error.LexError.{LexError}
 use Rattle.cq_token.specs.declared.error.LexError.TheVariants as lexing
 use Rattle.cq_token.specs.Tokens.{tokens}
-use Rattle.cq_tree.specs.declared.statement.Statement.{Statement}
+use Rattle.cq_point.specs.declared.statement.Statement.{Statement}
 use Rattle.cq_single.specs.declared.catalog.Catalog.{Catalog}
 use Rattle.cq_grammar.specs.declared.statement.Ast.{Ast}
 use Rattle.cq_grammar.specs.Verdicts.{Complaint, syntax, depth, verdict, Accepted}

@@ -4,7 +4,7 @@ use Rattle.cq_token.specs.declared.token.Token.{Token}
 use Rattle.cq_token.specs.declared.error.LexError.{LexError}
 use Rattle.cq_token.specs.declared.error.LexError.TheVariants as lexing
 use Rattle.cq_token.specs.Tokens.{tokens, Gives as Lexes}
-use Rattle.cq_tree.specs.declared.statement.Statement.{Statement}
+use Rattle.cq_point.specs.declared.statement.Statement.{Statement}
 use Rattle.cq_tree.specs.declared.answer.Fault.{Fault}
 use Rattle.cq_tree.specs.declared.answer.What.{What}
 use Rattle.cq_tree.specs.declared.answer.What.TheVariants.{Depth}

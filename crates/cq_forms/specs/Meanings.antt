@@ -3,7 +3,7 @@ use Rattle.std.specs.Prelude.{◌≡◌, ℕ, List, length, Option, Some, None, 
 use Rattle.cq_token.specs.declared.token.Token.{Token}
 use Rattle.cq_token.specs.declared.error.LexError.TheVariants as lexing
 use Rattle.cq_token.specs.Tokens.{tokens}
-use Rattle.cq_tree.specs.declared.statement.Statement.{Statement}
+use Rattle.cq_point.specs.declared.statement.Statement.{Statement}
 use Rattle.cq_tree.specs.declared.answer.Fault.{Fault}
 use Rattle.cq_tree.specs.declared.answer.Fault.TheVariants as fault
 use Rattle.cq_tree.specs.declared.answer.What.TheVariants.{Depth}

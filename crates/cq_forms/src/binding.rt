@@ -5,8 +5,8 @@ ghost use Rattle.cq_forms.specs.Reading.{is_local as is_local_place, local_table
 
 use crate::form::Form;
 use crate::stop::Stop;
+use cq_point::{Query, ShardOp, Statement};
 use cq_single::{Catalog, Place, TableInfo};
-use cq_tree::{Query, ShardOp, Statement};
 use cq_value::{Column, Columns, Kind, Names, NoMemory, Positions, Row, Rows, Text, Value, With};
 use std::alloc::Global;
 

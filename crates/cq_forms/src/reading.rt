@@ -11,9 +11,10 @@ use crate::form::form_of;
 use crate::stop::Stop;
 use cq_grammar::Ast;
 use cq_parse::{ParseError, parse};
+use cq_point::Statement;
 use cq_single::Catalog;
 use cq_token::{LexError, Tokens, tokens};
-use cq_tree::{Fault, Statement};
+use cq_tree::Fault;
 use std::alloc::Global;
 
 fn fault_of_lexing(error: LexError) -> Fault

@@ -1,8 +1,9 @@
 //! Texts, and what they are read as.
 
 use crate::read_statement;
+use cq_point::{ShardOp, Statement};
 use cq_single::{Catalog, Place, TableInfo};
-use cq_tree::{Fault, ShardOp, Statement};
+use cq_tree::Fault;
 use cq_value::{Column, Columns, Kind, NoMemory, Positions, Row, Text, Value, With};
 use std::alloc::Global;
 use std::test::Fail;
@@ -80,18 +81,23 @@ fn inserted(alloc: Global, text: &str, catalog: &Catalog) -> Option<(i128, i128)
     }
 }
 
-/// The count of a distribution with the column a of the table t, co-located by default.
+/// The count of a distribution of the table t by its column a, co-located by default.
+fn count_of(statement: &Statement) -> Option<u32> {
+    match statement {
+        Statement::Distribute {
+            table,
+            column,
+            count,
+            with: With::Default,
+        } if table.as_str() == "t" && column.as_str() == "a" => *count,
+        _ => None,
+    }
+}
+
 fn distributed_to(alloc: Global, text: &str, catalog: &Catalog) -> Option<u32> {
     match read_statement(alloc, text.as_bytes(), catalog) {
-        Ok(
-            Statement::Distribute {
-                table,
-                column,
-                count,
-                with: With::Default,
-            },
-        ) if table.as_str() == "t" && column.as_str() == "a" => count,
-        _ => None,
+        Ok(statement) => count_of(&statement),
+        Err(_) => None,
     }
 }
 

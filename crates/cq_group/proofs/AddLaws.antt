@@ -6,10 +6,10 @@ use Rattle.std.proofs.lemmas.List.{map-append}
 use Rattle.std.proofs.lemmas.Grind.{flat_map-append}
 use Rattle.cq_value.specs.declared.schema.Shape.{Shape}
 use Rattle.cq_value.specs.Tables.{Table, empty_table}
-use Rattle.cq_tree.specs.declared.journal.Entry.{Entry}
-use Rattle.cq_tree.specs.declared.journal.EntryKind.{EntryKind}
-use Rattle.cq_tree.specs.declared.journal.EntryKind.TheVariants.{Read, Write}
-use Rattle.cq_meaning.specs.Effects.{effect, table_of}
+use Rattle.cq_point.specs.declared.journal.Entry.{Entry}
+use Rattle.cq_point.specs.declared.journal.EntryKind.{EntryKind}
+use Rattle.cq_point.specs.declared.journal.EntryKind.TheVariants.{Read, Write}
+use Rattle.cq_point_meaning.specs.Effects.{effect, table_of}
 use Rattle.cq_history.specs.Journals.{entered, replay_from, replay, IsReplied, EachReplied}
 use Rattle.cq_store.specs.Stores.{StoreState}
 use Rattle.cq_group.specs.declared.group.GroupTable.{GroupTable}

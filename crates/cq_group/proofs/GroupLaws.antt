@@ -4,9 +4,9 @@ use Rattle.std.specs.List.{AllZip, AllByRecursion, flat_map}
 use Rattle.std.proofs.lemmas.List.Elements.{length_all_zip}
 use Rattle.cq_value.specs.declared.schema.Shape.{Shape}
 use Rattle.cq_value.specs.Tables.{Table, rows_of}
-use Rattle.cq_tree.specs.declared.journal.Entry.{Entry}
+use Rattle.cq_point.specs.declared.journal.Entry.{Entry}
 use Rattle.cq_tree.specs.declared.journal.Who.{Who}
-use Rattle.cq_tree.specs.declared.journal.EntryKind.TheVariants.{Read}
+use Rattle.cq_point.specs.declared.journal.EntryKind.TheVariants.{Read}
 use Rattle.cq_history.specs.Journals.{replay, IsReplied, EachReplied}
 use Rattle.cq_store.specs.Stores.{StoreState}
 use Rattle.cq_group.specs.declared.group.GroupError.{GroupError}

@@ -2,7 +2,7 @@
 use Rattle.std.proofs.Common.{◌≡◌, ℕ, zero, suc, List, [], ◌∷◌, ◌++◌, take, slice_get, Some, refl, subst}
 use Rattle.cq_value.specs.declared.schema.Shape.{Shape}
 use Rattle.cq_value.specs.Tables.{Table, empty_table}
-use Rattle.cq_tree.specs.declared.journal.Entry.{Entry}
+use Rattle.cq_point.specs.declared.journal.Entry.{Entry}
 use Rattle.cq_history.specs.Journals.{entered, replay_from, replay, IsReplied, EachReplied}
 
 pub replay_more : (table : ℕ) (shape : Shape) (es : List Entry) (e : Entry) → replay table shape (es ++ e ∷ []) ≡ entered table shape (replay table shape es) e.kind

@@ -4,10 +4,10 @@ use Rattle.std.proofs.Math.ListN.{set}
 use Rattle.std.specs.List.{AllByRecursion, AllZip}
 use Rattle.cq_value.specs.declared.schema.Shape.{Shape}
 use Rattle.cq_value.specs.Tables.{Table, rows_of}
-use Rattle.cq_tree.specs.declared.journal.Entry.{Entry}
-use Rattle.cq_tree.specs.declared.journal.Reply.{Reply}
-use Rattle.cq_tree.specs.declared.journal.ShardOp.{ShardOp}
-use Rattle.cq_meaning.specs.Effects.{reply_of, table_of, inserts}
+use Rattle.cq_point.specs.declared.journal.Entry.{Entry}
+use Rattle.cq_point.specs.declared.journal.Reply.{Reply}
+use Rattle.cq_point.specs.declared.journal.ShardOp.{ShardOp}
+use Rattle.cq_point_meaning.specs.Effects.{reply_of, table_of, inserts}
 use Rattle.cq_history.specs.Journals.{replay}
 use Rattle.cq_store.specs.Stores.{StoreState}
 use Rattle.cq_group.specs.declared.group.GroupTable.{GroupTable}

@@ -5,12 +5,12 @@ use Rattle.cq_value.specs.declared.change.Change.{Change}
 use Rattle.cq_value.specs.declared.value.Value.{Value}
 use Rattle.cq_value.specs.Tables.{Table, empty_table, rows_of}
 use Rattle.cq_value.specs.Changes.{applied, Fit}
-use Rattle.cq_tree.specs.declared.journal.ShardOp.{ShardOp}
-use Rattle.cq_meaning.specs.Effects.{inserts}
+use Rattle.cq_point.specs.declared.journal.ShardOp.{ShardOp}
+use Rattle.cq_point_meaning.specs.Effects.{inserts}
 use Rattle.cq_history.specs.Journals.{replay}
 use Rattle.cq_store.specs.Stores.{StoreState, Becomes, Rose}
-use Rattle.cq_tree.specs.declared.journal.Reply.{Reply}
-use Rattle.cq_tree.specs.declared.journal.Reply.TheVariants.{Count, Duplicate}
+use Rattle.cq_point.specs.declared.journal.Reply.{Reply}
+use Rattle.cq_point.specs.declared.journal.Reply.TheVariants.{Count, Duplicate}
 use Rattle.cq_group.specs.Groups.{stores_of, IsTableQuiet, IsQuiet, IsReady, IsSameGroup, IsSteady, shapes, entries_of}
 use Rattle.cq_group.specs.declared.group.GroupError.{GroupError}
 use Rattle.cq_group.specs.declared.group.GroupError.TheVariants.{Worker, Memory}

@@ -4,12 +4,12 @@ use Rattle.std.specs.List.{AllByRecursion, flat_map}
 use Rattle.cq_value.specs.declared.schema.Shape.{Shape}
 use Rattle.cq_value.specs.Tables.{rows_of}
 use Rattle.cq_value.specs.Changes.{applied}
-use Rattle.cq_tree.specs.declared.journal.Entry.{Entry}
-use Rattle.cq_tree.specs.declared.journal.EntryKind.{EntryKind}
-use Rattle.cq_tree.specs.declared.journal.EntryKind.TheVariants.{Read, Write}
-use Rattle.cq_tree.specs.declared.journal.Reply.{Reply}
-use Rattle.cq_tree.specs.declared.journal.ShardOp.{ShardOp}
-use Rattle.cq_meaning.specs.Effects.{effect, reply_of, table_of, inserts}
+use Rattle.cq_point.specs.declared.journal.Entry.{Entry}
+use Rattle.cq_point.specs.declared.journal.EntryKind.{EntryKind}
+use Rattle.cq_point.specs.declared.journal.EntryKind.TheVariants.{Read, Write}
+use Rattle.cq_point.specs.declared.journal.Reply.{Reply}
+use Rattle.cq_point.specs.declared.journal.ShardOp.{ShardOp}
+use Rattle.cq_point_meaning.specs.Effects.{effect, reply_of, table_of, inserts}
 use Rattle.cq_history.specs.Journals.{replay, EachReplied}
 use Rattle.cq_store.specs.Stores.{StoreState}
 use Rattle.cq_group.specs.declared.group.GroupTable.{GroupTable}

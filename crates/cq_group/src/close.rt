@@ -3,8 +3,8 @@ ghost use Rattle.std.specs.List.{flat_map};
 ghost use Rattle.cq_group.specs.Groups.{IsKept, stores_of};
 
 use crate::group::{Closed, GroupState, GroupTable};
+use cq_point::Journal;
 use cq_store::Store;
-use cq_tree::Journal;
 
 /// Puts stores last, where there is room for them.
 fn put_stores<S: Store>(room: &mut Vec<S>, stores: Vec<S>)

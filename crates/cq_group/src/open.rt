@@ -3,8 +3,8 @@ ghost use Rattle.cq_group.specs.Groups.{IsKept, IsQuiet, entries_of, stores_of, 
 ghost use Rattle.cq_group.specs.Opening.{AreFresh, first_shard};
 
 use crate::group::{GroupState, GroupTable};
+use cq_point::{Entries, Journal};
 use cq_store::Store;
-use cq_tree::{Entries, Journal};
 use cq_value::{NoMemory, Shape};
 use std::alloc::Global;
 

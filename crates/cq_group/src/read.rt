@@ -7,8 +7,9 @@ ghost use Rattle.cq_group.specs.Calls.{Rests, Lifted, Blames, IsOn, IsSameBut, G
 
 use crate::group::{Capture, GroupError, GroupState, Tables};
 use crate::place::place_of;
+use cq_point::{Entry, EntryKind};
 use cq_store::Store;
-use cq_tree::{Entry, EntryKind, Who};
+use cq_tree::Who;
 use cq_value::{NoMemory, Positions, Rows};
 use std::alloc::Global;
 

@@ -1,17 +1,17 @@
 ghost use Rattle.std.specs.Prelude.{◌≡◌, ◌+◌, ◌<◌, ◌≤◌, ◌^◌, ◌↔◌, IsTrue, true, [], length, map, OnOk, OnErr, IfOk, IfErr};
 ghost use Rattle.std.specs.List.{AllByRecursion, HoldsAt};
 ghost use Rattle.cq_value.specs.Tables.{rows_of};
-ghost use Rattle.cq_meaning.specs.Effects.{reply_of, inserts};
+ghost use Rattle.cq_point_meaning.specs.Effects.{reply_of, inserts};
 ghost use Rattle.cq_history.specs.Standing.{most_ids};
-ghost use Rattle.cq_engine.specs.WriteEffects.{IsEffect};
+ghost use Rattle.cq_point_engine.specs.WriteEffects.{IsEffect};
 ghost use Rattle.cq_group.specs.Groups.{IsStagedIn, IsTableQuiet};
 ghost use Rattle.cq_group.specs.Calls.{Rests, Discards, Commits, Stages, KeepsRows, Lifted, Blames, IsOn, Takes, IsSameTable, IsRestingTable, AreAlike, first_rows, count_of};
 
 use crate::group::{GroupError, GroupTable};
 use crate::stores::{commit_stores, discard_stores, scan_store, stage_stores};
-use cq_engine::{Effect, changes_of};
+use cq_point::{Reply, ShardOp};
+use cq_point_engine::{Effect, changes_of};
 use cq_store::Store;
-use cq_tree::{Reply, ShardOp};
 use cq_value::{NoMemory, Numbered, Rows};
 use std::alloc::Global;
 

@@ -2,14 +2,15 @@
 
 ghost use Rattle.std.specs.Prelude.{◌≡◌, ◌<◌, ◌≤◌, [], true, if◌then◌else◌, nat_eq, unwrap_or, IfOk, IfSome};
 ghost use Rattle.cq_value.specs.Tables.{empty_table};
-ghost use Rattle.cq_meaning.specs.Effects.{table_of};
+ghost use Rattle.cq_point_meaning.specs.Effects.{table_of};
 ghost use Rattle.cq_group.specs.Groups.{IsKept, IsQuiet, IsSameGroup, HasTable};
 ghost use Rattle.cq_store.specs.Faults.{held};
 ghost use Rattle.cq_group.specs.Opening.{IsFresh, AreFresh};
 
 use crate::group::{GroupError, GroupState, Staged};
+use cq_point::{Reply, ShardOp};
 use cq_store::{FaultStore, MemStore, Store};
-use cq_tree::{Reply, ShardOp, Who};
+use cq_tree::Who;
 use cq_value::{Kind, Kinds, NoMemory, Positions, Row, Rows, Shape, Value};
 use std::alloc::Global;
 use std::test::Fail;

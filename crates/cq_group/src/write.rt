@@ -1,14 +1,15 @@
 ghost use Rattle.std.specs.Prelude.{◌≡◌, ◌+◌, ◌<◌, ◌≤◌, ◌^◌, ◌↔◌, IsTrue, [], ◌∷◌, ◌++◌, length, OnOk, OnErr, IfOk, IfErr};
 ghost use Rattle.std.specs.List.{AllZip, HoldsAt};
-ghost use Rattle.cq_meaning.specs.Effects.{table_of, inserts};
+ghost use Rattle.cq_point_meaning.specs.Effects.{table_of, inserts};
 ghost use Rattle.cq_history.specs.Standing.{most_ids};
 ghost use Rattle.cq_group.specs.Groups.{IsKept, IsQuiet, IsReady, IsSteady, HasTable, entries_of, stores_of};
 ghost use Rattle.cq_group.specs.Calls.{Discards, KeepsRows, Lifted, Blames, IsRestingTable, IsSameBut, GroupGoesOn, IsStaged, next_id};
 
 use crate::group::{GroupError, GroupState, GroupTable, Staged};
 use crate::place::place_of;
+use cq_point::{Entry, EntryKind, Reply, ShardOp};
 use cq_store::Store;
-use cq_tree::{Entry, EntryKind, Reply, ShardOp, Who};
+use cq_tree::Who;
 use std::alloc::Global;
 
 /// The number of the table that a write names.

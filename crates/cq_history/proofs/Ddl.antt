@@ -3,12 +3,12 @@ use Rattle.std.proofs.Common.{◌<◌, ◌≡◌, ◌≤◌, ℕ, List, [], ◌�
 use Rattle.std.specs.List.{AllByRecursion}
 use Rattle.cq_value.specs.declared.schema.Column.{Column}
 use Rattle.cq_tree.specs.declared.journal.Who.{Who}
-use Rattle.cq_tree.specs.declared.journal.Entry.{Entry}
-use Rattle.cq_tree.specs.declared.statement.Statement.{Statement}
-use Rattle.cq_tree.specs.declared.statement.Statement.TheVariants as statement
+use Rattle.cq_point.specs.declared.journal.Entry.{Entry}
+use Rattle.cq_point.specs.declared.statement.Statement.{Statement}
+use Rattle.cq_point.specs.declared.statement.Statement.TheVariants as statement
 use Rattle.cq_tree.specs.declared.answer.Answer.{Answer}
 use Rattle.cq_tree.specs.declared.answer.Answer.TheVariants as answer
-use Rattle.cq_tree.specs.declared.answer.Answered.{Answered}
+use Rattle.cq_point.specs.declared.answered.Answered.{Answered}
 use Rattle.cq_tree.specs.declared.answer.Tag.TheVariants as tag
 use Rattle.cq_tree.specs.declared.answer.Fault.TheVariants as fault
 use Rattle.cq_value.specs.declared.schema.With.{With}
@@ -16,7 +16,7 @@ use Rattle.cq_single.specs.declared.catalog.Catalog.{Catalog}
 use Rattle.cq_single.specs.declared.catalog.TableInfo.{TableInfo}
 use Rattle.cq_single.specs.declared.catalog.Place.TheVariants.{Local}
 use Rattle.cq_single.specs.Tables.{groups_of, place_in, shards_of}
-use Rattle.cq_meaning.specs.Values.{Row}
+use Rattle.cq_point_meaning.specs.Values.{Row}
 use Rattle.cq_history.specs.Journals.{EachJournal, IsLegal}
 use Rattle.cq_history.specs.Places.{made_by, NoEntry}
 use Rattle.cq_history.specs.Standing.{IsDistributed}

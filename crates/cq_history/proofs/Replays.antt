@@ -5,15 +5,15 @@ use Rattle.std.specs.Prelude.{nat_eq}
 use Rattle.std.proofs.lemmas.List.{map-append}
 use Rattle.cq_value.specs.declared.schema.Shape.{Shape}
 use Rattle.cq_value.specs.Tables.{Table, Pair, rows_of}
-use Rattle.cq_tree.specs.declared.journal.Entry.{Entry}
-use Rattle.cq_tree.specs.declared.journal.EntryKind.{EntryKind}
-use Rattle.cq_tree.specs.declared.journal.EntryKind.TheVariants.{Read, Write}
-use Rattle.cq_tree.specs.declared.journal.ShardOp.{ShardOp}
-use Rattle.cq_tree.specs.declared.journal.ShardOp.TheVariants.{Insert}
+use Rattle.cq_point.specs.declared.journal.Entry.{Entry}
+use Rattle.cq_point.specs.declared.journal.EntryKind.{EntryKind}
+use Rattle.cq_point.specs.declared.journal.EntryKind.TheVariants.{Read, Write}
+use Rattle.cq_point.specs.declared.journal.ShardOp.{ShardOp}
+use Rattle.cq_point.specs.declared.journal.ShardOp.TheVariants.{Insert}
 use Rattle.cq_single.specs.declared.catalog.Catalog.{Catalog}
 use Rattle.cq_single.specs.Tables.{shape_of}
-use Rattle.cq_meaning.specs.Values.{Row}
-use Rattle.cq_meaning.specs.Effects.{effect, repeats, numbered, with_rows, table_of, inserts}
+use Rattle.cq_point_meaning.specs.Values.{Row}
+use Rattle.cq_point_meaning.specs.Effects.{effect, repeats, numbered, with_rows, table_of, inserts}
 use Rattle.cq_history.specs.Journals.{entered, replay_from, EachReplied, IsReplied, IsPlaced, PlacesRows, IsLegal}
 use Rattle.cq_history.proofs.Lists.{got_more, all_more, all_append}
 

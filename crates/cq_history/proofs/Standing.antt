@@ -10,18 +10,18 @@ use Rattle.std.proofs.lemmas.List.Sorted.{IsPermutation-refl}
 use Rattle.cq_value.specs.declared.value.Value.{Value}
 use Rattle.cq_value.specs.Tables.{Table, rows_of}
 use Rattle.cq_tree.specs.declared.journal.Who.{Who}
-use Rattle.cq_tree.specs.declared.journal.Entry.{Entry}
-use Rattle.cq_tree.specs.declared.journal.EntryKind.{EntryKind}
-use Rattle.cq_tree.specs.declared.journal.EntryKind.TheVariants.{Read, Write}
-use Rattle.cq_tree.specs.declared.journal.ShardOp.TheVariants.{Insert}
-use Rattle.cq_tree.specs.declared.journal.Reply.{Reply}
-use Rattle.cq_tree.specs.declared.journal.Reply.TheVariants.{Count, Duplicate}
-use Rattle.cq_tree.specs.declared.statement.Query.{Query}
-use Rattle.cq_tree.specs.declared.statement.Statement.{Statement}
-use Rattle.cq_tree.specs.declared.statement.Statement.TheVariants as statement
+use Rattle.cq_point.specs.declared.journal.Entry.{Entry}
+use Rattle.cq_point.specs.declared.journal.EntryKind.{EntryKind}
+use Rattle.cq_point.specs.declared.journal.EntryKind.TheVariants.{Read, Write}
+use Rattle.cq_point.specs.declared.journal.ShardOp.TheVariants.{Insert}
+use Rattle.cq_point.specs.declared.journal.Reply.{Reply}
+use Rattle.cq_point.specs.declared.journal.Reply.TheVariants.{Count, Duplicate}
+use Rattle.cq_point.specs.declared.statement.Query.{Query}
+use Rattle.cq_point.specs.declared.statement.Statement.{Statement}
+use Rattle.cq_point.specs.declared.statement.Statement.TheVariants as statement
 use Rattle.cq_tree.specs.declared.answer.Answer.{Answer}
 use Rattle.cq_tree.specs.declared.answer.Answer.TheVariants as answer
-use Rattle.cq_tree.specs.declared.answer.Answered.{Answered}
+use Rattle.cq_point.specs.declared.answered.Answered.{Answered}
 use Rattle.cq_tree.specs.declared.answer.Tag.TheVariants as tag
 use Rattle.cq_tree.specs.declared.answer.What.TheVariants as what
 use Rattle.cq_tree.specs.declared.answer.Fault.TheVariants as fault
@@ -30,9 +30,9 @@ use Rattle.cq_single.specs.declared.catalog.TableInfo.{TableInfo}
 use Rattle.cq_single.specs.declared.catalog.Place.{Place}
 use Rattle.cq_single.specs.declared.catalog.Place.TheVariants.{Local, Distributed}
 use Rattle.cq_single.specs.Tables.{shape_of, shape_in, place_in, column_of, shards_of, group_of, groups_of, distribution_of}
-use Rattle.cq_meaning.specs.Values.{Row, column}
-use Rattle.cq_meaning.specs.Queries.{keeps, meaning}
-use Rattle.cq_meaning.specs.Effects.{same_key}
+use Rattle.cq_point_meaning.specs.Values.{Row, column}
+use Rattle.cq_point_meaning.specs.Queries.{keeps, meaning}
+use Rattle.cq_point_meaning.specs.Effects.{same_key}
 use Rattle.cq_history.specs.Journals.{replay, EachJournal, IsLegal}
 use Rattle.cq_history.specs.Places.{made_by, before, earlier, whole, OneEntry, NoEntry}
 use Rattle.cq_history.specs.Standing.{home_of, most_ids, Stands, StandsQuery, StandsInsert, LacksIds}

@@ -6,13 +6,13 @@ use Rattle.std.proofs.lemmas.List.Elements.{filter-append}
 use Rattle.cq_value.specs.declared.schema.Shape.{Shape}
 use Rattle.cq_value.specs.Tables.{empty_table, rows_of}
 use Rattle.cq_tree.specs.declared.journal.Who.{Who}
-use Rattle.cq_tree.specs.declared.journal.Entry.{Entry}
-use Rattle.cq_tree.specs.declared.journal.ShardOp.TheVariants.{Insert}
-use Rattle.cq_tree.specs.declared.journal.Reply.TheVariants.{Count, Duplicate}
+use Rattle.cq_point.specs.declared.journal.Entry.{Entry}
+use Rattle.cq_point.specs.declared.journal.ShardOp.TheVariants.{Insert}
+use Rattle.cq_point.specs.declared.journal.Reply.TheVariants.{Count, Duplicate}
 use Rattle.cq_single.specs.declared.catalog.Catalog.{Catalog}
 use Rattle.cq_single.specs.Tables.{shape_of, group_of, distribution_of}
-use Rattle.cq_meaning.specs.Values.{Row, column, same_value}
-use Rattle.cq_meaning.specs.Effects.{same_key, repeats, reply_of}
+use Rattle.cq_point_meaning.specs.Values.{Row, column, same_value}
+use Rattle.cq_point_meaning.specs.Effects.{same_key, repeats, reply_of}
 use Rattle.cq_history.specs.Journals.{replay, EachJournal, IsPlaced, PlacesRows, IsLegal}
 use Rattle.cq_history.specs.Places.{made_by, before, place_of, whole_from}
 use Rattle.cq_history.specs.Standing.{home_of}

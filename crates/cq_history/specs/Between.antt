@@ -4,17 +4,17 @@ use Rattle.std.specs.Prelude.{◌<◌, ◌≡◌, ◌≢◌, ◌+◌, ◌≤◌,
 use Rattle.std.specs.List.{AllByRecursion}
 use Rattle.cq_value.specs.Tables.{Table, rows_of}
 use Rattle.cq_tree.specs.declared.journal.Who.{Who}
-use Rattle.cq_tree.specs.declared.journal.Entry.{Entry}
-use Rattle.cq_tree.specs.declared.journal.EntryKind.{EntryKind}
-use Rattle.cq_tree.specs.declared.journal.EntryKind.TheVariants.{Read, Write}
-use Rattle.cq_tree.specs.declared.journal.ShardOp.TheVariants.{Insert}
-use Rattle.cq_tree.specs.declared.journal.Reply.{Reply}
-use Rattle.cq_tree.specs.declared.journal.Reply.TheVariants.{Count, Duplicate}
-use Rattle.cq_tree.specs.declared.statement.Statement.{Statement}
-use Rattle.cq_tree.specs.declared.statement.Statement.TheVariants as statement
+use Rattle.cq_point.specs.declared.journal.Entry.{Entry}
+use Rattle.cq_point.specs.declared.journal.EntryKind.{EntryKind}
+use Rattle.cq_point.specs.declared.journal.EntryKind.TheVariants.{Read, Write}
+use Rattle.cq_point.specs.declared.journal.ShardOp.TheVariants.{Insert}
+use Rattle.cq_point.specs.declared.journal.Reply.{Reply}
+use Rattle.cq_point.specs.declared.journal.Reply.TheVariants.{Count, Duplicate}
+use Rattle.cq_point.specs.declared.statement.Statement.{Statement}
+use Rattle.cq_point.specs.declared.statement.Statement.TheVariants as statement
 use Rattle.cq_tree.specs.declared.answer.Answer.{Answer}
 use Rattle.cq_tree.specs.declared.answer.Answer.TheVariants as answer
-use Rattle.cq_tree.specs.declared.answer.Answered.{Answered}
+use Rattle.cq_point.specs.declared.answered.Answered.{Answered}
 use Rattle.cq_tree.specs.declared.answer.Tag.TheVariants as tag
 use Rattle.cq_tree.specs.declared.answer.Fault.TheVariants as fault
 use Rattle.cq_single.specs.declared.catalog.Catalog.{Catalog}
@@ -22,9 +22,9 @@ use Rattle.cq_single.specs.declared.catalog.TableInfo.{TableInfo}
 use Rattle.cq_single.specs.declared.catalog.Place.{Place}
 use Rattle.cq_single.specs.declared.catalog.Place.TheVariants.{Local, Distributed}
 use Rattle.cq_single.specs.Tables.{shape_of, group_of, groups_of}
-use Rattle.cq_meaning.specs.Values.{Row}
-use Rattle.cq_meaning.specs.Queries.{meaning}
-use Rattle.cq_meaning.specs.Effects.{reply_of}
+use Rattle.cq_point_meaning.specs.Values.{Row}
+use Rattle.cq_point_meaning.specs.Queries.{meaning}
+use Rattle.cq_point_meaning.specs.Effects.{reply_of}
 use Rattle.cq_history.specs.Journals.{replay, EachJournal, IsLegal}
 use Rattle.cq_history.specs.Places.{before, OneEntry}
 use Rattle.cq_history.specs.Standing.{Stands, home_of, most_ids}

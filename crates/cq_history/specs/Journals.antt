@@ -3,13 +3,13 @@ use Rattle.std.specs.Prelude.{◌≡◌, ℕ, ⊤, List, [], ◌∷◌, take, So
 use Rattle.std.specs.List.{AllByRecursion}
 use Rattle.cq_value.specs.declared.schema.Shape.{Shape}
 use Rattle.cq_value.specs.Tables.{Table, empty_table, rows_of}
-use Rattle.cq_tree.specs.declared.journal.Entry.{Entry}
-use Rattle.cq_tree.specs.declared.journal.EntryKind.{EntryKind}
-use Rattle.cq_tree.specs.declared.journal.EntryKind.TheVariants.{Read, Write}
+use Rattle.cq_point.specs.declared.journal.Entry.{Entry}
+use Rattle.cq_point.specs.declared.journal.EntryKind.{EntryKind}
+use Rattle.cq_point.specs.declared.journal.EntryKind.TheVariants.{Read, Write}
 use Rattle.cq_single.specs.Tables.{shape_of, group_of, distribution_of}
 use Rattle.cq_single.specs.declared.catalog.Catalog.{Catalog}
-use Rattle.cq_meaning.specs.Values.{Row, column}
-use Rattle.cq_meaning.specs.Effects.{effect, reply_of, table_of, inserts}
+use Rattle.cq_point_meaning.specs.Values.{Row, column}
+use Rattle.cq_point_meaning.specs.Effects.{effect, reply_of, table_of, inserts}
 
 -- a table of this number and shape after one more entry: a write of the table has its effect, everything else leaves it
 abbrev pub entered : ℕ → Shape → Table → EntryKind → Table

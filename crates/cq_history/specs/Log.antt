@@ -2,12 +2,12 @@
 use Rattle.std.specs.Prelude.{◌≡◌, ◌+◌, ◌≤◌, ⊤, ℕ, false, List, [], ◌∷◌, Option, Some, None, fold}
 use Rattle.std.specs.List.{AllByRecursion}
 use Rattle.cq_tree.specs.declared.journal.Who.{Who}
-use Rattle.cq_tree.specs.declared.journal.Entry.{Entry}
-use Rattle.cq_tree.specs.declared.statement.Statement.{Statement}
-use Rattle.cq_tree.specs.declared.statement.Statement.TheVariants.{CreateTable, Distribute}
+use Rattle.cq_point.specs.declared.journal.Entry.{Entry}
+use Rattle.cq_point.specs.declared.statement.Statement.{Statement}
+use Rattle.cq_point.specs.declared.statement.Statement.TheVariants.{CreateTable, Distribute}
 use Rattle.cq_tree.specs.declared.answer.Answer.{Answer}
 use Rattle.cq_tree.specs.declared.answer.Answer.TheVariants.{Failed}
-use Rattle.cq_tree.specs.declared.answer.Answered.{Answered}
+use Rattle.cq_point.specs.declared.answered.Answered.{Answered}
 use Rattle.cq_tree.specs.declared.answer.Settings.{Settings}
 use Rattle.cq_single.specs.declared.catalog.Catalog.{Catalog}
 use Rattle.cq_single.specs.declared.catalog.TableInfo.{TableInfo}

@@ -2,11 +2,11 @@
 use Rattle.std.specs.Prelude.{◌≡◌, ◌+◌, ℕ, Bool, ◌&&◌, List, [], ◌∷◌, ◌++◌, take, filter, length, if◌then◌else◌, nat_eq, nat_lt, Some, slice_get}
 use Rattle.cq_value.specs.Tables.{rows_of}
 use Rattle.cq_tree.specs.declared.journal.Who.{Who}
-use Rattle.cq_tree.specs.declared.journal.Entry.{Entry}
-use Rattle.cq_tree.specs.declared.journal.EntryKind.{EntryKind}
+use Rattle.cq_point.specs.declared.journal.Entry.{Entry}
+use Rattle.cq_point.specs.declared.journal.EntryKind.{EntryKind}
 use Rattle.cq_single.specs.Tables.{shape_of}
 use Rattle.cq_single.specs.declared.catalog.Catalog.{Catalog}
-use Rattle.cq_meaning.specs.Values.{Row}
+use Rattle.cq_point_meaning.specs.Values.{Row}
 use Rattle.cq_history.specs.Journals.{replay, EachJournal}
 
 -- whether an entry is of this statement

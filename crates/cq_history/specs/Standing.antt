@@ -3,14 +3,14 @@
 use Rattle.std.specs.Prelude.{◌≡◌, ◌+◌, ◌<◌, ◌≤◌, ◌⊎◌, ℕ, List, [], ◌∷◌, Option, Some, None, slice_get, codes}
 use Rattle.cq_value.specs.declared.value.Value.TheVariants as values
 use Rattle.cq_tree.specs.declared.journal.Who.{Who}
-use Rattle.cq_tree.specs.declared.journal.Entry.{Entry}
-use Rattle.cq_tree.specs.declared.journal.EntryKind.TheVariants.{Read, Write}
-use Rattle.cq_tree.specs.declared.journal.ShardOp.TheVariants.{Insert}
-use Rattle.cq_tree.specs.declared.journal.Reply.{Reply}
-use Rattle.cq_tree.specs.declared.journal.Reply.TheVariants.{Count, Duplicate}
-use Rattle.cq_tree.specs.declared.statement.Query.{Query}
-use Rattle.cq_tree.specs.declared.statement.Statement.{Statement}
-use Rattle.cq_tree.specs.declared.statement.Statement.TheVariants as statement
+use Rattle.cq_point.specs.declared.journal.Entry.{Entry}
+use Rattle.cq_point.specs.declared.journal.EntryKind.TheVariants.{Read, Write}
+use Rattle.cq_point.specs.declared.journal.ShardOp.TheVariants.{Insert}
+use Rattle.cq_point.specs.declared.journal.Reply.{Reply}
+use Rattle.cq_point.specs.declared.journal.Reply.TheVariants.{Count, Duplicate}
+use Rattle.cq_point.specs.declared.statement.Query.{Query}
+use Rattle.cq_point.specs.declared.statement.Statement.{Statement}
+use Rattle.cq_point.specs.declared.statement.Statement.TheVariants as statement
 use Rattle.cq_tree.specs.declared.answer.Answer.{Answer}
 use Rattle.cq_tree.specs.declared.answer.Answer.TheVariants as answer
 use Rattle.cq_tree.specs.declared.answer.Tag.TheVariants as tag
@@ -18,9 +18,9 @@ use Rattle.cq_tree.specs.declared.answer.What.TheVariants as what
 use Rattle.cq_tree.specs.declared.answer.Fault.TheVariants as fault
 use Rattle.cq_single.specs.Tables.{shape_of, group_of, distribution_of}
 use Rattle.cq_single.specs.declared.catalog.Catalog.{Catalog}
-use Rattle.cq_meaning.specs.Values.{Row, column}
-use Rattle.cq_meaning.specs.Queries.{Answers}
-use Rattle.cq_meaning.specs.Effects.{reply_of}
+use Rattle.cq_point_meaning.specs.Values.{Row, column}
+use Rattle.cq_point_meaning.specs.Queries.{Answers}
+use Rattle.cq_point_meaning.specs.Effects.{reply_of}
 use Rattle.cq_history.specs.Journals.{replay}
 use Rattle.cq_history.specs.Places.{before, earlier, whole, OneEntry, NoEntry, TakesPlace}
 

@@ -1,3 +1,13 @@
-pub mod Effects
-pub mod Queries
+pub mod Lists
 pub mod Values
+pub mod Logic
+pub mod Expressions
+pub mod Joins
+pub mod Groups
+pub mod Sorting
+pub mod Queries
+pub mod Results
+pub mod Limits
+pub mod Safety
+pub mod Widths
+pub mod Effects

@@ -8,7 +8,7 @@ use Rattle.cq_grammar.specs.declared.statement.Ast.{Ast}
 use Rattle.cq_grammar.specs.Read.{Fault}
 use Rattle.cq_grammar.specs.Statements.{max_depth}
 use Rattle.cq_grammar.specs.Verdicts.{Complaint, syntax, depth}
-use Rattle.cq_parse.specs.Reads.{fault}
+use Rattle.cq_parse_steps.specs.Reads.{fault}
 use Rattle.cq_parse.specs.declared.error.ParseError.{ParseError}
 use Rattle.cq_parse.specs.declared.error.ParseError.TheVariants as errors
 

@@ -3,8 +3,8 @@ ghost use Rattle.std.specs.List.{list_all};
 ghost use Rattle.cq_grammar.specs.Conditions as spec;
 ghost use Rattle.cq_parse.specs.Forms.{form_of};
 
-use crate::words::kind_of;
 use cq_grammar::{Argument, Ast, Kind, Literal};
+use cq_parse_steps::kind_of;
 use cq_token::Token;
 use std::marker::Model;
 

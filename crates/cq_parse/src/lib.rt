@@ -4,21 +4,13 @@
 #![tactic(auto)]
 
 mod conditions;
-mod digits;
 mod error;
-mod expr;
-mod grammar;
-mod kinds;
-mod knot;
-mod list;
-mod nodes;
-mod parser;
-mod query;
 #[cfg(test)]
 mod round_trips;
 mod statement;
+#[cfg(test)]
+mod tests;
 mod verdict;
-mod words;
 
 pub use cq_print::print_ast;
 pub use error::ParseError;

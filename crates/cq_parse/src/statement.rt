@@ -7,16 +7,14 @@ ghost use Rattle.cq_grammar.specs.Read as read;
 ghost use Rattle.cq_grammar.specs.Descent as descent;
 ghost use Rattle.cq_grammar.specs.Reading as reading;
 ghost use Rattle.cq_parse.specs.Limit.{limited, behind_comma, column_item};
-ghost use Rattle.cq_parse.specs.Reads.{Reads};
+ghost use Rattle.cq_parse_steps.specs.Reads.{Reads};
 
-use crate::kinds::NAMES;
-use crate::knot::{expr, select};
-use crate::list::list;
-use crate::parser::Parser;
 use cq_grammar::{
     Argument, Ast, ColumnDef, CommonTable, CopyOption, Expr, Kind, Literal, Name, Query, Refusal,
     RowValues, Rule, Select, SetClause, SettingValue, TypeName,
 };
+use cq_parse_select::{expr, select};
+use cq_parse_steps::{NAMES, Parser, list};
 use cq_value::Items;
 
 /// The greatest depth of a token.

@@ -16,9 +16,9 @@ ghost use Rattle.cq_parse.specs.Outcomes.{Gives, ReadsAll};
 
 use crate::conditions::{miscalled, misplaced};
 use crate::error::ParseError;
-use crate::parser::Parser;
 use crate::statement::{MAX_DEPTH, statement};
 use cq_grammar::{Ast, Refusal};
+use cq_parse_steps::Parser;
 use cq_token::Tokens;
 use cq_tree::What;
 use std::alloc::Global;

@@ -7,8 +7,6 @@ mod print;
 mod query;
 mod reserved;
 mod statement;
-#[cfg(test)]
-mod tests;
 mod writer;
 
 pub use print::print_ast;

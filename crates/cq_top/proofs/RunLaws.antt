@@ -7,9 +7,9 @@ use Rattle.std.specs.List.{AllByRecursion}
 use Rattle.std.proofs.lemmas.List.{length-map, take-append-drop}
 use Rattle.std.proofs.lemmas.List.Elements.{All-head, All-tail}
 use Rattle.cq_value.specs.declared.schema.Shape.{Shape}
-use Rattle.cq_tree.specs.declared.answer.Answered.{Answered}
-use Rattle.cq_tree.specs.declared.journal.Entry.{Entry}
-use Rattle.cq_tree.specs.declared.journal.Journal.{Journal}
+use Rattle.cq_point.specs.declared.answered.Answered.{Answered}
+use Rattle.cq_point.specs.declared.journal.Entry.{Entry}
+use Rattle.cq_point.specs.declared.journal.Journal.{Journal}
 use Rattle.cq_single.specs.declared.catalog.Catalog.{Catalog}
 use Rattle.cq_history.specs.Journals.{EachJournal, IsLegal}
 use Rattle.cq_history.specs.Log.{AllStand, IsInOrder, IsOfFirst}

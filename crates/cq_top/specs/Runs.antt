@@ -1,9 +1,9 @@
 -- What a run promises of its log, its answers, the bytes written and the stores.
 use Rattle.std.specs.Prelude.{◌≡◌, ◌≢◌, ◌<◌, ◌⊎◌, ℕ, IsTrue, Option, Some, List, [], ◌++◌, length, map}
 use Rattle.std.specs.List.{AllByRecursion}
-use Rattle.cq_tree.specs.declared.journal.Entry.{Entry}
-use Rattle.cq_tree.specs.declared.journal.Journal.{Journal}
-use Rattle.cq_tree.specs.declared.answer.Answered.{Answered}
+use Rattle.cq_point.specs.declared.journal.Entry.{Entry}
+use Rattle.cq_point.specs.declared.journal.Journal.{Journal}
+use Rattle.cq_point.specs.declared.answered.Answered.{Answered}
 use Rattle.cq_single.specs.Tables.{no_table, groups_of}
 use Rattle.cq_history.specs.Journals.{EachJournal, AllLegal}
 use Rattle.cq_history.specs.Log.{catalog_of, NumberedFrom, AllStand, IsInOrder, IsOfFirst}

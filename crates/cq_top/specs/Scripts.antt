@@ -1,6 +1,6 @@
 -- The answers to the statements of a script: each statement is read over the catalogue that the answers before it give.
 use Rattle.std.specs.Prelude.{◌≡◌, ◌+◌, ◌<◌, ◌≤◌, ⊤, ℕ, List, [], ◌∷◌, ◌++◌, length, take, drop, Option, Some}
-use Rattle.cq_tree.specs.declared.answer.Answered.{Answered}
+use Rattle.cq_point.specs.declared.answered.Answered.{Answered}
 use Rattle.cq_single.specs.declared.catalog.Catalog.{Catalog}
 use Rattle.cq_single.specs.Tables.{no_table}
 use Rattle.cq_history.specs.Log.{catalog_after}

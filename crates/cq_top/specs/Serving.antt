@@ -1,6 +1,6 @@
 -- How far a run is: its answers so far, what was taken of the script, and what was written.
 use Rattle.std.specs.Prelude.{◌≡◌, ◌≢◌, ◌≤◌, ◌⊎◌, ⊤, ℕ, IsTrue, Option, Some, None, List, [], ◌∷◌, ◌++◌, length, take, drop}
-use Rattle.cq_tree.specs.declared.answer.Answered.{Answered}
+use Rattle.cq_point.specs.declared.answered.Answered.{Answered}
 use Rattle.cq_history.specs.Log.{catalog_of}
 use Rattle.cq_history.specs.Between.{IsConsistent}
 use Rattle.cq_store.specs.Stores.{StoreState}

@@ -1,9 +1,10 @@
 ghost use Rattle.std.specs.Prelude.{◌≡◌};
 ghost use Rattle.cq_top.specs.Runs.{IsEmptyLog};
 
+use cq_point::{AnsweredList, Journals};
 use cq_single::Catalog;
 use cq_store::BoxedStore;
-use cq_tree::{AnsweredList, Journals, Waves, Who};
+use cq_tree::{Waves, Who};
 use cq_value::Items;
 use std::alloc::Global;
 

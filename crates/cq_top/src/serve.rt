@@ -9,9 +9,9 @@ ghost use Rattle.cq_top.specs.Serving.{IsServing, AnswersNext, AnswersMaybe, Ans
 use crate::serving::Serving;
 use crate::stop::Stop;
 use cq_group::{Gate, Point};
+use cq_point::AnsweredList;
 use cq_script::{Cutter, Sink, SinkError, emit, render, statement_in};
 use cq_store::Store;
-use cq_tree::AnsweredList;
 use cq_value::NoMemory;
 use std::alloc::Global;
 

@@ -3,8 +3,9 @@ ghost use Rattle.cq_coordinator.specs.Coordination.{KeepsStores};
 ghost use Rattle.cq_top.specs.Serving.{IsServing, AnswersNext};
 
 use cq_coordinator::Coordinator;
+use cq_point::{Answered, AnsweredList};
 use cq_store::Store;
-use cq_tree::{Answer, Answered, AnsweredList, Fault, Settings, Who};
+use cq_tree::{Answer, Fault, Settings, Who};
 use cq_value::NoMemory;
 use std::alloc::Global;
 

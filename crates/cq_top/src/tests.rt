@@ -5,9 +5,9 @@ ghost use Rattle.std.specs.Prelude.{IfOk};
 ghost use Rattle.cq_cluster.specs.Cluster.{AreIdle, IsWaiting};
 
 use crate::{IdleGate, RunLog, Status, make_workers, run};
+use cq_point::{Entry, EntryKind, Reply};
 use cq_script::{MemSink, MemSource};
 use cq_store::{BoxedStore, MemStore, Store, Worker};
-use cq_tree::{Entry, EntryKind, Reply};
 use cq_value::Value;
 use std::alloc::{AllocError, Global};
 use std::process::Abort;

@@ -1,4 +1,3 @@
-use crate::statement::Statement;
 use cq_value::{Items, Names, Rows};
 
 /// The success of a statement that gives no table.
@@ -54,18 +53,6 @@ pub struct Settings {
     pub shard_count: u32,
     pub pool: u32,
 }
-
-/// A statement with its answer. `bound` is None where it was refused before it was bound.
-#[derive(Debug, Drop)]
-pub struct Answered {
-    pub session: u32,
-    pub statement: u64,
-    pub settings: Settings,
-    pub bound: Option<Statement>,
-    pub answer: Answer,
-}
-
-pub type AnsweredList = Items<Answered>;
 
 /// The tasks of one block on one worker: the sizes of the rounds in which they ran, and how many rows each gave.
 #[derive(Debug, Drop)]

@@ -1,7 +1,7 @@
 use Rattle.std.proofs.Common.{◌≡◌, List, [], ◌++◌, length, map, sym, ◌∙◌, ap, subst, arith, append-nil}
 use Rattle.std.specs.Vec.Iter.{into_iter_items}
 use Rattle.std.proofs.lemmas.List.{length-map, nil_from_length}
-use Rattle.cq_tree.specs.declared.journal.Journal.{Journal}
+use Rattle.cq_point.specs.declared.journal.Journal.{Journal}
 use Rattle.cq_group.specs.declared.group.GroupState.{GroupState}
 use Rattle.cq_group.specs.Groups.{entries_of}
 use Rattle.cq_cluster.specs.Cluster.{AreGroups}

@@ -1,6 +1,6 @@
 use Rattle.std.proofs.Common.{◌≡◌, ◌≤◌, length, map}
 use Rattle.std.specs.Vec.Iter.{into_iter_items, into_iter_len}
-use Rattle.cq_tree.specs.declared.journal.Journal.{Journal}
+use Rattle.cq_point.specs.declared.journal.Journal.{Journal}
 use Rattle.cq_cluster.specs.Ending.{AreJournals}
 use Rattle.cq_cluster.proofs.ClosingLaws.{Closes}
 use Rattle.cq_cluster.proofs.close.close_groups.Given as goal

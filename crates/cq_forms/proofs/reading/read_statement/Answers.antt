@@ -1,5 +1,5 @@
 use Rattle.std.proofs.Common.{sym, subst, rules, Result}
-use Rattle.cq_tree.specs.declared.statement.Statement.{Statement}
+use Rattle.cq_point.specs.declared.statement.Statement.{Statement}
 use Rattle.cq_tree.specs.declared.answer.Fault.{Fault}
 use Rattle.cq_forms.specs.Finding.{Reads}
 use Rattle.cq_forms.proofs.Bound.{reads_bound}

@@ -1,6 +1,6 @@
 use Rattle.std.proofs.Common.{refl}
 use Rattle.cq_grammar.specs.Conditions.{takes}
-use Rattle.cq_parse.proofs.Tables.{another}
+use Rattle.cq_parse_steps.proofs.Tables.{another}
 use Rattle.cq_parse.proofs.conditions.takes.Goals as goal
 
 pub returns-in_default : goal.returns-in_default

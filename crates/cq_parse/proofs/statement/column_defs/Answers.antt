@@ -2,7 +2,7 @@ use Rattle.std.proofs.Common.{rules, ◌≡◌, [], ◌∷◌}
 use Rattle.cq_grammar.specs.Read as read
 use Rattle.cq_grammar.specs.Reading.{column_def}
 use Rattle.cq_parse.specs.Limit.{behind_comma, column_item}
-use Rattle.cq_parse.proofs.Turns.{first_and_more}
+use Rattle.cq_parse_steps.proofs.Turns.{first_and_more}
 use Rattle.cq_parse.proofs.statement.column_defs.Goals as goal
 
 pub returns : goal.returns

@@ -1,6 +1,6 @@
 use Rattle.std.proofs.Common.{rules, arith, ◌+◌, ◌-◌, Ok, Err, sym, ◌∙◌}
 use Rattle.cq_parse.specs.Limit.{behind_comma, column_item}
-use Rattle.cq_parse.proofs.Turns.{refused, read_on, many_stop, many_end}
+use Rattle.cq_parse_steps.proofs.Turns.{refused, read_on, many_stop, many_end}
 use Rattle.cq_parse.proofs.statement.more_columns.Goals as goal
 use Rattle.cq_parse.proofs.statement.more_columns.Goals.{else-columns-test, then-columns-test+then-not-sees_two}
 

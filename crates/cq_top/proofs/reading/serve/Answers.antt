@@ -1,5 +1,5 @@
 use Rattle.std.proofs.Common.{◌≡◌, ◌∙◌, ◌+◌, ◌-◌, ◌≤◌, List, ℕ, [], subst, sym, ap, refl, arith, length, take, min, append-nil, Some}
-use Rattle.cq_tree.specs.declared.answer.Answered.{Answered}
+use Rattle.cq_point.specs.declared.answered.Answered.{Answered}
 use Rattle.cq_script.specs.Streams.{Took}
 use Rattle.cq_top.specs.Serving.{IsTaken, IsAnsweredUpTo, IsShown}
 use Rattle.cq_top.proofs.Answering.{taken_first, taken_end, taken_piece, taken_piece_first, answered_whole, answered_stop, shown_stop, length-take_le}

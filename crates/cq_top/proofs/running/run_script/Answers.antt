@@ -1,5 +1,5 @@
 use Rattle.std.proofs.Common.{◌∙◌, sym, subst, ap, Some, [], map, length, append-nil}
-use Rattle.cq_tree.specs.declared.journal.Journal.{Journal}
+use Rattle.cq_point.specs.declared.journal.Journal.{Journal}
 use Rattle.cq_single.specs.Tables.{shape_of}
 use Rattle.cq_cluster.specs.Cluster.{AreWorkers}
 use Rattle.cq_cluster.proofs.OpeningLaws.{workers_self}

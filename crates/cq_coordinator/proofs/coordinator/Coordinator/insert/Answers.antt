@@ -1,6 +1,6 @@
 use Rattle.std.proofs.Common.{◌∙◌, refl, arith, Some}
 use Rattle.std.proofs.lemmas.List.{length-map}
-use Rattle.cq_tree.specs.declared.statement.Statement.TheVariants as statement
+use Rattle.cq_point.specs.declared.statement.Statement.TheVariants as statement
 use Rattle.cq_history.proofs.Steps.{responds_memory}
 use Rattle.cq_coordinator.specs.Coordination.{histories}
 use Rattle.cq_coordinator.proofs.Answering.{responds_at, insert_at, duplicate_at, no_ids_at}

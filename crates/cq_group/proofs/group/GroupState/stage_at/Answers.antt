@@ -1,6 +1,6 @@
 use Rattle.std.proofs.Common.{◌≡◌, ◌∙◌, get_or, ap, refl, sym, subst, ◌+◌, ◌<◌, ◌≤◌, length, true, rules, arith}
 use Rattle.std.proofs.lemmas.Result.{IfErr-weaker}
-use Rattle.cq_meaning.specs.Effects.{table_of, inserts, reply_of}
+use Rattle.cq_point_meaning.specs.Effects.{table_of, inserts, reply_of}
 use Rattle.std.specs.List.{AllByRecursion}
 use Rattle.cq_value.specs.Tables.{rows_of}
 use Rattle.cq_group.specs.Groups.{IsTableQuiet, IsStagedIn, entries_of, copies_of}

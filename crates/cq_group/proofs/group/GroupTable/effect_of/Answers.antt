@@ -1,6 +1,6 @@
 use Rattle.std.proofs.Common.{◌∙◌, subst, sym, ap}
 use Rattle.cq_value.specs.Tables.{Table}
-use Rattle.cq_engine.specs.WriteEffects.{IsEffect}
+use Rattle.cq_point_engine.specs.WriteEffects.{IsEffect}
 use Rattle.cq_group.proofs.TableLaws.{first_at}
 use Rattle.cq_group.proofs.group.GroupTable.effect_of.Goals as goal
 

@@ -1,5 +1,5 @@
 use Rattle.std.proofs.Common.{◌≡◌, ◌+◌, length, List, arith, sym, ap, subst, ℕ}
-use Rattle.cq_tree.specs.declared.answer.Answered.{Answered}
+use Rattle.cq_point.specs.declared.answered.Answered.{Answered}
 use Rattle.cq_forms.specs.Reading.{reading}
 use Rattle.cq_coordinator.specs.Coordination.{histories}
 use Rattle.cq_coordinator.specs.Responses.{ReadsAs}

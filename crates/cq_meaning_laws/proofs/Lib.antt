@@ -1,0 +1,10 @@
+pub mod WidthLaws
+pub mod WithinLaws
+pub mod SafeLaws
+pub mod AggregateLaws
+pub mod ResultLaws
+pub mod SortLaws
+pub mod Permuted
+pub mod OrderFree
+pub mod WholeOrder
+pub mod WholeLaws

@@ -1,0 +1,4 @@
+pub mod WidthRules
+pub mod WholeRules
+pub mod Settled
+pub mod OrderRules

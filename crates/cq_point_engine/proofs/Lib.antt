@@ -1,0 +1,2 @@
+pub mod InsertLaws
+pub mod KeyLaws

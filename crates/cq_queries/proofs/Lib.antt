@@ -1,0 +1,3 @@
+pub mod GroupPush
+pub mod StepLaws
+pub mod TreeRows

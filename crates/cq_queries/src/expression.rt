@@ -1,0 +1,133 @@
+ghost use Rattle.std.specs.Prelude.{◌≡◌, ◌<◌, length, IfOk, All, option_map};
+ghost use Rattle.cq_meaning.specs.Values.{column};
+ghost use Rattle.cq_meaning.specs.Logic.{among};
+ghost use Rattle.cq_meaning.specs.Expressions.{value_of, truth_of};
+ghost use Rattle.cq_meaning.specs.Safety.{IsSafe, IsSafeCondition, IsSafeArm};
+ghost use Rattle.cq_queries.specs.Operands.{owned};
+ghost use Rattle.cq_queries.specs.TreeLists.{arm_value_in, first_known_in};
+
+use crate::logic;
+use crate::operand::{self, Operand};
+use cq_tree::{Arm, Cond, Expr, Op};
+use cq_value::{NoMemory, Results, Row, Rows, Truth, Value};
+use std::alloc::Global;
+
+fn column_of<'a>(row: &'a Row, at: u32) -> Operand<'a>
+    requires { at < length row.now }
+    ensures { owned result ≡ column row.now at }
+{
+    operand::lend(&row.as_slice()[at as usize])
+}
+
+/// The value in a column, and NULL past the end.
+pub fn cell<'a>(row: &'a Row, at: u32) -> Operand<'a>
+    ensures { owned result ≡ column row.now at }
+{
+    match row.get(at as u64) {
+        Some(v) => operand::lend(v),
+        None => Operand::Null,
+    }
+}
+
+/// `IN`, over rows of one column.
+fn is_among(v: Operand<'_>, rows: &Rows) -> Truth
+    ensures { result ≡ among (owned v.entry) rows.now }
+{
+    let mut found = Truth::No;
+    for row in rows.as_slice() {
+        let order = operand::compare(v, cell(row, 0));
+        found = logic::either(found, logic::holds(Op::Eq, order));
+    }
+    found
+}
+
+/// The value of an expression over a row, with borrowed texts.
+#[cycle(eval)]
+pub fn look<'a>(e: &'a Expr, row: &'a Row, results: &Results) -> Operand<'a>
+    requires { IsSafe e.now row.now results.now }
+    ensures { owned result ≡ value_of e.now row.now results.now }
+{
+    match e {
+        Expr::Literal(v) => operand::lend(v),
+        Expr::Column(at) => column_of(row, *at),
+        Expr::Neg(a) => operand::negate(look(a.get(), row, results)),
+        Expr::Add(a, b) => {
+            operand::add(look(a.get(), row, results), look(b.get(), row, results))
+        }
+        Expr::Sub(a, b) => {
+            operand::subtract(look(a.get(), row, results), look(b.get(), row, results))
+        }
+        Expr::Mul(a, b) => {
+            operand::multiply(look(a.get(), row, results), look(b.get(), row, results))
+        }
+        Expr::Div(a, c) => operand::divide(look(a.get(), row, results), *c),
+        Expr::Rem(a, c) => operand::remainder(look(a.get(), row, results), *c),
+        Expr::Case(arms, other) => match look_arms(arms.as_slice(), row, results) {
+            Some(v) => v,
+            None => look(other.get(), row, results),
+        },
+        Expr::Coalesce(es) => look_first(es.as_slice(), row, results),
+    }
+}
+
+/// The value of the first arm whose condition is true.
+#[cycle(eval)]
+fn look_arms<'a>(arms: &'a [Arm], row: &'a Row, results: &Results) -> Option<Operand<'a>>
+    requires { All (IsSafeArm row.now results.now) arms.now }
+    ensures { option_map owned result ≡ arm_value_in arms.now row.now results.now }
+{
+    for arm in arms {
+        if test(&arm.when, row, results) == Truth::Yes {
+            return Some(look(&arm.then, row, results));
+        }
+    }
+    None
+}
+
+/// The first value that isn't NULL.
+#[cycle(eval)]
+fn look_first<'a>(es: &'a [Expr], row: &'a Row, results: &Results) -> Operand<'a>
+    requires { All (λ e. IsSafe e row.now results.now) es.now }
+    ensures { owned result ≡ first_known_in es.now row.now results.now }
+{
+    for e in es {
+        let v = look(e, row, results);
+        if operand::test_null(v) == Truth::No {
+            return v;
+        }
+    }
+    Operand::Null
+}
+
+/// Whether a condition holds of a row, by SQL's three-valued logic. Takes no memory.
+///
+/// Conditions: the columns are in the row, the results in the list, and values fit 128 bits, as the widths of the binder make
+/// sure.
+#[cycle(eval)]
+pub fn test(c: &Cond, row: &Row, results: &Results) -> Truth
+    requires { IsSafeCondition c.now row.now results.now }
+    ensures { result ≡ truth_of c.now row.now results.now }
+{
+    match c {
+        Cond::Compare(op, a, b) => logic::holds(
+            *op,
+            operand::compare(look(a, row, results), look(b, row, results)),
+        ),
+        Cond::IsNull(e) => operand::test_null(look(e, row, results)),
+        Cond::InResult(e, i) => is_among(look(e, row, results), &results.as_slice()[*i as usize]),
+        Cond::And(a, b) => logic::both(test(a.get(), row, results), test(b.get(), row, results)),
+        Cond::Or(a, b) => logic::either(test(a.get(), row, results), test(b.get(), row, results)),
+        Cond::Not(a) => logic::negated(test(a.get(), row, results)),
+        Cond::Always => Truth::Yes,
+    }
+}
+
+/// The value of an expression over a row.
+///
+/// Conditions: as `test` has them. Errors: want of memory.
+pub fn eval(alloc: Global, e: &Expr, row: &Row, results: &Results) -> Result<Value, NoMemory>
+    requires { IsSafe e.now row.now results.now }
+    ensures { IfOk result (λ v. v ≡ value_of e.now row.now results.now) }
+{
+    operand::take(alloc, look(e, row, results))
+}

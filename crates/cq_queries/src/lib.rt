@@ -1,0 +1,18 @@
+//! The reads of the worker engine: it computes expressions and the rows of a query, plainly: products and then filters, and
+//! lists of groups.
+#![tactic(auto)]
+
+mod aggregate;
+mod expression;
+mod group;
+mod join;
+mod logic;
+mod nulls;
+mod operand;
+mod query;
+mod rows;
+mod select;
+mod sorting;
+
+pub use expression::{eval, test};
+pub use query::{Tables, run_query};
