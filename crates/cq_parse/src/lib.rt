@@ -5,11 +5,7 @@
 
 mod conditions;
 mod error;
-#[cfg(test)]
-mod round_trips;
 mod statement;
-#[cfg(test)]
-mod tests;
 mod verdict;
 
 pub use cq_print::print_ast;

@@ -430,7 +430,7 @@ impl<
         }
     }
 
-    #[tactic(auto, unfolding(cq_grammar::specs::Descent::test))]
+    #[tactic(auto, unfolding(crate::proofs::Names::in_or_between))]
     fn test(&self, parser: &mut Parser<'_>) -> Result<(Option<u64>, (u64, Test)), Refusal>
         requires { Nests self.now.left (F.pre self.now.expr) (F.post self.now.expr) (G.pre self.now.select) (G.post self.now.select) }
         ensures { Reads (descent.test (descent.below self.now.left) parser.old) result parser.new }

@@ -8,7 +8,5 @@ mod grammar;
 mod knot;
 mod nodes;
 mod query;
-#[cfg(test)]
-mod tests;
 
 pub use knot::{expr, select};

@@ -1,0 +1,285 @@
+//! INSERT: its rows, whose values are computed here.
+
+ghost use Rattle.std.specs.Prelude.{◌≡◌, [], ◌∷◌, ◌++◌, ◌+◌, length, replicate, slice_get, Some, IfOk};
+ghost use Rattle.cq_value.specs.declared.value.Value.TheVariants as value;
+ghost use Rattle.cq_meaning.specs.Expressions.{value_of as value_in};
+ghost use Rattle.cq_reading.specs.Outcomes.{Binds, Judges};
+ghost use Rattle.cq_reading.specs.Steps.{through};
+ghost use Rattle.cq_reading.specs.Widths.{expr_of};
+ghost use Rattle.cq_reading.specs.Selects as selects;
+ghost use Rattle.cq_reading.specs.Expressions.{reads};
+ghost use Rattle.cq_reading.specs.Walk.{part_of};
+ghost use Rattle.cq_reading.specs.Statements as reading;
+
+use crate::writes::write_scope;
+use cq_bind_looks::place;
+use cq_bind_rules::{expr as tree_of, value};
+use cq_bind_statements::{
+    check_count, check_unlisted, columns_of, null_row, put_values, stored, target_of,
+};
+use cq_bind_walk::{expr, through};
+use cq_catalog::{Catalog, TableInfo};
+use cq_grammar::{Expr as Written, Name, RowValues};
+use cq_meaning_laws::width_laws;
+use cq_queries::eval;
+use cq_reading::{BindError, Bound, Found, Scope, World};
+use cq_tree::{Expr, ShardOp, Statement};
+use cq_value::{Items, NoMemory, Positions, Results, Row, Rows, Value};
+use cq_widths::bits_of;
+use std::alloc::Global;
+
+/// The value of an expression without columns. What the walk lets through has its width, so the only error is want of memory.
+fn value_of(alloc: Global, e: &Expr) -> Result<Value, NoMemory>
+    ensures { IfOk result (λ v. v ≡ value_in e.now [] []) }
+{
+    match bits_of(e, &[], 0) {
+        Some(_) => {
+            width_laws();
+            eval(alloc, e, &Row::new(alloc), &Results::new(alloc))
+        }
+        None => Err(NoMemory),
+    }
+}
+
+/// The value that what is bound has.
+fn constant(alloc: Global, b: Bound) -> Result<Value, NoMemory>
+    ensures { IfOk result (λ v. v ≡ value_in (expr_of b) [] []) }
+{
+    value_of(alloc, &tree_of(b))
+}
+
+/// An expression that is a value. `Err` is the first refusal in it, or 14 at its root.
+fn read_value(found: &mut Found, scope: &Scope<'_>, e: &Written) -> Result<Bound, BindError>
+    ensures { Binds (selects.value_of (part_of e.now).at (reads (part_of e.now) scope.now) found.old) result found.new }
+{
+    let b = expr(found, e, scope)?;
+    value(b, place(e))
+}
+
+/// The value of an expression of an INSERT.
+fn computed(
+    alloc: Global,
+    found: &mut Found,
+    scope: &Scope<'_>,
+    e: &Written,
+) -> Result<Value, BindError>
+    ensures { Binds (reading.computed scope.now e.now found.old) result found.new }
+{
+    let b = read_value(found, scope, e)?;
+    Ok(constant(alloc, b)?)
+}
+
+/// The column of the next value.
+fn next_column(columns: &[u32], before: &Row) -> Option<u32>
+    ensures { result ≡ slice_get columns.now (length before.now) }
+{
+    columns.get(before.len() as usize).copied()
+}
+
+fn one_more(mut row: Row, v: Value) -> Result<Row, NoMemory>
+    ensures { IfOk result (λ all. all ≡ row ++ v ∷ []) }
+{
+    row.put(v)?;
+    Ok(row)
+}
+
+/// The values of a row with one more, which is for the column i.
+fn value_for(
+    alloc: Global,
+    found: &mut Found,
+    scope: &Scope<'_>,
+    table: &TableInfo,
+    row: u64,
+    i: u32,
+    before: Row,
+    e: &Written,
+) -> Result<Row, BindError>
+    ensures { Binds (reading.value_for scope.now table.now row before e.now (Some i) found.old) result found.new }
+{
+    let v = computed(alloc, found, scope, e)?;
+    let v = stored(table, row, i, v)?;
+    Ok(one_more(before, v)?)
+}
+
+fn with_value(
+    alloc: Global,
+    found: &mut Found,
+    scope: &Scope<'_>,
+    table: &TableInfo,
+    row: u64,
+    columns: &[u32],
+    before: Row,
+    e: &Written,
+) -> Result<Row, BindError>
+    ensures { Binds (reading.with_value scope.now table.now row columns.now before e.now found.old) result found.new }
+{
+    match next_column(columns, &before) {
+        Some(i) => value_for(alloc, found, scope, table, row, i, before, e),
+        None => Ok(before),
+    }
+}
+
+/// The values of a row, each for the column in its place.
+fn values(
+    alloc: Global,
+    found: &mut Found,
+    scope: &Scope<'_>,
+    table: &TableInfo,
+    row: u64,
+    columns: &[u32],
+    values: &Items<Written>,
+) -> Result<Row, BindError>
+    ensures { Binds (through (reading.with_value scope.now table.now row columns.now) values.now [] found.old) result found.new }
+{
+    through(
+        found,
+        values,
+        Row::new(alloc),
+        |found: &mut Found, before: Row, e: &Written| {
+            with_value(alloc, found, scope, table, row, columns, before, e)
+        },
+    )
+}
+
+/// A row with these values in these columns, and NULL in the others.
+fn filled(alloc: Global, table: &TableInfo, columns: &[u32], values: Row) -> Result<Row, NoMemory>
+    ensures { IfOk result (λ row. row ≡ reading.put_values (replicate (length table.now.columns) value.Null) columns.now values) }
+{
+    Ok(put_values(null_row(alloc, table)?, columns, values))
+}
+
+/// The row of this number, counted from 1.
+fn row_of(
+    alloc: Global,
+    found: &mut Found,
+    scope: &Scope<'_>,
+    table: &TableInfo,
+    columns: &[u32],
+    row: u64,
+    listed: &RowValues,
+) -> Result<Row, BindError>
+    ensures { Binds (reading.row_of scope.now table.now columns.now row listed.now found.old) result found.new }
+{
+    check_count(listed, columns)?;
+    let values = values(alloc, found, scope, table, row, columns, &listed.values)?;
+    check_unlisted(table, row, columns)?;
+    Ok(filled(alloc, table, columns, values)?)
+}
+
+fn put_row(mut rows: Rows, row: Row) -> Result<Rows, NoMemory>
+    ensures { IfOk result (λ all. all ≡ rows ++ row ∷ []) }
+{
+    rows.put(row)?;
+    Ok(rows)
+}
+
+/// The number of the next row, counted from 1.
+fn next_number(before: &Rows) -> Result<u64, NoMemory>
+    ensures { IfOk result (λ n. n ≡ length before.now + 1) }
+{
+    match before.len().checked_add(1) {
+        Some(number) => Ok(number),
+        None => Err(NoMemory),
+    }
+}
+
+/// The row behind those before.
+fn next_row(
+    alloc: Global,
+    found: &mut Found,
+    scope: &Scope<'_>,
+    table: &TableInfo,
+    columns: &[u32],
+    before: &Rows,
+    listed: &RowValues,
+) -> Result<Row, BindError>
+    ensures { Binds (reading.row_of scope.now table.now columns.now (length before.now + 1) listed.now found.old) result found.new }
+{
+    let number = next_number(before)?;
+    row_of(alloc, found, scope, table, columns, number, listed)
+}
+
+fn with_row(
+    alloc: Global,
+    found: &mut Found,
+    scope: &Scope<'_>,
+    table: &TableInfo,
+    columns: &[u32],
+    before: Rows,
+    listed: &RowValues,
+) -> Result<Rows, BindError>
+    ensures { Binds (reading.with_row scope.now table.now columns.now before listed.now found.old) result found.new }
+{
+    let row = next_row(alloc, found, scope, table, columns, &before, listed)?;
+    Ok(put_row(before, row)?)
+}
+
+fn rows_of(
+    alloc: Global,
+    found: &mut Found,
+    scope: &Scope<'_>,
+    table: &TableInfo,
+    columns: &[u32],
+    rows: &Items<RowValues>,
+) -> Result<Rows, BindError>
+    ensures { Binds (through (reading.with_row scope.now table.now columns.now) rows.now [] found.old) result found.new }
+{
+    through(
+        found,
+        rows,
+        Rows::new(alloc),
+        |found: &mut Found, before: Rows, listed: &RowValues| {
+            with_row(alloc, found, scope, table, columns, before, listed)
+        },
+    )
+}
+
+fn listed_columns(
+    alloc: Global,
+    table: &TableInfo,
+    columns: &Items<Name>,
+) -> Result<Positions, BindError>
+    ensures { Judges (reading.columns_of table.now.columns columns.now) result }
+{
+    columns_of(alloc, table.columns.as_slice(), columns.as_slice())
+}
+
+/// The rows of an INSERT into a table, and an expression in it sees no column.
+fn all_rows(
+    alloc: Global,
+    found: &mut Found,
+    catalog: &Catalog,
+    table: &TableInfo,
+    columns: &Positions,
+    rows: &Items<RowValues>,
+) -> Result<Rows, BindError>
+    ensures { Binds (through (reading.with_row (reading.write_context (reading.among catalog.now.tables []) []) table.now columns.now) rows.now [] found.old) result found.new }
+{
+    let world = World {
+        alloc,
+        catalog,
+        commons: &[],
+    };
+    let scope = write_scope(&world, &[]);
+    rows_of(alloc, found, &scope, table, columns.as_slice(), rows)
+}
+
+/// An INSERT. `Err` is the first refusal: the table, its columns, and then each row from left to right.
+pub fn insertion(
+    alloc: Global,
+    found: &mut Found,
+    catalog: &Catalog,
+    table: &Name,
+    columns: &Items<Name>,
+    rows: &Items<RowValues>,
+) -> Result<Statement, BindError>
+    ensures { Binds (reading.insertion catalog.now.tables table.now columns.now rows.now found.old) result found.new }
+{
+    let (number, info) = target_of(alloc, catalog, table)?;
+    let columns = listed_columns(alloc, info, columns)?;
+    let rows = all_rows(alloc, found, catalog, info, &columns, rows)?;
+    Ok(Statement::Write(ShardOp::Insert {
+        table: number,
+        rows,
+    }))
+}

@@ -1,0 +1,4 @@
+pub mod GroupLaws
+pub mod Looks
+pub mod MarkLaws
+pub mod PlaceLaws

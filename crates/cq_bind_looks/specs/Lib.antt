@@ -1,0 +1,5 @@
+pub mod Forms
+pub mod Layers
+pub mod Marks
+pub mod Places
+pub mod Signs

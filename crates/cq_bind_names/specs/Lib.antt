@@ -1,0 +1,6 @@
+pub mod Checks
+pub mod Joining
+pub mod Worlds
+pub mod Keys
+pub mod Blocks
+pub mod Trees

@@ -1,0 +1,86 @@
+ghost use Rattle.std.specs.Prelude.{◌≡◌, MatchResult};
+ghost use Rattle.cq_reading.specs.declared.error.BindError.TheVariants.{Memory};
+ghost use Rattle.cq_reading.specs.Outcomes.{Binds};
+ghost use Rattle.cq_reading.specs.Expressions as expression;
+ghost use Rattle.cq_bind_rules.specs.Placing.{AmongOr};
+
+use crate::conditions::negated_if;
+use crate::literals::null;
+use crate::operands::{are_alike, expr};
+use cq_reading::{BindError, Block, Bound, Found, Output, Scope};
+use cq_tree::{Cond, Expr, Query};
+use cq_value::Value;
+
+/// The number of the next result. The only error is want of memory, where there are 4294967295.
+pub fn numbered(found: &mut Found) -> Result<u32, BindError>
+    ensures { Binds (expression.numbered found.old) result found.new }
+{
+    let number = found.results;
+    match number.checked_add(1) {
+        Some(next) => {
+            found.results = next;
+            Ok(number)
+        }
+        None => Err(BindError::Memory),
+    }
+}
+
+fn output_bound(outputs: &[Output]) -> Bound
+    ensures { result ≡ expression.output_bound outputs.now }
+{
+    match outputs.first() {
+        Some(output) => Bound::Value(Expr::Literal(Value::Null), output.kind, output.width),
+        None => null(),
+    }
+}
+
+fn is_one(outputs: &[Output]) -> bool
+    ensures { result ≡ expression.is_one outputs.now }
+{
+    matches!(outputs, [_])
+}
+
+/// Puts the query of a subquery with those of its SELECT.
+fn put_sub(found: &mut Found, query: Query) -> Result<(), BindError>
+    ensures { MatchResult result (λ _. found.new ≡ expression.with_sub query found.old) (λ e. e ≡ Memory) }
+{
+    found.subs.put(query)?;
+    Ok(())
+}
+
+/// Whether the subquery may stand here.
+fn judged(scope: &Scope<'_>, x: &Bound, at: u64, block: &Block) -> Result<(), BindError>
+    ensures { AmongOr scope.now x.now at block.now result }
+{
+    if !scope.may_select {
+        return Err(BindError::Subquery { at });
+    }
+    if !is_one(block.outputs.as_slice()) {
+        return Err(BindError::WrongCount { at });
+    }
+    if !are_alike(x, &output_bound(block.outputs.as_slice())) {
+        return Err(BindError::Type { at });
+    }
+    Ok(())
+}
+
+/// `x IN (subquery)`, or with NOT before it, where the subquery's result has the number `k`. It is refused at `at` with 19 where no
+/// subquery may stand, then with 17 where it hasn't one output, and with 14 where `x` can't be compared with that.
+pub fn among(
+    found: &mut Found,
+    scope: &Scope<'_>,
+    x: Bound,
+    negate: bool,
+    at: u64,
+    k: u32,
+    block: Block,
+) -> Result<Bound, BindError>
+    ensures { Binds (expression.among scope.now x negate at k block found.old) result found.new }
+{
+    judged(scope, &x, at, &block)?;
+    let world = scope.world;
+    let test = negated_if(world.alloc, negate, Cond::InResult(expr(x), k))?;
+    let Block { query, .. } = block;
+    put_sub(found, query)?;
+    Ok(Bound::Truth(test))
+}

@@ -1,0 +1,5 @@
+pub mod Targets
+pub mod Keeping
+pub mod Checks
+pub mod Options
+pub mod Creating

@@ -1,0 +1,10 @@
+pub mod Blocks
+pub mod Froms
+pub mod Grouping
+pub mod Keys
+pub mod Layers
+pub mod Loops
+pub mod Ordering
+pub mod Picks
+pub mod Productions
+pub mod Targets

@@ -1,0 +1,261 @@
+//! A SELECT: FROM, WHERE, GROUP BY, HAVING, the select list, and ORDER BY.
+
+ghost use Rattle.std.specs.Prelude.{◌≡◌, map, IfOk};
+ghost use Rattle.cq_reading.specs.Outcomes.{Binds};
+ghost use Rattle.cq_reading.specs.Selects as spec;
+ghost use Rattle.cq_reading.specs.Walk as walk;
+ghost use Rattle.cq_reading.specs.Walk.{select_of, item_part, order_part};
+ghost use Rattle.cq_bind_names.specs.declared.blocks.Outer.{Outer};
+ghost use Rattle.cq_bind_walk.specs.Calls.{Nests};
+ghost use Rattle.cq_bind_walk.specs.Blocks as blocks;
+ghost use Rattle.cq_bind_walk.specs.Blocks.{layer_of};
+
+use crate::scopes::alloc_of;
+use crate::walk::Walk;
+use cq_bind_looks::groups;
+use cq_bind_names::{Clauses, Outer, Parts, block_of, enter, leave, unordered};
+use cq_grammar::{Count, Expr, Item, OrderKey, Select};
+use cq_reading::{BindError, Block, Bound, Found, Ordered, Relations, Scope, ShownList, World};
+use cq_tree::{Cond, Exprs};
+use cq_value::{Items, NoMemory};
+use std::alloc::Global;
+
+/// The rows of a SELECT: its relations, WHERE, and the keys of GROUP BY.
+#[derive(Drop)]
+pub struct Rows {
+    pub relations: Relations,
+    pub filter: Cond,
+    pub keys: Exprs,
+}
+
+/// What is made of the rows: HAVING, the outputs, and ORDER BY.
+#[derive(Drop)]
+pub struct Shape {
+    pub having: Cond,
+    pub outputs: ShownList,
+    pub order: Ordered,
+}
+
+/// What WHERE and the keys of GROUP BY stand in.
+fn scope_before<'a>(world: &'a World<'a>, relations: &'a Relations, may_select: bool) -> Scope<'a>
+    ensures { result ≡ spec.before_grouping world.now relations.now may_select }
+{
+    Scope {
+        world,
+        first: 0,
+        columns: relations.columns.as_slice(),
+        grouped: false,
+        keys: &[],
+        joined: relations.joined,
+        may_aggregate: false,
+        may_select,
+    }
+}
+
+/// What HAVING, the select list and ORDER BY stand in.
+fn scope_after<'a>(
+    world: &'a World<'a>,
+    rows: &'a Rows,
+    grouped: bool,
+    may_select: bool,
+) -> Scope<'a>
+    ensures { result ≡ spec.after_grouping world.now rows.now.relations grouped rows.now.keys may_select }
+{
+    Scope {
+        world,
+        first: 0,
+        columns: rows.relations.columns.as_slice(),
+        grouped,
+        keys: rows.keys.as_slice(),
+        joined: rows.relations.joined,
+        may_aggregate: true,
+        may_select,
+    }
+}
+
+fn limit_of(limit: &Option<Count>) -> Option<u64>
+    ensures { result ≡ spec.limit_of limit.now }
+{
+    match limit {
+        Some(count) => Some(count.value),
+        None => None,
+    }
+}
+
+fn offset_of(offset: &Option<Count>) -> u64
+    ensures { result ≡ spec.offset_of offset.now }
+{
+    match offset {
+        Some(count) => count.value,
+        None => 0,
+    }
+}
+
+#[tactic(auto, using(crate::proofs::Layers::groups_of))]
+fn is_grouped(q: &Select) -> bool
+    ensures { result ≡ walk.groups (layer_of q.now) }
+{
+    groups(q)
+}
+
+fn clauses_of(q: &Select) -> Clauses
+    ensures { result ≡ blocks.clauses_of (layer_of q.now) }
+{
+    Clauses {
+        grouped: is_grouped(q),
+        distinct: q.distinct,
+        limit: limit_of(&q.limit),
+        offset: offset_of(&q.offset),
+    }
+}
+
+/// What is there and what was tried next, or its refusal.
+fn beside<A: Drop, B: Drop>(a: A, b: Result<B, BindError>) -> Result<(A, B), BindError>
+    ensures { result ≡ blocks.made (λ y. (a, y)) b }
+{
+    let b = b?;
+    Ok((a, b))
+}
+
+fn rows_of(read: Result<(Relations, (Cond, Exprs)), BindError>) -> Result<Rows, BindError>
+    ensures { result ≡ blocks.made blocks.rows_from read }
+{
+    let (relations, (filter, keys)) = read?;
+    Ok(Rows {
+        relations,
+        filter,
+        keys,
+    })
+}
+
+/// The block of a SELECT, of its parts and of the IN subqueries and the aggregates that were found in it.
+fn finished(
+    alloc: Global,
+    q: &Select,
+    rows: Rows,
+    shape: Shape,
+    inner: Outer,
+) -> Result<Block, NoMemory>
+    ensures { IfOk result (λ b. b ≡ blocks.block_with (layer_of q.now) rows shape inner) }
+{
+    let Rows {
+        relations,
+        filter,
+        keys,
+    } = rows;
+    let Shape {
+        having,
+        outputs,
+        order,
+    } = shape;
+    let parts = Parts {
+        relations,
+        filter,
+        keys,
+        having,
+        order,
+        inner,
+    };
+    block_of(alloc, clauses_of(q), parts, outputs.as_slice())
+}
+
+impl<
+    F: Fn(&mut Found, &Expr, &Scope<'_>, usize) -> Result<Bound, BindError>,
+    G: Fn(&mut Found, &Select, &World<'_>, usize) -> Result<Block, BindError>,
+> Walk<F, G> {
+    /// WHERE and GROUP BY.
+    fn conditions(
+        &self,
+        found: &mut Found,
+        q: &Select,
+        relations: &Relations,
+        world: &World<'_>,
+    ) -> Result<(Cond, Exprs), BindError>
+        requires { Nests self.now.left (F.pre self.now.expr) (F.post self.now.expr) (G.pre self.now.select) (G.post self.now.select) }
+        ensures { Binds (blocks.conditions_reading (layer_of q.now) world.now relations.now found.old) result found.new }
+    {
+        let filter = self.filter(found, &q.filter, &scope_before(world, relations, true))?;
+        let scope = scope_before(world, relations, false);
+        let keys = self.groups(found, &q.groups, &q.items, &scope)?;
+        Ok((filter, keys))
+    }
+
+    fn rows(&self, found: &mut Found, q: &Select, world: &World<'_>) -> Result<Rows, BindError>
+        requires { Nests self.now.left (F.pre self.now.expr) (F.post self.now.expr) (G.pre self.now.select) (G.post self.now.select) }
+        ensures { Binds (blocks.rows_reading (layer_of q.now) world.now found.old) result found.new }
+    {
+        let relations = self.relations(found, &q.from, world)?;
+        let conditions = self.conditions(found, q, &relations, world);
+        rows_of(beside(relations, conditions))
+    }
+
+    /// The outputs of a SELECT, and ORDER BY.
+    fn ordered(
+        &self,
+        found: &mut Found,
+        items: &Items<Item>,
+        distinct: bool,
+        keys: &Items<OrderKey>,
+        scope: &Scope<'_>,
+    ) -> Result<(ShownList, Ordered), BindError>
+        requires { Nests self.now.left (F.pre self.now.expr) (F.post self.now.expr) (G.pre self.now.select) (G.post self.now.select) }
+        ensures { Binds (blocks.ordered_reading (map item_part items.now) distinct (map order_part keys.now) scope.now found.old) result found.new }
+    {
+        let outputs = self.outputs(found, items, scope)?;
+        let order = unordered(alloc_of(scope), outputs.as_slice())?;
+        let order = self.orders(found, keys, outputs.as_slice(), distinct, order, scope)?;
+        Ok((outputs, order))
+    }
+
+    fn shape(
+        &self,
+        found: &mut Found,
+        q: &Select,
+        rows: &Rows,
+        grouped: bool,
+        world: &World<'_>,
+    ) -> Result<Shape, BindError>
+        requires { Nests self.now.left (F.pre self.now.expr) (F.post self.now.expr) (G.pre self.now.select) (G.post self.now.select) }
+        ensures { Binds (blocks.shape_reading (layer_of q.now) world.now grouped rows.now found.old) result found.new }
+    {
+        let having = self.having(found, &q.having, &scope_after(world, rows, grouped, true))?;
+        let scope = scope_after(world, rows, grouped, false);
+        let (outputs, order) = self.ordered(found, &q.items, q.distinct, &q.order, &scope)?;
+        Ok(Shape {
+            having,
+            outputs,
+            order,
+        })
+    }
+
+    fn parts(
+        &self,
+        found: &mut Found,
+        q: &Select,
+        grouped: bool,
+        world: &World<'_>,
+    ) -> Result<(Rows, Shape), BindError>
+        requires { Nests self.now.left (F.pre self.now.expr) (F.post self.now.expr) (G.pre self.now.select) (G.post self.now.select) }
+        ensures { Binds (blocks.parts_reading (layer_of q.now) world.now grouped found.old) result found.new }
+    {
+        let rows = self.rows(found, q, world)?;
+        let shape = self.shape(found, q, &rows, grouped, world);
+        beside(rows, shape)
+    }
+
+    /// A SELECT among tables and CTEs. `Err` is the first refusal in it, 33 where it is the 65th of its statement, or want of memory.
+    pub fn block(
+        &self,
+        found: &mut Found,
+        q: &Select,
+        world: &World<'_>,
+    ) -> Result<Block, BindError>
+        requires { Nests self.now.left (F.pre self.now.expr) (F.post self.now.expr) (G.pre self.now.select) (G.post self.now.select) }
+        ensures { Binds (select_of q.now world.now found.old) result found.new }
+    {
+        let outer = enter(found, world.alloc)?;
+        let (rows, shape) = self.parts(found, q, is_grouped(q), world)?;
+        let inner = leave(found, outer);
+        Ok(finished(world.alloc, q, rows, shape, inner)?)
+    }
+}

@@ -1,0 +1,13 @@
+pub mod Equal
+pub mod Expressions
+pub mod Outcomes
+pub mod Parts
+pub mod Relations
+pub mod Rules
+pub mod Scopes
+pub mod Selects
+pub mod Statements
+pub mod Steps
+pub mod Titles
+pub mod Walk
+pub mod Widths

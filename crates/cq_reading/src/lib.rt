@@ -1,0 +1,14 @@
+//! What a syntax tree stands for over the tables that there are: a bound statement, or the first refusal of the walk. Types and
+//! definitions; no code.
+#![tactic(auto)]
+
+mod bound;
+mod error;
+mod scope;
+
+pub use bound::{
+    Block, Bound, Common, Commons, Found, Options, Ordered, Output, Outputs, Relations, Shown,
+    ShownList, Source, Sources, Type,
+};
+pub use error::{BindError, Limited};
+pub use scope::{Scope, World};

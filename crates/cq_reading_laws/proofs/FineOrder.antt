@@ -1,0 +1,74 @@
+-- The items behind the keys of ORDER BY stand.
+use Rattle.std.proofs.Common.{◌≡◌, ℕ, ◌+◌, ◌-◌, Bool, ◌&&◌, not, List, [], ◌∷◌, ◌++◌, map, length, ap, ◌∙◌, Option, None, Some}
+use Rattle.std.specs.Prelude.{slice_get, position, nat_lt}
+use Rattle.std.specs.List.{AllByRecursion}
+use Rattle.cq_tree.specs.declared.expression.Expr.{Expr}
+use Rattle.cq_reading.specs.declared.bound.Found.{Found}
+use Rattle.cq_reading.specs.declared.bound.Shown.{Shown}
+use Rattle.cq_reading.specs.declared.bound.Ordered.{Ordered}
+use Rattle.cq_reading.specs.declared.error.BindError.TheVariants as error
+use Rattle.cq_reading.specs.declared.error.Limited.TheVariants as limited
+use Rattle.cq_reading.specs.Steps.{give}
+use Rattle.cq_reading.specs.Widths.{expr_of}
+use Rattle.cq_reading.specs.Equal.{equal_exprs}
+use Rattle.cq_reading.specs.Scopes.{Context}
+use Rattle.cq_reading.specs.Titles as title
+use Rattle.cq_reading.specs.Titles.{Form}
+use Rattle.cq_reading.specs.Parts.{OrderPart}
+use Rattle.cq_reading.specs.Expressions.{reads}
+use Rattle.cq_reading.specs.Selects as s
+use Rattle.cq_reading_laws.specs.Bounds.{HaveBits, MayStand, Onward}
+use Rattle.cq_reading_laws.proofs.Onwards.{Later, Kept, lasts, gives, where_fit, onwards, through_all, append_all}
+use Rattle.cq_reading_laws.proofs.FineParts.{PartStands}
+use Rattle.cq_reading_laws.proofs.FineLists.{ExprFine, ValueFine, value_fine}
+
+all_more : {B : Type 0} (P : B → Type 0) (bs : List B) (b : B) → AllByRecursion P bs → P b → AllByRecursion P (bs ++ b ∷ [])
+all_more P [] b h p = (p, tt)
+all_more P (c ∷ bs) b h p = (h.0, all_more P bs b h.1 p)
+
+module _ (ks : List ℕ) (cx : Context) (have : HaveBits ks cx) (outputs : List Shown) where
+  -- the outputs come first, and all items stand
+  abbrev pub OrderFine : Found → Ordered → Type 0
+  OrderFine later o = ((more : List Expr) × (o.items ≡ map s.item_of outputs ++ more)) × AllByRecursion (ExprFine ks cx have later) o.items
+
+  hidden_fine : (o : Ordered) (x : Expr) (descending : Bool) (found : Found) → Later ks OrderFine found o → Later ks (ExprFine ks cx have) found x → Later ks OrderFine found (s.with_hidden o x descending)
+  hidden_fine o x descending found h k later l =
+      let p = h later l in
+      ((p.0.0 ++ x ∷ [], ap (λ xs. xs ++ x ∷ []) p.0.1 ∙ append_all (map s.item_of outputs) p.0.0 (x ∷ [])), all_more (ExprFine ks cx have later) o.items x p.1 (k later l))
+
+  key_at_fine : (shown : ℕ) (distinct descending : Bool) (at : ℕ) (o : Ordered) (x : Expr) (i : Option ℕ) (found : Found) → Later ks OrderFine found o → Later ks (ExprFine ks cx have) found x → Kept ks OrderFine found (s.key_at shown distinct descending at o x i found)
+  key_at_fine shown distinct descending at o x None found h k = where_fit ks OrderFine found (not distinct) (error.NotGrouped at) (give (s.with_hidden o x descending)) (λ t. gives ks OrderFine found (s.with_hidden o x descending) (hidden_fine o x descending found h k))
+  key_at_fine shown distinct descending at o x (Some i) found h k = gives ks OrderFine found (s.with_key o i descending) (λ later l. h later l)
+
+  by_output_fine : (descending : Bool) (at : ℕ) (name : List ℕ) (o : Ordered) (i : ℕ) (x : Option Shown) (found : Found) → Later ks OrderFine found o → Kept ks OrderFine found (s.key_by_output descending at name outputs o i x found)
+  by_output_fine descending at name o i None found h = tt
+  by_output_fine descending at name o i (Some x) found h = where_fit ks OrderFine found (s.alike_named name outputs (s.item_of x)) (error.Ambiguous at) (give (s.with_key o i descending)) (λ t. gives ks OrderFine found (s.with_key o i descending) (λ later l. h later l))
+
+  by_expression_fine : (distinct : Bool) (p : OrderPart) (o : Ordered) (found : Found) → PartStands p.key → MayStand cx p.key.aggregates → Later ks OrderFine found o → Kept ks OrderFine found (s.order_by_expression cx outputs distinct p o found)
+  by_expression_fine distinct p o found h may g =
+      onwards ks (ValueFine ks cx have) OrderFine found (s.value_of p.key.at (reads p.key cx) found) (s.key_by_value (length outputs) distinct p.descending p.key.at o) (value_fine ks cx have p.key.at (reads p.key cx) found (h ks cx have may found)) (λ b mid l k.
+      key_at_fine (length outputs) distinct p.descending p.key.at o (expr_of b) (position (equal_exprs (expr_of b)) o.items) mid (lasts ks OrderFine found mid o l g) (λ later m. (k later m).0.expression))
+
+  by_name_fine : (distinct : Bool) (p : OrderPart) (o : Ordered) (name : List ℕ) (i : Option ℕ) (found : Found) → PartStands p.key → MayStand cx p.key.aggregates → Later ks OrderFine found o → Kept ks OrderFine found (s.order_by_name cx outputs distinct p o name i found)
+  by_name_fine distinct p o name None found h may g = by_expression_fine distinct p o found h may g
+  by_name_fine distinct p o name (Some i) found h may g = by_output_fine p.descending p.key.at name o i (slice_get outputs i) found g
+
+  by_form_fine : (distinct : Bool) (p : OrderPart) (o : Ordered) (form : Form) (found : Found) → PartStands p.key → MayStand cx p.key.aggregates → Later ks OrderFine found o → Kept ks OrderFine found (s.order_by_form cx outputs distinct p o form found)
+  by_form_fine distinct p o (title.Number n) found h may g = where_fit ks OrderFine found (nat_lt 0 n && nat_lt n (length outputs + 1)) (error.Unknown p.key.at) (give (s.with_key o (n - 1) p.descending)) (λ t. gives ks OrderFine found (s.with_key o (n - 1) p.descending) (λ later l. g later l))
+  by_form_fine distinct p o (title.Name name) found h may g = by_name_fine distinct p o name (position (s.has_title name) outputs) found h may g
+  by_form_fine distinct p o (title.Signed sign n) found h may g = by_expression_fine distinct p o found h may g
+  by_form_fine distinct p o title.Other found h may g = by_expression_fine distinct p o found h may g
+
+  abbrev pub OrderStands : OrderPart → Type 0
+  OrderStands p = PartStands p.key × MayStand cx p.key.aggregates
+
+  order_steps : (distinct : Bool) (ps : List OrderPart) (found : Found) → AllByRecursion OrderStands ps
+      → AllByRecursion (λ p. (o : Ordered) (f : Found) → Onward ks found f → Later ks OrderFine f o → Kept ks OrderFine f (s.with_order_key cx outputs distinct o p f)) ps
+  order_steps distinct [] found h = tt
+  order_steps distinct (p ∷ more) found h = (
+    (λ o f l g. where_fit ks OrderFine f (nat_lt (length o.keys) 16) (error.Limit limited.Keys 16) (s.order_by_form cx outputs distinct p o p.key.form) (λ t. by_form_fine distinct p o p.key.form f h.0.0 h.0.1 g)),
+    order_steps distinct more found h.1,
+  )
+
+  pub order_fine : (distinct : Bool) (ps : List OrderPart) (o : Ordered) (found : Found) → AllByRecursion OrderStands ps → Later ks OrderFine found o → Kept ks OrderFine found (s.order_keys cx outputs distinct ps o found)
+  order_fine distinct ps o found h g = through_all ks OrderFine (s.with_order_key cx outputs distinct) ps o found (order_steps distinct ps found h) g

@@ -1,0 +1,82 @@
+-- The columns of keys and aggregates have their bits.
+use Rattle.std.proofs.Common.{◌≡◌, ℕ, zero, suc, ◌+◌, ◌<◌, Bool, true, false, List, [], ◌∷◌, ◌++◌, map, length, get_or, refl, sym, ◌∙◌, ap, subst, arith, Option, None, Some}
+use Rattle.std.specs.Prelude.{position, slice_index_or, unwrap_or}
+use Rattle.std.specs.List.{AllByRecursion}
+use Rattle.std.proofs.lemmas.List.Quantifiers.{position-Some}
+use Rattle.cq_tree.specs.declared.expression.Expr.{Expr}
+use Rattle.cq_tree.specs.declared.query.Agg.{Agg}
+use Rattle.cq_meaning.specs.Widths.{bits, bits_of_aggregate, group_bits, IsBoundAggregate}
+use Rattle.cq_reading.specs.Widths.{is_some}
+use Rattle.std.proofs.Common.{if◌then◌else◌}
+use Rattle.cq_reading.specs.Equal.{equal_exprs, equal_aggs}
+use Rattle.cq_reading.specs.Rules.{place_among, with_aggregate}
+use Rattle.cq_reading_laws.proofs.Equals.{exprs_same, aggs_same}
+
+append_none : {A : Type 0} (xs : List A) → xs ++ [] ≡ xs
+append_none [] = refl
+append_none (x ∷ xs) = ap (λ ys. x ∷ ys) (append_none xs)
+
+mapped : {A : Type 0} (f : A → ℕ) (xs : List A) (i : ℕ) (d : A) (rest : List ℕ) → i < length xs → (i < length (map f xs ++ rest)) × (slice_index_or (map f xs ++ rest) i 0 ≡ f (get_or xs i d))
+mapped f [] i d rest h = absurd (omega (arith, h))
+mapped f (x ∷ xs) zero d rest h = (omega arith, refl)
+mapped f (x ∷ xs) (suc i) d rest h = let k = mapped f xs i d rest (omega (arith, h)) in (omega (arith, k.0), k.1)
+
+behind : {A : Type 0} (f : A → ℕ) (xs : List A) (i : ℕ) (rest : List ℕ) → i < length rest → (length xs + i < length (map f xs ++ rest)) × (slice_index_or (map f xs ++ rest) (length xs + i) 0 ≡ slice_index_or rest i 0)
+behind f [] i rest h = let e : 0 + i ≡ i = omega arith in (omega (arith, h), ap (λ j. slice_index_or rest j 0) e)
+behind f (x ∷ xs) i rest h =
+    let k = behind f xs i rest h in
+    let e : length (x ∷ xs) + i ≡ suc (length xs + i) = omega arith in
+    (omega (arith, k.0), ap (λ j. slice_index_or (f x ∷ (map f xs ++ rest)) j 0) e ∙ k.1)
+
+pub key_has_bits : (ks : List ℕ) (e : Expr) (keys : List Expr) (aggs : List Agg) (i : ℕ) → position (equal_exprs e) keys ≡ Some i
+    → (i < length (group_bits ks keys aggs)) × (slice_index_or (group_bits ks keys aggs) i 0 ≡ bits ks e)
+key_has_bits ks e keys aggs i is =
+    let p = position-Some (equal_exprs e) keys i e is in
+    let k = mapped (bits ks) keys i e (map (bits_of_aggregate ks) aggs) p.0 in
+    (k.0, k.1 ∙ ap (bits ks) (sym (exprs_same e (get_or keys i e) p.1)))
+
+-- an aggregate, at its place among those that there are then
+abbrev AtPlace : List Agg → List Agg → ℕ → Agg → Type 0
+AtPlace aggs more i a = (i < length (aggs ++ more)) × (get_or (aggs ++ more) i a ≡ a)
+
+at_left : (aggs more : List Agg) (i : ℕ) (a : Agg) → i < length aggs → get_or aggs i a ≡ a → AtPlace aggs more i a
+at_left [] more i a h e = absurd (omega (arith, h))
+at_left (x ∷ aggs) more zero a h e = (omega arith, e)
+at_left (x ∷ aggs) more (suc i) a h e = let k = at_left aggs more i a (omega (arith, h)) e in (omega (arith, k.0), k.1)
+
+at_end : (aggs more : List Agg) (a : Agg) → AtPlace (aggs ++ a ∷ []) more (length aggs) a
+at_end [] more a = (omega arith, refl)
+at_end (x ∷ aggs) more a = let k = at_end aggs more a in (omega (arith, k.0), k.1)
+
+at_place : (aggs more : List Agg) (a : Agg) (o : Option ℕ) → position (equal_aggs a) aggs ≡ o → AtPlace (if is_some o then aggs else aggs ++ a ∷ []) more (unwrap_or o (length aggs)) a
+at_place aggs more a None is = at_end aggs more a
+at_place aggs more a (Some i) is =
+    let p = position-Some (equal_aggs a) aggs i a is in
+    at_left aggs more i a p.0 (sym (aggs_same a (get_or aggs i a) p.1))
+
+pub aggregate_has_bits : (ks : List ℕ) (keys : List Expr) (aggs later more : List Agg) (a : Agg) → later ≡ with_aggregate aggs a ++ more
+    → (length keys + place_among aggs a < length (group_bits ks keys later)) × (slice_index_or (group_bits ks keys later) (length keys + place_among aggs a) 0 ≡ bits_of_aggregate ks a)
+aggregate_has_bits ks keys aggs later more a is =
+    let p = at_place aggs more a (position (equal_aggs a) aggs) refl in
+    let i = place_among aggs a in
+    let q : (i < length later) × (get_or later i a ≡ a) = subst (λ l. (i < length l) × (get_or l i a ≡ a)) (sym is) p in
+    let m = mapped (bits_of_aggregate ks) later i a [] q.0 in
+    let e = append_none (map (bits_of_aggregate ks) later) in
+    let b = behind (bits ks) keys i (map (bits_of_aggregate ks) later) (subst (λ l. i < length l) e m.0) in
+    (b.0, b.1 ∙ (ap (λ l. slice_index_or l i 0) (sym e) ∙ (m.1 ∙ ap (bits_of_aggregate ks) q.1)))
+
+-- the aggregates stay as they were, or the one comes behind them
+with_more : (aggs : List Agg) (a : Agg) (t : Bool) → (more : List Agg) × ((if t then aggs else aggs ++ a ∷ []) ≡ aggs ++ more)
+with_more aggs a true = ([], sym (append_none aggs))
+with_more aggs a false = (a ∷ [], refl)
+
+pub aggregates_go_on : (aggs : List Agg) (a : Agg) → (more : List Agg) × (with_aggregate aggs a ≡ aggs ++ more)
+aggregates_go_on aggs a = with_more aggs a (is_some (position (equal_aggs a) aggs))
+
+all_with : (ks : List ℕ) (n : ℕ) (aggs : List Agg) (a : Agg) (t : Bool) → AllByRecursion (IsBoundAggregate ks n) aggs → IsBoundAggregate ks n a → AllByRecursion (IsBoundAggregate ks n) (if t then aggs else aggs ++ a ∷ [])
+all_with ks n aggs a true h k = h
+all_with ks n [] a false h k = (k, tt)
+all_with ks n (b ∷ aggs) a false h k = (h.0, all_with ks n aggs a false h.1 k)
+
+pub aggregates_bound : (ks : List ℕ) (n : ℕ) (aggs : List Agg) (a : Agg) → AllByRecursion (IsBoundAggregate ks n) aggs → IsBoundAggregate ks n a → AllByRecursion (IsBoundAggregate ks n) (with_aggregate aggs a)
+aggregates_bound ks n aggs a h k = all_with ks n aggs a (is_some (position (equal_aggs a) aggs)) h k

@@ -1,0 +1,101 @@
+-- What a text is read as is what the engine asks for.
+use Rattle.std.proofs.Common.{◌≡◌, ◌≤◌, ℕ, List, [], length, Result, Ok, Err, refl, ap, subst}
+use Rattle.cq_grammar.specs.declared.query.Query as written
+use Rattle.cq_grammar.specs.declared.statement.Ast.{Ast}
+use Rattle.cq_grammar.specs.declared.statement.Ast.TheVariants as ast
+use Rattle.cq_tree.specs.declared.query.Query.{Query}
+use Rattle.cq_tree.specs.declared.write.ShardOp.{ShardOp}
+use Rattle.cq_tree.specs.declared.write.ShardOp.TheVariants.{Insert, Update, Remove}
+use Rattle.cq_tree.specs.declared.statement.Statement.{Statement}
+use Rattle.cq_tree.specs.declared.statement.Statement.TheVariants as statement
+use Rattle.cq_catalog.specs.declared.info.TableInfo.{TableInfo}
+use Rattle.cq_meaning.specs.declared.Columns.{Columns}
+use Rattle.cq_meaning.specs.Widths.{table_bits, IsBoundWrite}
+use Rattle.cq_reading.specs.declared.bound.Found.{Found}
+use Rattle.cq_reading.specs.declared.error.BindError.{BindError}
+use Rattle.cq_reading.specs.Steps.{follow, give}
+use Rattle.cq_reading.specs.Statements.{query_of, outcome, ctes_in, reading}
+use Rattle.cq_reading_laws.specs.WriteLaws.{TablesFit, table_of}
+use Rattle.cq_reading_laws.proofs.FineWrites.{updates_bound, deletions_bound}
+use Rattle.cq_reading_laws.proofs.FineQueries.{queries_bound}
+use Rattle.cq_written_laws.specs.Laws.{IsWritten, IsWrittenQuery}
+use Rattle.cq_written_laws.specs.TextLaws.{Spells, result_count_in, result_count, TextWritesBound, IsBoundWhole, TextQueriesBound, TextsExplainedBound}
+use Rattle.cq_written_laws.proofs.Statements.{texts_written}
+use Rattle.cq_written_laws.proofs.Endings.{IsInsert, IsKindOf, kind_of}
+
+spelled_written : (text : List ℕ) (a : Ast) → Spells text a → IsWritten a
+spelled_written text a s = texts_written text s.words a s.cut s.accepted
+
+module _ (cs : Columns) (tables : List TableInfo) (fit : TablesFit cs tables) where
+  -- ---- writes
+
+  insert_bound : (op : ShardOp) → IsInsert op → IsBoundWrite (table_bits cs.tables (table_of op)) op
+  insert_bound (Insert table rows) h = tt
+  insert_bound (Update table filter_ sets) h = absurd h
+  insert_bound (Remove table filter_) h = absurd h
+
+  write_bound : (a : Ast) (op : ShardOp) → IsWritten a → IsKindOf a (statement.Write op) → reading tables a ≡ Ok (statement.Write op) → IsBoundWrite (table_bits cs.tables (table_of op)) op
+  write_bound (ast.Create name columns key at) op w k is = insert_bound op k
+  write_bound (ast.Insert table columns rows at) op w k is = insert_bound op k
+  write_bound (ast.Update table sets filter at) op w k is = updates_bound cs tables table sets filter at op fit w.0 w.1 is
+  write_bound (ast.Delete table filter at) op w k is = deletions_bound cs tables table filter at op fit w is
+  write_bound (ast.Copy table columns spelled opts at) op w k is = insert_bound op k
+  write_bound (ast.Set space name spelled v at) op w k is = insert_bound op k
+  write_bound (ast.Explain q at) op w k is = absurd k
+  write_bound (ast.Call function arguments at) op w k is = insert_bound op k
+  write_bound (ast.Query q) op w k is = absurd k
+
+  -- ---- queries
+
+  abbrev Asked : Result (Query × Found) BindError → (Query → Statement) → Query → Type 0
+  Asked o make q = (new : Found) × (o ≡ Ok (q, new)) × (result_count_in (follow o (λ bound. give (make bound))) ≡ new.results)
+
+  asked : (make : Query → Statement) → ((p q : Query) → make p ≡ make q → p ≡ q) → (o : Result (Query × Found) BindError) (q : Query) → outcome (follow o (λ bound. give (make bound))) ≡ Ok (make q) → Asked o make q
+  asked make same (Ok p) q is = let e : make p.0 ≡ make q = cc is in (p.1, ap (λ (b : Query). Ok (b, p.1)) (same p.0 q e), refl)
+  asked make same (Err e) q is = absurd (cc is)
+
+  of_asked : (make : Query → Statement) (x : written.Query) (found : Found) (q : Query) → IsWrittenQuery x → Asked (query_of tables x found) make q
+      → IsBoundWhole cs (result_count_in (follow (query_of tables x found) (λ bound. give (make bound)))) q
+  of_asked make x found q w h have few = queries_bound cs tables x found h.0 q fit w.0 w.1 h.1 have (subst (λ n. n ≤ length cs.results) h.2 few)
+
+  same_select : (p q : Query) → statement.Select p ≡ statement.Select q → p ≡ q
+  same_select p q e = cc e
+
+  same_explain : (p q : Query) → statement.Explain p ≡ statement.Explain q → p ≡ q
+  same_explain p q e = cc e
+
+  start : Ast → Found
+  start a = record { results = ctes_in a; blocks = 0; subs = []; aggs = [] }
+
+  select_bound : (a : Ast) (q : Query) → IsWritten a → IsKindOf a (statement.Select q) → reading tables a ≡ Ok (statement.Select q) → IsBoundWhole cs (result_count tables a) q
+  unfolding start
+  select_bound (ast.Query x) q w k is = let found = start (ast.Query x) in of_asked statement.Select x found q w (asked statement.Select same_select (query_of tables x found) q is)
+  select_bound (ast.Create name columns key at) q w k is = absurd k
+  select_bound (ast.Insert table columns rows at) q w k is = absurd k
+  select_bound (ast.Update table sets filter at) q w k is = absurd k
+  select_bound (ast.Delete table filter at) q w k is = absurd k
+  select_bound (ast.Copy table columns spelled opts at) q w k is = absurd k
+  select_bound (ast.Set space name spelled v at) q w k is = absurd k
+  select_bound (ast.Explain x at) q w k is = absurd k
+  select_bound (ast.Call function arguments at) q w k is = absurd k
+
+  explained_bound : (a : Ast) (q : Query) → IsWritten a → IsKindOf a (statement.Explain q) → reading tables a ≡ Ok (statement.Explain q) → IsBoundWhole cs (result_count tables a) q
+  unfolding start
+  explained_bound (ast.Explain x at) q w k is = let found = start (ast.Explain x at) in of_asked statement.Explain x found q w (asked statement.Explain same_explain (query_of tables x found) q is)
+  explained_bound (ast.Create name columns key at) q w k is = absurd k
+  explained_bound (ast.Insert table columns rows at) q w k is = absurd k
+  explained_bound (ast.Update table sets filter at) q w k is = absurd k
+  explained_bound (ast.Delete table filter at) q w k is = absurd k
+  explained_bound (ast.Copy table columns spelled opts at) q w k is = absurd k
+  explained_bound (ast.Set space name spelled v at) q w k is = absurd k
+  explained_bound (ast.Query x) q w k is = absurd k
+  explained_bound (ast.Call function arguments at) q w k is = absurd k
+
+pub text_writes_bound : TextWritesBound
+text_writes_bound cs tables text a op s fit is = write_bound cs tables fit a op (spelled_written text a s) (kind_of tables a (statement.Write op) is) is
+
+pub text_queries_bound : TextQueriesBound
+text_queries_bound cs tables text a q s fit is = select_bound cs tables fit a q (spelled_written text a s) (kind_of tables a (statement.Select q) is) is
+
+pub texts_explained_bound : TextsExplainedBound
+texts_explained_bound cs tables text a q s fit is = explained_bound cs tables fit a q (spelled_written text a s) (kind_of tables a (statement.Explain q) is) is
