@@ -30,7 +30,7 @@ fi
 
 [ "$(cat HANDLES)" = 'Handles allowed: Threads, Wait.' ] || fail 'HANDLES has another line'
 
-expect_run examples/first_path.out 0
+expect_run examples/tenants.out 0
 echo 'FATAL usage' >"$work/usage"
 expect_run "$work/usage" 1 word
 

@@ -16,7 +16,7 @@ use std::{env, io};
 const NODES: u32 = 2;
 
 /// The number of stores of each node.
-const STORES: u32 = 128;
+const STORES: u32 = 2048;
 
 /// The words after the program's name. Where they cannot be read they count as one empty word, which `run` refuses.
 fn words_of(alloc: Global, args: io::Result<env::Args>) -> Result<Vec<String>, AllocError> {

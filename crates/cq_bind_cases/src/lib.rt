@@ -5,3 +5,7 @@
 mod looks;
 #[cfg(test)]
 mod names;
+#[cfg(test)]
+mod statements;
+#[cfg(test)]
+mod tables;

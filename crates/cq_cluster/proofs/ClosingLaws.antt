@@ -1,200 +1,165 @@
--- The shards that stand last in the workers' lists, as group after group hands its store back.
-use Rattle.std.proofs.Common.{◌≡◌, ◌≢◌, inl, inr, ℕ, suc, ◌+◌, ◌-◌, ◌%◌, ◌<◌, true, false, cond, nat_eq, List, [], ◌∷◌, ◌++◌, length, get_or, map, refl, sym, ap, subst, ◌∙◌, arith, Some, slice_get, length-set, length-append, eq-eqb, append_assoc, append-nil}
+-- The workers' lists, as group after group is closed and hands its stores back.
+use Rattle.std.proofs.Common.{◌≡◌, ◌≢◌, ◌⊎◌, inl, inr, ℕ, ◌+◌, ◌-◌, ◌<◌, ◌≤◌, Bool, true, false, cond, List, [], ◌∷◌, ◌++◌, length, get_or, map, refl, sym, ap, subst, ◌∙◌, arith, Some, slice_get, length-set, length-append, append_assoc, append-nil}
+use Rattle.std.specs.Prelude.{nat_eq}
 use Rattle.std.proofs.Math.ListN.{set}
-use Rattle.std.proofs.lemmas.Bool.{ne_eqb}
-use Rattle.std.proofs.lemmas.List.{map-append, length-map}
-use Rattle.std.proofs.lemmas.List.Elements.{recursion_from_All, All-weaker}
-use Rattle.cq_value.specs.declared.schema.Shape.{Shape}
-use Rattle.cq_point.specs.declared.journal.Entry.{Entry}
-use Rattle.cq_point.specs.declared.journal.Journal.{Journal}
-use Rattle.cq_store.specs.Stores.{StoreState, IsSpare}
+use Rattle.std.proofs.lemmas.Bool.Decides.{eqb_tells}
+use Rattle.std.proofs.lemmas.List.{map-append}
+use Rattle.cq_journal.specs.declared.journal.Journal.{Journal}
+use Rattle.cq_store.specs.Stores.{StoreState}
 use Rattle.cq_store.specs.Workers.{room}
 use Rattle.cq_store.specs.declared.worker.Worker.{Worker}
+use Rattle.cq_history.specs.Room.{nodes}
 use Rattle.cq_group.specs.declared.group.GroupState.{GroupState}
-use Rattle.cq_group.specs.Groups.{entries_of, stores_of}
-use Rattle.cq_cluster.specs.Cluster.{nodes, node_of, IsWaiting, AreWorkers, IsGroupAt, AreGroups}
-use Rattle.cq_cluster.specs.Ending.{journals_on, AreShards, IsFinal, AreJournals}
-use Rattle.cq_cluster.specs.Moving.{AreGroupsFrom, HaveRoom, HasBack, HaveBack}
-use Rattle.cq_cluster.proofs.ListLaws.{got_after, got_other, got_more, item_at, there}
-use Rattle.cq_cluster.proofs.GroupLaws.{store_of_group, groups_first, groups_next}
+use Rattle.cq_group.specs.Groups.{stores_of}
+use Rattle.cq_cluster.specs.Cluster.{held}
+use Rattle.cq_cluster.specs.Closing.{stores_on, IsUsed, AreUsed, HaveRoom, HasBack, HaveBack}
+use Rattle.cq_cluster.proofs.ListLaws.{got_after, got_other, item_at, there}
 
--- a node's journals, with one more journal last: of a group on the node, and of one on another node
-journals_more : (node from : ℕ) (js : List (List Entry)) (es : List Entry) → node_of (from + length js) ≡ node
-    → journals_on node from (js ++ es ∷ []) ≡ journals_on node from js ++ (from + length js, es) ∷ []
-journals_more node from [] es e =
-    let here : from + 0 ≡ from = omega arith in
-    rw (eq-eqb (node_of from) node (ap node_of (sym here) ∙ e), here) refl
-journals_more node from (j ∷ js) es e =
-    let shift : from + 1 + length js ≡ from + suc (length js) = omega arith in
-    let more : journals_on node (from + 1) (js ++ es ∷ []) ≡ journals_on node (from + 1) js ++ (from + suc (length js), es) ∷ [] =
-    journals_more node (from + 1) js es (ap node_of shift ∙ e) ∙ ap (λ m. journals_on node (from + 1) js ++ (m, es) ∷ []) shift in
-    rw more (elim (nat_eq (node_of from) node) as (λ b. cond b ((from, j) ∷ journals_on node (from + 1) js ++ (from + suc (length js), es) ∷ []) (journals_on node (from + 1) js ++ (from + suc (length js), es) ∷ [])
-    ≡ cond b ((from, j) ∷ journals_on node (from + 1) js) (journals_on node (from + 1) js) ++ (from + suc (length js), es) ∷ []) [ true ↦ refl | false ↦ refl ])
+module _ {X : Type 0} where
+  -- ---- the stores of groups, with one group more
 
-journals_other : (node from : ℕ) (js : List (List Entry)) (es : List Entry) → node_of (from + length js) ≢ node
-    → journals_on node from (js ++ es ∷ []) ≡ journals_on node from js
-journals_other node from [] es n = let here : from + 0 ≡ from = omega arith in rw (ne_eqb (node_of from) node (λ e. n (ap node_of here ∙ e))) refl
-journals_other node from (j ∷ js) es n =
-    let shift : from + 1 + length js ≡ from + suc (length js) = omega arith in
-    rw (journals_other node (from + 1) js es (λ e. n (ap node_of (sym shift) ∙ e))) refl
+  stores_more : (place : ℕ) (gs : List (GroupState X)) (g : GroupState X) → stores_on place (gs ++ g ∷ []) ≡ stores_on place gs ++ cond (nat_eq g.node (place + 1)) (stores_of g) []
+  stores_more place [] g = append-nil (cond (nat_eq g.node (place + 1)) (stores_of g) [])
+  stores_more place (f ∷ fs) g =
+      let own : List X = cond (nat_eq f.node (place + 1)) (stores_of f) [] in
+      let last : List X = cond (nat_eq g.node (place + 1)) (stores_of g) [] in
+      ap (λ (v : List X). own ++ v) (stores_more place fs g) ∙ sym (append_assoc own (stores_on place fs) last)
 
-shards_append : (shape : Shape) (js ks : List (ℕ × List Entry)) (xs ys : List StoreState) → AreShards shape js xs → AreShards shape ks ys → AreShards shape (js ++ ks) (xs ++ ys)
-shards_append shape [] ks [] ys p q = q
-shards_append shape [] ks (x ∷ xs) ys p q = absurd p
-shards_append shape (j ∷ js) ks [] ys p q = absurd p
-shards_append shape (j ∷ js) ks (x ∷ xs) ys p q = (p.0, shards_append shape js ks xs ys p.1 q)
+  held_both : (place : ℕ) (gs hs : List (GroupState X)) → held place (gs ++ hs) ≡ held place gs + held place hs
+  held_both place [] hs = omega arith
+  held_both place (f ∷ fs) hs = let further = held_both place fs hs in omega (arith, further)
 
--- before a group hands its store back
-pub back_none : {X : Type 0} (state : X → StoreState) (shape : Shape) (workers : List (Worker X)) → HaveBack state shape [] workers workers
-back_none state shape workers = record {
-  same_length = refl;
-  used = λ place v w h s t. let e : w ≡ v = cc in record {
-    node = rw e refl;
-    total = rw e (omega arith);
-    room = rw e (omega arith);
-    stores = ([], rw (e, append-nil) refl, tt);
-  };
-  unused = λ place h. refl;
-}
+  length_own : (b : Bool) (xs : List X) → length (cond b xs []) ≡ cond b (length xs) 0
+  length_own true xs = refl
+  length_own false xs = refl
 
--- a group hands its store back to this worker
-back_here : {X : Type 0} (state : X → StoreState) (shape : Shape) (js : List (List Entry)) (place : ℕ) (first old new : Worker X) (g : GroupState X)
-    → place ≡ length js % 2 → IsGroupAt state shape (length js) g
-    → new.node ≡ old.node → new.stores.items ≡ old.stores.items ++ stores_of g → room new.stores + 1 ≡ room old.stores
-    → HasBack state shape js place first old → HasBack state shape (js ++ entries_of g ∷ []) place first new
-back_here {X} state shape js place first old new g e at node stores less back =
-    let longer = length-append js (entries_of g ∷ []) in
-    let store = store_of_group state shape (length js) g at in
-    let put : new.stores.items ≡ old.stores.items ++ store.0 ∷ [] = stores ∙ ap (λ (xs : List X). old.stores.items ++ xs) store.1 in
-    let count = ap length put ∙ length-append old.stores.items (store.0 ∷ []) in
-    let named = journals_more (place + 1) 0 js (entries_of g) (omega (arith, e)) in
-    let shards : AreShards shape (journals_on (place + 1) 0 js ++ (length js, entries_of g) ∷ []) (map state back.stores.0 ++ state store.0 ∷ []) =
-    shards_append shape (journals_on (place + 1) 0 js) ((length js, entries_of g) ∷ []) (map state back.stores.0) (state store.0 ∷ []) back.stores.2 (store.2, tt) in
-    let same : 0 + length js ≡ length js = omega arith in
-    record {
-      node = node ∙ back.node;
-      total = omega (arith, e, longer, count, back.total);
-      room = omega (arith, e, longer, less, back.room);
-      stores = (
-        back.stores.0 ++ store.0 ∷ [],
-        put ∙ ap (λ (xs : List X). xs ++ store.0 ∷ []) back.stores.1 ∙ append_assoc first.stores.items back.stores.0 (store.0 ∷ []),
-        rw (named, same, map-append state back.stores.0 (store.0 ∷ [])) shards,
-      );
-    }
+  pub stores_count : (place : ℕ) (gs : List (GroupState X)) → length (stores_on place gs) ≡ held place gs
+  stores_count place [] = refl
+  stores_count place (g ∷ gs) =
+      let b = nat_eq g.node (place + 1) in
+      let both = length-append (cond b (stores_of g) []) (stores_on place gs) in
+      both ∙ ap (λ n. n + length (stores_on place gs)) (length_own b (stores_of g)) ∙ ap (λ n. cond b (length (stores_of g)) 0 + n) (stores_count place gs)
 
--- a group hands its store back to the other worker
-back_elsewhere : {X : Type 0} (state : X → StoreState) (shape : Shape) (js : List (List Entry)) (es : List Entry) (place : ℕ) (first w : Worker X)
-    → place < nodes → place ≢ length js % 2 → HasBack state shape js place first w → HasBack state shape (js ++ es ∷ []) place first w
-back_elsewhere {X} state shape js es place first w h n back =
-    let longer = length-append js (es ∷ []) in record {
-      node = back.node;
-      total = omega (arith, longer, back.total, n);
-      room = omega (arith, longer, back.room, n);
-      stores = (back.stores.0, back.stores.1, rw (journals_other (place + 1) 0 js es (λ e. n (omega (arith, e)))) back.stores.2);
-    }
+  -- ---- the workers
 
--- one more group hands its store back to its worker
-pub back_more : {X : Type 0} (state : X → StoreState) (shape : Shape) (js : List (List Entry)) (first workers : List (Worker X)) (place : ℕ) (old new : Worker X) (g : GroupState X)
-    → place ≡ length js % 2 → slice_get workers place ≡ Some old → IsGroupAt state shape (length js) g
-    → new.node ≡ old.node → new.stores.items ≡ old.stores.items ++ stores_of g → room new.stores + 1 ≡ room old.stores
-    → HaveBack state shape js first workers → HaveBack state shape (js ++ entries_of g ∷ []) first (set workers place new)
-back_more {X} state shape js first workers place old new g e s at node stores less back = record {
-  same_length = length-set workers place new ∙ back.same_length;
-  used = λ k v w h t u. elim (got_after workers place new k w u) [
-    | inl p ↦
-        let here = back_here state shape js place v old new g e at node stores less
-        (back.used place v old (omega (arith, e)) (subst (λ (m : ℕ). slice_get first m ≡ Some v) p.0 t) s) in
-        subst (λ (x : Worker X). HasBack state shape (js ++ entries_of g ∷ []) k v x) (sym p.1)
-        (subst (λ (m : ℕ). HasBack state shape (js ++ entries_of g ∷ []) m v new) (sym p.0) here)
-    | inr q ↦ back_elsewhere state shape js (entries_of g) k v w h (λ d. q.0 (d ∙ sym e)) (back.used k v w h t q.1)
-  ];
-  unused = λ k h. got_other workers place new k (λ d. absurd (omega (arith, d, h, e))) ∙ back.unused k h;
-}
+  -- before the first group
+  pub back_none : (workers : List (Worker X)) → HaveBack [] workers workers
+  back_none workers = record {
+    same_length = refl;
+    used = λ place v w h s t.
+        let same : w ≡ v = some_is (sym t ∙ s) in
+        record {
+          node = ap (λ (x : Worker X). x.node) same;
+          stores = ap (λ (x : Worker X). x.stores.items) same ∙ sym (append-nil v.stores.items);
+          room = (let less = ap (λ (x : Worker X). room x.stores) same in omega (arith, less));
+        };
+    unused = λ place h. refl;
+  }
+    where
+      some_is : {a b : Worker X} → Some a ≡ Some b → a ≡ b
+      some_is e = cc
 
--- after all groups handed their stores back
-pub back_all : {X : Type 0} (state : X → StoreState) (shape : Shape) (js : List (List Entry)) (entry first workers : List (Worker X))
-    → AreWorkers state entry (length js) first → HaveBack state shape js first workers → IsFinal state entry shape js workers
-back_all {X} state shape js entry first workers now back = record {
-  same_length = back.same_length ∙ now.same_length;
-  used = λ k w h s.
-      let before = there first workers k w w back.same_length s in
-      let was = now.used k (get_or first k w) h before in
-      let is = back.used k (get_or first k w) w h before s in
+  -- a group of this node
+  back_here : (closed : List (GroupState X)) (place : ℕ) (first old new : Worker X) (g : GroupState X) → g.node ≡ place + 1 → new.node ≡ old.node → new.stores.items ≡ old.stores.items ++ stores_of g →
+      room new.stores + length (stores_of g) ≡ room old.stores → HasBack closed place first old → HasBack (closed ++ g ∷ []) place first new
+  back_here closed place first old new g at node stores less back =
+      let here : nat_eq g.node (place + 1) ≡ true = told (eqb_tells g.node (place + 1)) in
+      let own : cond (nat_eq g.node (place + 1)) (stores_of g) [] ≡ stores_of g = ap (λ b. cond b (stores_of g) []) here in
+      let count : cond (nat_eq g.node (place + 1)) (length (stores_of g)) 0 ≡ length (stores_of g) = ap (λ b. cond b (length (stores_of g)) 0) here in
       record {
-        node = is.node ∙ was.node;
-        total = is.total ∙ was.total;
-        stores = ((get_or first k w).stores.items, is.stores.0, is.stores.1, recursion_from_All (λ (x : X). IsSpare (state x)) _ (All-weaker (λ (x : X). IsWaiting (k + 1) (state x)) (λ (x : X). IsSpare (state x)) (λ x wait. wait.spare) _ was.stores), is.stores.2);
-      };
-  unused = λ k h. back.unused k h ∙ now.unused k h;
-}
+        node = node ∙ back.node;
+        stores = stores ∙ ap (λ (v : List X). v ++ stores_of g) back.stores ∙ append_assoc first.stores.items (stores_on place closed) (stores_of g)
+            ∙ ap (λ (v : List X). first.stores.items ++ (stores_on place closed ++ v)) (sym own) ∙ ap (λ (v : List X). first.stores.items ++ v) (sym (stores_more place closed g));
+        room = (let was = back.room in let both = held_both place closed (g ∷ []) in omega (arith, less, was, both, count));
+      }
+    where
+      told : ((nat_eq g.node (place + 1) ≡ true) × (g.node ≡ place + 1)) ⊎ ((nat_eq g.node (place + 1) ≡ false) × (g.node ≢ place + 1)) → nat_eq g.node (place + 1) ≡ true
+      told (inl p) = p.0
+      told (inr p) = absurd (p.1 at)
 
--- the journals of groups in order
-pub journals_numbered : (js : List Journal) (n : ℕ) (j : Journal) → AreJournals js → n ≡ length js → j.group ≡ n → j.opening ≡ node_of n → AreJournals (js ++ j ∷ [])
-journals_numbered js n j all e number opening k i s = elim (got_more js j k i s) [
-  | inl p ↦ let is : k ≡ n = p.0 ∙ sym e in (ap (λ (x : Journal). x.group) p.1 ∙ number ∙ sym is, ap (λ (x : Journal). x.opening) p.1 ∙ opening ∙ ap node_of (sym is))
-  | inr q ↦ all k i q
-]
+  -- a group of another node
+  back_elsewhere : (closed : List (GroupState X)) (place : ℕ) (first w : Worker X) (g : GroupState X) → g.node ≢ place + 1 → HasBack closed place first w → HasBack (closed ++ g ∷ []) place first w
+  back_elsewhere closed place first w g apart back =
+      let other : nat_eq g.node (place + 1) ≡ false = told (eqb_tells g.node (place + 1)) in
+      let own : cond (nat_eq g.node (place + 1)) (stores_of g) [] ≡ [] = ap (λ b. cond b (stores_of g) []) other in
+      let count : cond (nat_eq g.node (place + 1)) (length (stores_of g)) 0 ≡ 0 = ap (λ b. cond b (length (stores_of g)) 0) other in
+      record {
+        node = back.node;
+        stores = back.stores ∙ ap (λ (v : List X). first.stores.items ++ v) (sym (stores_more place closed g ∙ ap (λ (v : List X). stores_on place closed ++ v) own ∙ append-nil (stores_on place closed)));
+        room = (let was = back.room in let both = held_both place closed (g ∷ []) in omega (arith, was, both, count));
+      }
+    where
+      told : ((nat_eq g.node (place + 1) ≡ true) × (g.node ≡ place + 1)) ⊎ ((nat_eq g.node (place + 1) ≡ false) × (g.node ≢ place + 1)) → nat_eq g.node (place + 1) ≡ false
+      told (inl p) = absurd (apart p.1)
+      told (inr p) = p.0
 
--- the next group's worker is there, on the group's node, with room for its store
-pub still_open : {X : Type 0} (state : X → StoreState) (shape : Shape) (js : List (List Entry)) (first workers : List (Worker X)) (count : ℕ)
-    → HaveRoom count first → HaveBack state shape js first workers → length js < count
-    → (w : Worker X) × (slice_get workers (length js % 2) ≡ Some w) × (w.node ≡ node_of (length js)) × (0 < room w.stores)
-still_open state shape js first workers count ready back h =
-    let place = length js % 2 in
-    let here = item_at first place (let both = ready.both in omega (arith, both)) in
-    let now = there workers first place here.0 here.0 (sym back.same_length) here.1 in
-    let welcome = ready.used place here.0 (omega arith) here.1 in
-    let is = back.used place here.0 _ (omega arith) here.1 now in
-    (_, now, is.node ∙ welcome.node, omega (arith, is.room, welcome.room, h))
+  -- one group more hands its stores back to its node's worker
+  pub back_more : (closed : List (GroupState X)) (first workers : List (Worker X)) (place : ℕ) (old new : Worker X) (g : GroupState X) → g.node ≡ place + 1 → place < nodes → slice_get workers place ≡ Some old →
+      new.node ≡ old.node → new.stores.items ≡ old.stores.items ++ stores_of g → room new.stores + length (stores_of g) ≡ room old.stores → HaveBack closed first workers → HaveBack (closed ++ g ∷ []) first (set workers place new)
+  back_more closed first workers place old new g at used s node stores less back = record {
+    same_length = length-set workers place new ∙ back.same_length;
+    used = λ k v w h t u. elim (got_after workers place new k w u) [
+      | inl p ↦
+          let before : slice_get first place ≡ Some v = subst (λ (m : ℕ). slice_get first m ≡ Some v) p.0 t in
+          let here = back_here closed place v old new g at node stores less (back.used place v old used before s) in
+          subst (λ (x : Worker X). HasBack (closed ++ g ∷ []) k v x) (sym p.1) (subst (λ (m : ℕ). HasBack (closed ++ g ∷ []) m v new) (sym p.0) here)
+      | inr q ↦ back_elsewhere closed k v w g (λ d. q.0 (omega (arith, d, at))) (back.used k v w h t q.1)
+    ];
+    unused = λ k h. got_other workers place new k (λ d. absurd (omega (arith, d, h, used))) ∙ back.unused k h;
+  }
 
--- the journals' entries, with one more journal
-pub entries_more : (js more : List Journal) (j : Journal) (es : List Entry) → more ≡ js ++ j ∷ [] → j.entries.list ≡ es
-    → map (λ (i : Journal). i.entries.list) more ≡ map (λ (i : Journal). i.entries.list) js ++ es ∷ []
-entries_more js more j es e is =
-    let f : Journal → List Entry = λ i. i.entries.list in
-    ap (λ (v : List Journal). map f v) e ∙ map-append f js (j ∷ []) ∙ ap (λ (v : List Entry). map f js ++ v ∷ []) is
+  -- ---- the groups that are still to be closed
 
--- of all groups these are closed, with their journals, and the rest is still to be closed
-pub record Closes {X : Type 0} (state : X → StoreState) (all : List (GroupState X)) (first : List (Worker X)) (done : List (List Entry)) (rest : List (GroupState X)) (workers : List (Worker X)) : Type 0 where
-  pub entries : done ++ map entries_of rest ≡ map entries_of all
-  pub groups : (shape : Shape) → AreGroups state shape all → AreGroupsFrom state shape (length done) rest
-  pub back : (shape : Shape) → AreGroups state shape all → HaveBack state shape done first workers
+  -- of these groups the first ones are closed, with their journals
+  pub record Closes (all : List (GroupState X)) (first : List (Worker X)) (rest : List (GroupState X)) (journals : List Journal) (workers : List (Worker X)) : Type 0 where
+    pub closed : List (GroupState X)
+    pub all_groups : closed ++ rest ≡ all
+    pub listed : journals ≡ map (λ (g : GroupState X). g.journal) closed
+    pub back : HaveBack closed first workers
 
-pub closes_none : {X : Type 0} (state : X → StoreState) (all : List (GroupState X)) (workers : List (Worker X)) → Closes state all workers [] all workers
-closes_none state all workers = record {
-  entries = refl;
-  groups = λ shape at. groups_first state shape all at;
-  back = λ shape at. back_none state shape workers;
-}
+  pub closes_none : (all : List (GroupState X)) (journals : List Journal) (workers : List (Worker X)) → journals ≡ [] → Closes all workers all journals workers
+  closes_none all journals workers none = record { closed = []; all_groups = refl; listed = none; back = back_none workers }
 
-pub closes_at : {X : Type 0} (state : X → StoreState) (all rest : List (GroupState X)) (first workers : List (Worker X)) (done : List (List Entry)) (g : GroupState X) (shape : Shape)
-    → Closes state all first done (g ∷ rest) workers → AreGroups state shape all → IsGroupAt state shape (length done) g
-closes_at state all rest first workers done g shape closes at = (groups_next state shape (length done) g rest (closes.groups shape at)).0
+  pub closes_more : (all rest : List (GroupState X)) (first workers more : List (Worker X)) (journals next : List Journal) (g : GroupState X) (j : Journal) → Closes all first (g ∷ rest) journals workers →
+      next ≡ journals ++ j ∷ [] → j ≡ g.journal → ((closed : List (GroupState X)) (before : List (Worker X)) → HaveBack closed before workers → HaveBack (closed ++ g ∷ []) before more) → Closes all first rest next more
+  closes_more all rest first workers more journals next g j closes put is step = record {
+    closed = closes.closed ++ g ∷ [];
+    all_groups = append_assoc closes.closed (g ∷ []) rest ∙ closes.all_groups;
+    listed = put ∙ ap (λ (k : Journal). journals ++ k ∷ []) is ∙ ap (λ (v : List Journal). v ++ g.journal ∷ []) closes.listed ∙ sym (map-append (λ (h : GroupState X). h.journal) closes.closed (g ∷ []));
+    back = step closes.closed first closes.back;
+  }
 
-pub closes_worker : {X : Type 0} (state : X → StoreState) (all rest : List (GroupState X)) (first workers : List (Worker X)) (done : List (List Entry)) (g : GroupState X) (shape : Shape)
-    → Closes state all first done (g ∷ rest) workers → AreGroups state shape all → HaveRoom (length all) first
-    → (w : Worker X) × (slice_get workers (g.node - 1) ≡ Some w) × (w.node ≡ g.node) × (0 < room w.stores)
-closes_worker {X} state all rest first workers done g shape closes at ready =
-    let here = closes_at state all rest first workers done g shape closes at in
-    let count = sym (length-append done (map entries_of (g ∷ rest))) ∙ ap length closes.entries ∙ length-map all entries_of in
-    let worker = still_open state shape done first workers (length all) ready (closes.back shape at) (omega (arith, count)) in
-    let place : length done % 2 ≡ g.node - 1 = omega (arith, here.node) in
-    (worker.0, subst (λ (m : ℕ). slice_get workers m ≡ Some worker.0) place worker.1, worker.2 ∙ sym here.node, worker.3)
+  pub closes_all : (all : List (GroupState X)) (first workers : List (Worker X)) (journals : List Journal) → Closes all first [] journals workers → (journals ≡ map (λ (g : GroupState X). g.journal) all) × HaveBack all first workers
+  closes_all all first workers journals closes =
+      let same : closes.closed ≡ all = sym (append-nil closes.closed) ∙ closes.all_groups in
+      (closes.listed ∙ ap (λ (gs : List (GroupState X)). map (λ (g : GroupState X). g.journal) gs) same, subst (λ (gs : List (GroupState X)). HaveBack gs first workers) same closes.back)
 
-pub closes_more : {X : Type 0} (state : X → StoreState) (all rest : List (GroupState X)) (first workers more : List (Worker X)) (done : List (List Entry)) (g : GroupState X)
-    → Closes state all first done (g ∷ rest) workers
-    → ((shape : Shape) → IsGroupAt state shape (length done) g → HaveBack state shape done first workers → HaveBack state shape (done ++ entries_of g ∷ []) first more)
-    → Closes state all first (done ++ entries_of g ∷ []) rest more
-closes_more {X} state all rest first workers more done g closes step = record {
-  entries = append_assoc done (entries_of g ∷ []) (map entries_of rest) ∙ closes.entries;
-  groups = λ shape at. subst (λ (m : ℕ). AreGroupsFrom state shape m rest) (sym (length-append done (entries_of g ∷ []))) (groups_next state shape (length done) g rest (closes.groups shape at)).1;
-  back = λ shape at. step shape (closes_at state all rest first workers done g shape closes at) (closes.back shape at);
-}
+  module _ (state : X → StoreState) where
+    used_last : (closed rest : List (GroupState X)) (g : GroupState X) → AreUsed state (closed ++ g ∷ rest) → IsUsed state g
+    used_last [] rest g all = all.0
+    used_last (f ∷ fs) rest g all = used_last fs rest g all.1
 
-pub closes_all : {X : Type 0} (state : X → StoreState) (all : List (GroupState X)) (entry first workers : List (Worker X)) (done : List (List Entry)) (shape : Shape)
-    → Closes state all first done [] workers → AreGroups state shape all → AreWorkers state entry (length all) first → IsFinal state entry shape (map entries_of all) workers
-closes_all {X} state all entry first workers done shape closes at now =
-    let same : done ≡ map entries_of all = sym (append-nil done) ∙ closes.entries in
-    let count : length all ≡ length done = sym (ap length same ∙ length-map all entries_of) in
-    let final = back_all state shape done entry first workers (subst (λ (m : ℕ). AreWorkers state entry m first) count now) (closes.back shape at) in
-    subst (λ (js : List (List Entry)). IsFinal state entry shape js workers) same final
+    -- the next group can be closed, and its node's worker has room for its stores
+    pub closes_group : (all rest : List (GroupState X)) (first workers : List (Worker X)) (journals : List Journal) (g : GroupState X) → Closes all first (g ∷ rest) journals workers → AreUsed state all → IsUsed state g
+    closes_group all rest first workers journals g closes used = used_last closes.closed rest g (subst (λ (gs : List (GroupState X)). AreUsed state gs) (sym closes.all_groups) used)
+
+    pub closes_worker : (all rest : List (GroupState X)) (first workers : List (Worker X)) (journals : List Journal) (g : GroupState X) → Closes all first (g ∷ rest) journals workers → AreUsed state all → HaveRoom all first →
+        (w : Worker X) × (slice_get workers (g.node - 1) ≡ Some w) × (w.node ≡ g.node) × (length (stores_of g) ≤ room w.stores)
+    closes_worker all rest first workers journals g closes used ready =
+        let here = closes_group all rest first workers journals g closes used in
+        let place = g.node - 1 in
+        let low : place < nodes = omega (arith, here.some_node, here.few_nodes) in
+        let old = item_at first place (let both = ready.both in omega (arith, low, both)) in
+        let now = there workers first place old.0 old.0 (sym closes.back.same_length) old.1 in
+        let welcome = ready.used place old.0 low old.1 in
+        let is = closes.back.used place old.0 (get_or workers place old.0) low old.1 now in
+        let at : place + 1 ≡ g.node = omega (arith, here.some_node) in
+        let own : nat_eq g.node (place + 1) ≡ true = told (eqb_tells g.node (place + 1)) (sym at) in
+        let count : cond (nat_eq g.node (place + 1)) (length (stores_of g)) 0 ≡ length (stores_of g) = ap (λ b. cond b (length (stores_of g)) 0) own in
+        let parts = ap (λ (gs : List (GroupState X)). held place gs) closes.all_groups in
+        let both = held_both place closes.closed (g ∷ rest) in
+        (get_or workers place old.0, now, is.node ∙ welcome.node ∙ at, omega (arith, is.room, welcome.room, parts, both, count))
+      where
+        told : {m n : ℕ} → ((nat_eq m n ≡ true) × (m ≡ n)) ⊎ ((nat_eq m n ≡ false) × (m ≢ n)) → m ≡ n → nat_eq m n ≡ true
+        told (inl p) e = p.0
+        told (inr p) e = absurd (p.1 e)

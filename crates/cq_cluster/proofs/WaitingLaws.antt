@@ -6,7 +6,7 @@ use Rattle.std.proofs.lemmas.List.Elements.{All-head, All-tail, All-nil, All-con
 use Rattle.cq_store.specs.Stores.{StoreState, Becomes}
 use Rattle.cq_store.specs.Workers.{spares, taken, kept}
 use Rattle.cq_cluster.specs.Cluster.{IsWaiting}
-use Rattle.cq_cluster.specs.Moving.{IsAdopted}
+use Rattle.cq_cluster.specs.Steps.{IsAdopted}
 
 -- what is told by the states holds of two lists with the same states
 pub all_alike : {X : Type 0} (state : X → StoreState) (P : StoreState → Type 0) (xs ys : List X) → map state ys ≡ map state xs → All (λ x. P (state x)) xs → All (λ x. P (state x)) ys

@@ -1,40 +1,82 @@
--- The shard groups of the distributed table over the two workers of a run, and what the workers' lists still hold.
-use Rattle.std.specs.Prelude.{◌≡◌, ◌+◌, ◌-◌, ◌/◌, ◌%◌, ◌<◌, ◌≤◌, ℕ, IsTrue, List, [], ◌∷◌, length, All, Option, Some, None, slice_get}
-use Rattle.cq_value.specs.declared.schema.Shape.{Shape}
+-- The shard groups of the catalogue over the two workers of a run, and what the workers' lists still hold.
+use Rattle.std.specs.Prelude.{◌≡◌, ◌+◌, ◌%◌, ◌<◌, ◌≤◌, ℕ, IsTrue, Bool, true, false, List, [], ◌∷◌, length, map, All, Option, Some, None, slice_get, nat_eq, if◌then◌else◌}
+use Rattle.std.specs.List.{AllByRecursion}
+use Rattle.cq_tree.specs.declared.journal.Entry.{Entry}
+use Rattle.cq_catalog.specs.Contents.{Contents}
+use Rattle.cq_catalog.specs.Placement.{place_at}
+use Rattle.cq_catalog.specs.Whole.{IsWhole}
+use Rattle.cq_catalog.specs.declared.info.Colocation.{Colocation}
+use Rattle.cq_catalog.specs.declared.info.Place.TheVariants.{Distributed}
+use Rattle.cq_history.specs.Environment.{shape_in}
+use Rattle.cq_history.specs.Room.{nodes, taken}
 use Rattle.cq_store.specs.Stores.{StoreState, IsSpare}
 use Rattle.cq_store.specs.Workers.{room}
 use Rattle.cq_store.specs.declared.worker.Worker.{Worker}
 use Rattle.cq_group.specs.declared.group.GroupState.{GroupState}
-use Rattle.cq_group.specs.Groups.{IsKept, IsQuiet, IsSteady, outlines}
+use Rattle.cq_group.specs.Groups.{IsKept, IsQuiet, IsSteady, Outline, outlines, HasTable, entries_of, stores_of}
+use Rattle.cq_cluster.specs.declared.cluster.Cluster.{Cluster}
 
--- the number of workers that a run uses
-abbrev pub nodes : ℕ
-nodes = 2
+-- the first fact where the answer is yes, and else the second
+abbrev pub Either : Bool → Type 0 → Type 0 → Type 0
+Either true A B = A
+Either false A B = B
 
--- the node on which a shard group is opened, and its shard's id
+-- ---- shard groups
+
+-- the node on which the i-th shard group of a co-location group is opened (Citus, `create_distributed_table`: the workers take turns)
 abbrev pub node_of : ℕ → ℕ
-node_of group = group % nodes + 1
+node_of i = i % nodes + 1
 
-abbrev pub shard_of : ℕ → ℕ
-shard_of group = 102008 + group
+-- a table's shard in the i-th shard group of a co-location group: its number, shape and shard id, and one store
+abbrev pub shard_of : Contents → ℕ → ℕ → ℕ → Outline
+shard_of c table first_shard i = (table, shape_in c table, first_shard + i, 1)
 
--- a group of the table, between two statements: it keeps its journal and its store, nothing is staged, and the store is steady
-pub record IsGroupAt {X : Type 0} (state : X → StoreState) (shape : Shape) (group : ℕ) (g : GroupState X) : Type 0 where
+-- a group's table is one of the co-location group
+abbrev pub IsShardOf : Contents → ℕ → ℕ → Outline → Type 0
+IsShardOf c colocation i o =
+    (at : ℕ) × (first_shard : ℕ) × (place_at c o.0 ≡ Distributed at colocation first_shard) × (o ≡ shard_of c o.0 first_shard i)
+
+-- the i-th shard group of a co-location group, between two statements: it keeps its journal and the stores of its tables, which are those of
+-- the co-location group; nothing is staged, and the stores are steady
+pub record IsGroupOf {X : Type 0} (state : X → StoreState) (c : Contents) (colocation : ℕ) (co : Colocation) (i : ℕ) (g : GroupState X) : Type 0 where
   pub kept : IsKept state g
   pub quiet : IsQuiet state g
   pub steady : IsSteady state g
-  pub number : g.journal.group ≡ group
-  pub opening : g.journal.opening ≡ node_of group
-  pub node : g.node ≡ node_of group
-  pub tables : outlines g ≡ (0, shape, shard_of group, 1) ∷ []
+  pub number : g.journal.group ≡ co.first_group + i
+  pub opening : g.journal.opening ≡ node_of i
+  pub node : g.node ≡ node_of i
+  pub shards : AllByRecursion (IsShardOf c colocation i) (outlines g)
+  pub complete : (table at first_shard : ℕ) → place_at c table ≡ Distributed at colocation first_shard → HasTable g table
 
--- each of the groups, in order
-abbrev pub AreGroups : {X : Type 0} → (X → StoreState) → Shape → List (GroupState X) → Type 0
-AreGroups {X} state shape groups = (group : ℕ) (g : GroupState X) → slice_get groups group ≡ Some g → IsGroupAt state shape group g
+-- the group of this number is the i-th of a co-location group
+pub record IsCovered (c : Contents) (group : ℕ) : Type 0 where
+  pub colocation : ℕ
+  pub i : ℕ
+  pub co : Colocation
+  pub there : slice_get c.colocations colocation ≡ Some co
+  pub within : i < co.count
+  pub is : group ≡ co.first_group + i
 
--- how many of the first so many groups are on the node at this place of the workers
-abbrev pub groups_on : ℕ → ℕ → ℕ
-groups_on count place = (count + 1 - place) / nodes
+-- no shard group belongs to two co-location groups
+abbrev pub AreApart : Contents → Type 0
+AreApart c = (j k : ℕ) (a b : Colocation) (x y : ℕ) → slice_get c.colocations j ≡ Some a → slice_get c.colocations k ≡ Some b → x < a.count → y < b.count →
+    a.first_group + x ≡ b.first_group + y → j ≡ k
+
+-- how many stores the groups on the node at this place have
+abbrev pub held : {X : Type 0} → ℕ → List (GroupState X) → ℕ
+held place [] = 0
+held place (g ∷ gs) = (if nat_eq g.node (place + 1) then length (stores_of g) else 0) + held place gs
+
+-- the groups are those of the catalogue
+pub record AreGroups {X : Type 0} (state : X → StoreState) (c : Contents) (groups : List (GroupState X)) : Type 0 where
+  pub count : length groups ≡ c.groups
+  pub each : (colocation i : ℕ) (co : Colocation) (g : GroupState X) → slice_get c.colocations colocation ≡ Some co → i < co.count →
+      slice_get groups (co.first_group + i) ≡ Some g → IsGroupOf state c colocation co i g
+  pub covered : (group : ℕ) → group < c.groups → IsCovered c group
+  pub apart : AreApart c
+  pub held : (place : ℕ) → place < nodes → held place groups ≡ taken c place
+
+-- ---- workers
 
 -- a store that waits in a worker's list
 pub record IsWaiting (node : ℕ) (s : StoreState) : Type 0 where
@@ -42,28 +84,49 @@ pub record IsWaiting (node : ℕ) (s : StoreState) : Type 0 where
   pub of_node : s.node ≡ node
   pub steady : IsTrue s.steady
 
--- a worker whose list had so many stores, while the first so many groups have theirs: the others wait, and there is room for those of the groups
-pub record IsWorkerAt {X : Type 0} (state : X → StoreState) (whole count place : ℕ) (w : Worker X) : Type 0 where
+-- a worker whose list had so many stores, of which so many are out: the others wait, and there is room for those
+pub record IsWorkerAt {X : Type 0} (state : X → StoreState) (whole out place : ℕ) (w : Worker X) : Type 0 where
   pub node : w.node ≡ place + 1
   pub stores : All (λ x. IsWaiting (place + 1) (state x)) w.stores.items
-  pub total : length w.stores.items + groups_on count place ≡ whole
-  pub room : groups_on count place ≤ room w.stores
+  pub total : length w.stores.items + out ≡ whole
+  pub room : out ≤ room w.stores
 
 abbrev pub stores_in : {X : Type 0} → Option (Worker X) → ℕ
 stores_in None = 0
 stores_in (Some w) = length w.stores.items
 
--- the workers, as they were handed in and as they are while the first so many groups have their stores: only the first two change
-pub record AreWorkers {X : Type 0} (state : X → StoreState) (entry : List (Worker X)) (count : ℕ) (workers : List (Worker X)) : Type 0 where
+-- how many stores the worker at a place had
+abbrev pub whole_at : {X : Type 0} → List (Worker X) → ℕ → ℕ
+whole_at entry place = stores_in (slice_get entry place)
+
+-- the workers, as they were handed in and as they are while the groups have their stores: only the first two change
+pub record AreWorkers {X : Type 0} (state : X → StoreState) (entry : List (Worker X)) (groups : List (GroupState X)) (workers : List (Worker X)) : Type 0 where
   pub same_length : length workers ≡ length entry
-  pub used : (place : ℕ) (w : Worker X) → place < nodes → slice_get workers place ≡ Some w → IsWorkerAt state (stores_in (slice_get entry place)) count place w
+  pub used : (place : ℕ) (w : Worker X) → place < nodes → slice_get workers place ≡ Some w → IsWorkerAt state (whole_at entry place) (held place groups) place w
   pub unused : (place : ℕ) → nodes ≤ place → slice_get workers place ≡ slice_get entry place
 
--- workers as they must be handed in: the nodes 1, 2 and so on, with 128 or more stores each, all of which wait
+-- workers as they must be handed in: the nodes 1, 2 and so on, all of whose stores wait
 pub record IsIdle {X : Type 0} (state : X → StoreState) (place : ℕ) (w : Worker X) : Type 0 where
   pub node : w.node ≡ place + 1
   pub stores : All (λ x. IsWaiting (place + 1) (state x)) w.stores.items
-  pub enough : 128 ≤ length w.stores.items
 
 abbrev pub AreIdle : {X : Type 0} → (X → StoreState) → List (Worker X) → Type 0
 AreIdle {X} state workers = (place : ℕ) (w : Worker X) → slice_get workers place ≡ Some w → IsIdle state place w
+
+-- ---- the whole
+
+-- the groups' entries, in order of group
+abbrev pub histories : {X : Type 0} → Cluster X → List (List Entry)
+histories {X} cl = map (λ (g : GroupState X). entries_of g) cl.groups.items
+
+-- what a cluster keeps between two statements: its groups are those of the catalogue, and the workers have the other stores
+pub record IsSound {X : Type 0} (state : X → StoreState) (cl : Cluster X) : Type 0 where
+  pub groups : AreGroups state cl.catalog cl.groups.items
+  pub whole : IsWhole cl.catalog
+  pub ids : 0 < cl.catalog.next_shard
+  pub both : nodes ≤ length cl.workers.items
+  pub workers : (entry : List (Worker X)) × AreWorkers state entry cl.groups.items cl.workers.items
+
+-- the stores that the groups haven't are in the workers' lists, as they were handed in
+abbrev pub KeepsStores : {X : Type 0} → (X → StoreState) → Cluster X → Cluster X → Type 0
+KeepsStores {X} state old new = (entry : List (Worker X)) → AreWorkers state entry old.groups.items old.workers.items → AreWorkers state entry new.groups.items new.workers.items

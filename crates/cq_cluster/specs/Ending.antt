@@ -1,45 +1,74 @@
 -- Where the stores are at the end of a run.
-use Rattle.std.specs.Prelude.{◌≡◌, ◌+◌, ◌<◌, ◌≤◌, ℕ, ⊤, List, [], ◌∷◌, ◌++◌, length, map, nat_eq, if◌then◌else◌, Some, slice_get}
-use Rattle.std.specs.List.{AllByRecursion}
-use Rattle.cq_value.specs.declared.schema.Shape.{Shape}
-use Rattle.cq_point.specs.declared.journal.Entry.{Entry}
-use Rattle.cq_point.specs.declared.journal.Journal.{Journal}
-use Rattle.cq_history.specs.Journals.{replay}
+use Rattle.std.specs.Prelude.{◌≡◌, ◌≢◌, ◌+◌, ◌<◌, ◌≤◌, ◌⊎◌, ℕ, ⊤, List, [], ◌∷◌, ◌++◌, length, map, nat_eq, Some, slice_get}
+use Rattle.std.specs.List.{AllByRecursion, AllZip}
+use Rattle.cq_tree.specs.declared.journal.Entry.{Entry}
+use Rattle.cq_catalog.specs.Contents.{Contents}
+use Rattle.cq_catalog.specs.Placement.{place_at}
+use Rattle.cq_catalog.specs.declared.info.Colocation.{Colocation}
+use Rattle.cq_catalog.specs.declared.info.Place.TheVariants.{Distributed}
+use Rattle.cq_journal.specs.Journals.{replay}
+use Rattle.cq_journal.specs.declared.journal.Journal.{Journal}
+use Rattle.cq_history.specs.Environment.{shape_in}
+use Rattle.cq_history.specs.Room.{nodes}
 use Rattle.cq_store.specs.Stores.{StoreState, IsSpare}
 use Rattle.cq_store.specs.declared.worker.Worker.{Worker}
-use Rattle.cq_cluster.specs.Cluster.{nodes, node_of, shard_of, stores_in}
+use Rattle.cq_cluster.specs.Cluster.{Either, node_of, whole_at}
 
--- the store of a group's shard: on the group's node, with the shard's id, and it holds what the journal leaves, ids and all
-pub record IsShard (shape : Shape) (group : ℕ) (es : List Entry) (s : StoreState) : Type 0 where
-  pub of_node : s.node ≡ node_of group
-  pub of_shard : s.shard ≡ shard_of group
-  pub holds : s.rows ≡ replay 0 shape es
+-- the journals are those of the groups 0, 1 and so on, and each was opened on its group's node
+pub record AreJournals (c : Contents) (journals : List Journal) : Type 0 where
+  pub count : length journals ≡ c.groups
+  pub numbered : (group : ℕ) (j : Journal) → slice_get journals group ≡ Some j → j.group ≡ group
+  pub opened : (colocation i : ℕ) (co : Colocation) (j : Journal) → slice_get c.colocations colocation ≡ Some co → i < co.count →
+      slice_get journals (co.first_group + i) ≡ Some j → j.opening ≡ node_of i
+
+-- the store of a table's shard in the i-th shard group of its co-location group: on the group's node, with the shard's id, and it holds what the group's entries leave, ids and all
+pub record IsShard (c : Contents) (colocation i : ℕ) (es : List Entry) (table : ℕ) (s : StoreState) : Type 0 where
+  pub at : ℕ
+  pub first_shard : ℕ
+  pub placed : place_at c table ≡ Distributed at colocation first_shard
+  pub of_node : s.node ≡ node_of i
+  pub of_shard : s.shard ≡ first_shard + i
+  pub holds : s.rows ≡ replay table (shape_in c table) es
   pub nothing : s.staged ≡ []
 
--- the journals of the groups on the node, of the groups from this one on, each with its group
-abbrev pub journals_on : ℕ → ℕ → List (List Entry) → List (ℕ × List Entry)
-journals_on node group [] = []
-journals_on node group (es ∷ journals) = if nat_eq (node_of group) node then (group, es) ∷ journals_on node (group + 1) journals else journals_on node (group + 1) journals
+abbrev pub IsIn : ℕ → List ℕ → Type 0
+IsIn n [] = ⊥
+IsIn n (m ∷ ms) = (m ≡ n) ⊎ IsIn n ms
 
--- the stores are those of these groups, in order
-abbrev pub AreShards : Shape → List (ℕ × List Entry) → List StoreState → Type 0
-AreShards shape [] [] = ⊤
-AreShards shape [] (s ∷ ss) = ⊥
-AreShards shape (j ∷ js) [] = ⊥
-AreShards shape (j ∷ js) (s ∷ ss) = IsShard shape j.0 j.1 s × AreShards shape js ss
+abbrev pub AreDistinct : List ℕ → Type 0
+AreDistinct [] = ⊤
+AreDistinct (n ∷ ns) = AllByRecursion (λ m. n ≢ m) ns × AreDistinct ns
 
--- a used worker at the end: as many stores as at entry, some spare and empty ones, and then one for each shard group on the node
-pub record IsWorkerFinal {X : Type 0} (state : X → StoreState) (shape : Shape) (journals : List (List Entry)) (whole place : ℕ) (w : Worker X) : Type 0 where
+-- the stores of a shard group with this journal: one for each table of its co-location group, each table once
+pub record AreOfGroup (c : Contents) (j : Journal) (stores : List StoreState) : Type 0 where
+  pub colocation : ℕ
+  pub i : ℕ
+  pub co : Colocation
+  pub there : slice_get c.colocations colocation ≡ Some co
+  pub within : i < co.count
+  pub is : j.group ≡ co.first_group + i
+  pub tables : List ℕ
+  pub each : AllZip (IsShard c colocation i j.entries.list) tables stores
+  pub complete : (table at first_shard : ℕ) → place_at c table ≡ Distributed at colocation first_shard → IsIn table tables
+  pub once : AreDistinct tables
+
+-- first the stores of a shard group, and then others of which the fact holds
+abbrev pub BeginWith : Contents → Journal → (List StoreState → Type 0) → List StoreState → Type 0
+BeginWith c j P stores = (own : List StoreState) × (rest : List StoreState) × (stores ≡ own ++ rest) × AreOfGroup c j own × P rest
+
+-- the stores of the groups with these journals that are on the node, in order of group
+abbrev pub AreOnNode : Contents → ℕ → List Journal → List StoreState → Type 0
+AreOnNode c node [] stores = stores ≡ []
+AreOnNode c node (j ∷ js) stores = Either (nat_eq j.opening node) (BeginWith c j (AreOnNode c node js) stores) (AreOnNode c node js stores)
+
+-- a used worker at the end: as many stores as at entry, some spare and empty ones, and then those of the shard groups on the node
+pub record IsWorkerFinal {X : Type 0} (state : X → StoreState) (c : Contents) (journals : List Journal) (whole place : ℕ) (w : Worker X) : Type 0 where
   pub node : w.node ≡ place + 1
   pub total : length w.stores.items ≡ whole
-  pub stores : (spare kept : List X) × (w.stores.items ≡ spare ++ kept) × AllByRecursion (λ x. IsSpare (state x)) spare × AreShards shape (journals_on (place + 1) 0 journals) (map state kept)
+  pub stores : (spare kept : List X) × (w.stores.items ≡ spare ++ kept) × AllByRecursion (λ x. IsSpare (state x)) spare × AreOnNode c (place + 1) journals (map state kept)
 
 -- the workers at the end of a run: nothing is lost, each shard's rows stand once, on its node, and every other store is spare
-pub record IsFinal {X : Type 0} (state : X → StoreState) (entry : List (Worker X)) (shape : Shape) (journals : List (List Entry)) (workers : List (Worker X)) : Type 0 where
+pub record IsFinal {X : Type 0} (state : X → StoreState) (entry : List (Worker X)) (c : Contents) (journals : List Journal) (workers : List (Worker X)) : Type 0 where
   pub same_length : length workers ≡ length entry
-  pub used : (place : ℕ) (w : Worker X) → place < nodes → slice_get workers place ≡ Some w → IsWorkerFinal state shape journals (stores_in (slice_get entry place)) place w
+  pub used : (place : ℕ) (w : Worker X) → place < nodes → slice_get workers place ≡ Some w → IsWorkerFinal state c journals (whole_at entry place) place w
   pub unused : (place : ℕ) → nodes ≤ place → slice_get workers place ≡ slice_get entry place
-
--- the journals are those of the groups 0, 1 and so on, opened on their nodes
-abbrev pub AreJournals : List Journal → Type 0
-AreJournals journals = (group : ℕ) (j : Journal) → slice_get journals group ≡ Some j → (j.group ≡ group) × (j.opening ≡ node_of group)

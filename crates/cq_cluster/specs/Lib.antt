@@ -1,3 +1,4 @@
 pub mod Cluster
+pub mod Steps
 pub mod Ending
-pub mod Moving
+pub mod Closing

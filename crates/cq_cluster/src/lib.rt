@@ -1,12 +1,18 @@
-//! The shard groups of a run over its two workers: opened on spare stores of the workers, and closed at the end, when the
-//! stores go back.
+//! The shard groups of a run over its two workers: a table that is distributed gets its shards on spare stores of the
+//! workers, in the shard groups of its co-location group, and at the end the stores go back.
 #![tactic(auto)]
 
-mod close;
-mod open;
+mod closing;
+mod cluster;
+mod creating;
+mod distribute;
+mod making;
+mod opening;
+mod shard;
+mod shards;
+mod spare;
 #[cfg(test)]
 mod tests;
 mod worker;
 
-pub use close::close_groups;
-pub use open::open_groups;
+pub use cluster::{Cluster, Ended};

@@ -1,7 +1,7 @@
 ghost use Rattle.std.specs.Prelude.{◌≡◌, ◌+◌, ◌<◌, ◌≤◌, ◌++◌, length, All, IfOk, OnOk, OnErr};
 ghost use Rattle.cq_store.specs.Workers.{room};
 ghost use Rattle.cq_cluster.specs.Cluster.{IsWaiting};
-ghost use Rattle.cq_cluster.specs.Moving.{IsSteadyOn, AllWait, Lacks};
+ghost use Rattle.cq_cluster.specs.Steps.{IsSteadyOn, AllWait, Lacks};
 
 use cq_store::{Store, TakeError, Worker};
 use cq_value::NoMemory;

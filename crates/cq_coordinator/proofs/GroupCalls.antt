@@ -1,156 +1,175 @@
--- A call on one of the coordinator's groups.
-use Rattle.std.proofs.Common.{suc, zero, ◌≡◌, ◌<◌, inl, inr, ℕ, List, [], ◌∷◌, ◌++◌, length, map, refl, sym, ◌∙◌, ap, subst, arith, Some, slice_get, get_or, rules, Result, Ok, Err, IfOk, IfErr, OnOk, OnErr}
+-- A call on one shard group of a cluster.
+use Rattle.std.proofs.Common.{◌≡◌, inl, inr, ℕ, suc, ◌+◌, ◌<◌, ◌≤◌, List, [], ◌∷◌, ◌++◌, length, map, refl, sym, ap, ◌∙◌, subst, arith, Some, slice_get}
 use Rattle.std.proofs.Math.ListN.{set}
 use Rattle.std.proofs.lemmas.List.{map-set, length-set}
 use Rattle.std.proofs.Math.Seq.{map-set_same}
+use Rattle.std.proofs.Common.{get_or}
+use Rattle.std.specs.Prelude.{Result, Ok, Err, OnOk, OnErr, IfOk, IfErr}
 use Rattle.cq_value.specs.declared.schema.Shape.{Shape}
+use Rattle.cq_value.specs.declared.value.Value.{Value}
 use Rattle.cq_value.specs.Tables.{rows_of}
-use Rattle.cq_point.specs.declared.journal.Entry.{Entry}
-use Rattle.cq_point.specs.declared.journal.Reply.{Reply}
-use Rattle.cq_point.specs.declared.journal.ShardOp.{ShardOp}
-use Rattle.cq_point_meaning.specs.Values.{Row}
-use Rattle.cq_point_meaning.specs.Effects.{reply_of, table_of}
-use Rattle.cq_single.specs.Tables.{shape_of, groups_of}
-use Rattle.cq_history.specs.Journals.{replay}
+use Rattle.cq_tree.specs.declared.journal.Who.{Who}
+use Rattle.cq_tree.specs.declared.journal.Entry.{Entry}
+use Rattle.cq_tree.specs.declared.journal.EntryKind.TheVariants.{Write}
+use Rattle.cq_tree.specs.declared.write.Reply.{Reply}
+use Rattle.cq_tree.specs.declared.write.ShardOp.{ShardOp}
+use Rattle.cq_tree.specs.declared.write.ShardOp.TheVariants.{Insert, Update, Remove}
+use Rattle.cq_meaning.specs.Values.{Row}
+use Rattle.cq_meaning.specs.Effects.{reply_of, table_of, inserts, IsSafeWrite}
+use Rattle.cq_value.specs.Tables.{Pair}
+use Rattle.cq_journal.specs.Journals.{replay, most_ids}
+use Rattle.cq_history.specs.Environment.{shape_in}
+use Rattle.cq_history.specs.ValueSets.{rows_with}
 use Rattle.cq_history.specs.Between.{Grows}
 use Rattle.cq_store.specs.Stores.{StoreState}
 use Rattle.cq_group.specs.declared.group.GroupState.{GroupState}
-use Rattle.cq_group.specs.Groups.{IsKept, IsQuiet, IsSteady, IsSameGroup, HasTable, entries_of, shapes, shape_at, or_no_shape}
-use Rattle.cq_group.specs.Calls.{captured, next_id}
-use Rattle.cq_cluster.specs.Cluster.{IsGroupAt}
+use Rattle.cq_group.specs.Groups.{IsSameGroup, HasTable, entries_of, shapes, shape_at, or_no_shape}
+use Rattle.cq_group.specs.declared.group.Staged.{Staged}
+use Rattle.cq_group.specs.declared.group.Staged.TheVariants.{NoIds}
+use Rattle.cq_group.specs.Calls.{next_id, GroupGoesOn}
+use Rattle.cq_group.proofs.WriteLaws.{goes_on_twice}
+use Rattle.cq_routing.specs.Own.{IsOwn}
+use Rattle.cq_cluster.specs.Cluster.{IsSound, IsGroupOf, histories}
+use Rattle.cq_cluster.specs.declared.cluster.Cluster.{Cluster}
 use Rattle.cq_cluster.proofs.ListLaws.{got_after}
-use Rattle.cq_cluster.proofs.GroupLaws.{group_again, groups_set}
-use Rattle.cq_coordinator.specs.declared.coordinator.Coordinator.{Coordinator}
-use Rattle.cq_coordinator.specs.Coordination.{IsSound, histories, reply_over}
+use Rattle.cq_coordinator.specs.Coordination.{reply_over, IsInsert, IsEntered, IsOutcome}
+use Rattle.cq_coordinator.specs.declared.outcome.WriteError.{WriteError}
+use Rattle.cq_coordinator.specs.declared.outcome.WriteError.TheVariants.{Ids}
+use Rattle.cq_coordinator.proofs.GroupLaws.{got_at, got_map, member, group_of_member, has_table, its_shape, its_node}
 
--- the item that is read at a place
-pub got_at : {X : Type 0} (xs : List X) (k : ℕ) (y : X) → k < length xs → y ≡ get_or xs k y → slice_get xs k ≡ Some y
-got_at [] k y h e = absurd (omega arith)
-got_at (x ∷ xs) zero y h e = ap Some (sym e)
-got_at (x ∷ xs) (suc k) y h e = got_at xs k y (omega arith) e
+pub length_map : {X Y : Type 0} (f : X → Y) (xs : List X) → length (map f xs) ≡ length xs
+length_map f [] = refl
+length_map f (x ∷ xs) = ap suc (length_map f xs)
 
-got_map : {X Y : Type 0} (f : X → Y) (xs : List X) (k : ℕ) (x : X) → slice_get xs k ≡ Some x → slice_get (map f xs) k ≡ Some (f x)
-got_map f [] k x s = cc
-got_map f (y ∷ xs) zero x s = ap Some (ap f (let same : y ≡ x = cc in same))
-got_map f (y ∷ xs) (suc k) x s = got_map f xs k x s
+-- the group of this number is there
+pub is_there : {X : Type 0} (state : X → StoreState) (cl : Cluster X) (table group : ℕ) → IsSound state cl → IsOwn cl.catalog table group → group < length cl.groups.items
+is_there state cl table group s own = let n : length cl.groups.items ≡ cl.catalog.groups = s.groups.count in omega (arith, n, own.1)
 
--- the group at a place
-pub group_at : {X : Type 0} (state : X → StoreState) (c : Coordinator X) (place : ℕ) (y : GroupState X) → IsSound state c → place < length c.groups.items → y ≡ get_or c.groups.items place y → IsGroupAt state (shape_of c.catalog) place y
-group_at state c place y s h e = s.groups place y (got_at c.groups.items place y h e)
+module _ {X : Type 0} (state : X → StoreState) (cl : Cluster X) (table group : ℕ) (g : GroupState X) (s : IsSound state cl) (own : IsOwn cl.catalog table group) (is : g ≡ get_or cl.groups.items group g) where
+  pub at_place : slice_get cl.groups.items group ≡ Some g
+  at_place = got_at cl.groups.items group g (is_there state cl table group s own) is
 
-pub its_shape : {X : Type 0} (state : X → StoreState) (shape : Shape) (n : ℕ) (y : GroupState X) → IsGroupAt state shape n y → shapes y 0 ≡ shape
-its_shape state shape n y a = ap (λ os. or_no_shape (shape_at os 0)) a.tables
+  pub of_member : IsGroupOf state cl.catalog (member cl.catalog table group own).colocation (member cl.catalog table group own).co (member cl.catalog table group own).i g
+  of_member = group_of_member state cl.catalog cl.groups.items table group (member cl.catalog table group own) g s.groups at_place
 
-pub its_table : {X : Type 0} (state : X → StoreState) (shape : Shape) (n : ℕ) (y : GroupState X) → IsGroupAt state shape n y → HasTable y 0
-its_table state shape n y a = rw a.tables (search rules)
+  pub has : HasTable g table
+  has = has_table state cl.catalog table group (member cl.catalog table group own) g of_member
 
-pub its_node : {X : Type 0} (state : X → StoreState) (shape : Shape) (n : ℕ) (y : GroupState X) → IsGroupAt state shape n y → y.node ≡ 0 → ⊥
-its_node state shape n y a e = omega (arith, a.node, e)
+  pub shape_is : shapes g table ≡ shape_in cl.catalog table
+  shape_is = its_shape state cl.catalog table group (member cl.catalog table group own) g of_member
 
--- the journal of the group at a place is its history
-pub its_entries : {X : Type 0} (c : Coordinator X) (place : ℕ) (y : GroupState X) (es : List Entry) → place < length c.groups.items → y ≡ get_or c.groups.items place y → slice_get (histories c) place ≡ Some es → entries_of y ≡ es
-its_entries {X} c place y es h e s = let there = got_map (λ (g : GroupState X). entries_of g) c.groups.items place y (got_at c.groups.items place y h e) in cc
+  pub node_is : g.node ≡ 0 → ⊥
+  node_is = its_node state cl.catalog _ _ _ g of_member
 
--- the coordinator with one group that went on
-pub sound_set : {X : Type 0} (state : X → StoreState) (c new : Coordinator X) (place : ℕ) (y g : GroupState X) → IsSound state c → place < length c.groups.items → y ≡ get_or c.groups.items place y →
-    IsSameGroup y g → IsKept state g → IsQuiet state g → IsSteady state g → new.catalog ≡ c.catalog → new.workers ≡ c.workers → new.groups.items ≡ set c.groups.items place g → IsSound state new
-sound_set state c new place y g s h e same kept quiet steady cat workers items =
-    let at = group_again state (shape_of c.catalog) place y g (group_at state c place y s h e) same kept quiet steady in
-    let longer : length new.groups.items ≡ length c.groups.items = ap length items ∙ length-set c.groups.items place g in
-    record {
-      by_first = rw cat s.by_first;
-      number = longer ∙ s.number ∙ sym (ap (λ v. groups_of v) cat);
-      groups = rw (items, cat) (groups_set state (shape_of c.catalog) c.groups.items place g s.groups h at);
-      idle = λ z. absurd (omega (arith, z, longer, h));
-      workers = rw workers s.workers;
-    }
+  -- its journal is its history
+  pub its_entries : (es : List Entry) → slice_get (histories cl) group ≡ Some es → entries_of g ≡ es
+  its_entries es h = let there = got_map (λ (h : GroupState X). entries_of h) cl.groups.items group g at_place in cc
 
--- one more entry in the group
-pub grows_set : {X : Type 0} (c : Coordinator X) (place : ℕ) (y g : GroupState X) (e : Entry) → place < length c.groups.items → y ≡ get_or c.groups.items place y → entries_of g ≡ entries_of y ++ e ∷ [] →
-    Grows (histories c) (map (λ (h : GroupState X). entries_of h) (set c.groups.items place g)) place e
-grows_set {X} c place y g e h is more =
-    let f : GroupState X → List Entry = λ g. entries_of g in
-    let all : map f (set c.groups.items place g) ≡ set (histories c) place (entries_of g) = map-set f c.groups.items place g in
-    record {
-      count = ap length all ∙ length-set (histories c) place (entries_of g);
-      each = λ k es s. elim (got_after (histories c) place (entries_of g) k es (subst (λ (v : List (List Entry)). slice_get v k ≡ Some es) all s)) [
-        | inl p ↦ (entries_of y, subst (λ n. slice_get (histories c) n ≡ Some (entries_of y)) (sym p.0) (got_map f c.groups.items place y (got_at c.groups.items place y h is)), inl (p.0, p.1 ∙ more))
-        | inr p ↦ (es, p.1, inr (p.0, refl))
-      ];
-    }
+  -- one more entry in the group
+  pub grows_set : (h : GroupState X) (e : Entry) → entries_of h ≡ entries_of g ++ e ∷ [] → Grows (histories cl) (map (λ (h : GroupState X). entries_of h) (set cl.groups.items group h)) group e
+  grows_set h e more =
+      let f : GroupState X → List Entry = λ h. entries_of h in
+      let all : map f (set cl.groups.items group h) ≡ set (histories cl) group (entries_of h) = map-set f cl.groups.items group h in
+      let there = got_map f cl.groups.items group g at_place in
+      record {
+        count = ap length all ∙ length-set (histories cl) group (entries_of h);
+        there = let n = is_there state cl table group s own in let m : length (histories cl) ≡ length cl.groups.items = length_map f cl.groups.items in omega (arith, n, m);
+        each = λ k es got. elim (got_after (histories cl) group (entries_of h) k es (subst (λ (v : List (List Entry)). slice_get v k ≡ Some es) all got)) [
+          | inl p ↦ (entries_of g, subst (λ n. slice_get (histories cl) n ≡ Some (entries_of g)) (sym p.0) there, inl (p.0, p.1 ∙ more))
+          | inr p ↦ (es, p.1, inr (p.0, refl))
+        ];
+      }
 
--- no more entry
-pub same_set : {X : Type 0} (c : Coordinator X) (place : ℕ) (y g : GroupState X) → y ≡ get_or c.groups.items place y → entries_of g ≡ entries_of y → map (λ (h : GroupState X). entries_of h) (set c.groups.items place g) ≡ histories c
-same_set {X} c place y g is same = map-set_same (λ (h : GroupState X). entries_of h) c.groups.items place g y (same ∙ ap (λ (v : GroupState X). entries_of v) is)
+  -- no more entry
+  pub same_set : (h : GroupState X) → entries_of h ≡ entries_of g → map (λ (h : GroupState X). entries_of h) (set cl.groups.items group h) ≡ histories cl
+  same_set h same = map-set_same (λ (h : GroupState X). entries_of h) cl.groups.items group h g (same ∙ ap (λ (v : GroupState X). entries_of v) is)
 
-first_rows : List (ℕ × List Row) → List Row
-first_rows [] = []
-first_rows (p ∷ ps) = p.1
+  -- the rows that were read of the table
+  pub picked_over : (at : ℕ) (v : Value) (rows : List Row) (es : List Entry) → rows ≡ rows_with at v (rows_of (replay table (shapes g table) (entries_of g))) → slice_get (histories cl) group ≡ Some es →
+      rows ≡ rows_with at v (rows_of (replay table (shape_in cl.catalog table) es))
+  picked_over at v rows es a h =
+      a ∙ ap (λ (shape : Shape). rows_with at v (rows_of (replay table shape (entries_of g)))) shape_is
+      ∙ ap (λ (w : List Entry). rows_with at v (rows_of (replay table (shape_in cl.catalog table) w))) (its_entries es h)
 
--- the rows of a capture
-pub rows_read : {X : Type 0} (y : GroupState X) (seen : List (ℕ × List Row)) (tables : List ℕ) (table : ℕ) (rows : List Row) → seen ≡ map (captured y) tables → tables ≡ 0 ∷ [] → seen ≡ (table, rows) ∷ [] → rows ≡ rows_of (replay 0 (shapes y 0) (entries_of y))
-unfolding first_rows
-rows_read y seen tables table rows a b c = ap first_rows (sym c ∙ a ∙ ap (map (captured y)) b)
+  -- a write's reply, and its next id
+  pub reply_at : (op : ShardOp) (reply : Reply) (es : List Entry) → table_of op ≡ table → reply_over g op ≡ reply → slice_get (histories cl) group ≡ Some es →
+      reply_of op (replay (table_of op) (shape_in cl.catalog (table_of op)) es) (shape_in cl.catalog (table_of op)) ≡ reply
+  reply_at op reply es t r h =
+      let shape : shapes g (table_of op) ≡ shape_in cl.catalog (table_of op) = ap (shapes g) t ∙ shape_is ∙ sym (ap (shape_in cl.catalog) t) in
+      ap (λ (v : List Entry). reply_of op (replay (table_of op) (shape_in cl.catalog (table_of op)) v) (shape_in cl.catalog (table_of op))) (sym (its_entries es h))
+      ∙ ap (λ (v : Shape). reply_of op (replay (table_of op) v (entries_of g)) v) (sym shape)
+      ∙ r
 
--- over the history of the group
-pub rows_over : {X : Type 0} (state : X → StoreState) (c : Coordinator X) (place : ℕ) (y : GroupState X) (rows : List Row) (es : List Entry) → IsSound state c → place < length c.groups.items → y ≡ get_or c.groups.items place y →
-    rows ≡ rows_of (replay 0 (shapes y 0) (entries_of y)) → slice_get (histories c) place ≡ Some es → rows ≡ rows_of (replay 0 (shape_of c.catalog) es)
-rows_over state c place y rows es s h is r t =
-    r ∙ ap (λ shape. rows_of (replay 0 shape (entries_of y))) (its_shape state (shape_of c.catalog) place y (group_at state c place y s h is))
-    ∙ ap (λ (v : List Entry). rows_of (replay 0 (shape_of c.catalog) v)) (its_entries c place y es h is t)
+  pub next_at : (op : ShardOp) (es : List Entry) → table_of op ≡ table → slice_get (histories cl) group ≡ Some es → next_id g (table_of op) ≡ (replay (table_of op) (shape_in cl.catalog (table_of op)) es).next
+  next_at op es t h =
+      let shape : shapes g (table_of op) ≡ shape_in cl.catalog (table_of op) = ap (shapes g) t ∙ shape_is ∙ sym (ap (shape_in cl.catalog) t) in
+      ap (λ (v : Shape). (replay (table_of op) v (entries_of g)).next) shape
+      ∙ ap (λ (v : List Entry). (replay (table_of op) (shape_in cl.catalog (table_of op)) v).next) (its_entries es h)
 
-pub reply_at : {X : Type 0} (state : X → StoreState) (c : Coordinator X) (place : ℕ) (y : GroupState X) (op : ShardOp) (reply : Reply) (es : List Entry) → IsSound state c → place < length c.groups.items → y ≡ get_or c.groups.items place y →
-    table_of op ≡ 0 → reply_over y op ≡ reply → slice_get (histories c) place ≡ Some es → reply_of op (rows_of (replay 0 (shape_of c.catalog) es)) (shape_of c.catalog) ≡ reply
-reply_at state c place y op reply es s h is zero_table r t =
-    let shape = its_shape state (shape_of c.catalog) place y (group_at state c place y s h is) in
-    ap (λ (v : List Entry). reply_of op (rows_of (replay 0 (shape_of c.catalog) v)) (shape_of c.catalog)) (sym (its_entries c place y es h is t))
-    ∙ ap (λ v. reply_of op (rows_of (replay 0 v (entries_of y))) v) (sym shape)
-    ∙ ap (λ n. reply_of op (rows_of (replay n (shapes y n) (entries_of y))) (shapes y n)) (sym zero_table)
-    ∙ r
+  -- the whole of a write's outcome
+  pub outcome_of : (who : Who) (op : ShardOp) (h : GroupState X) (r : Result Reply WriteError) → table_of op ≡ table → IsEntered who op g h r →
+      IsOutcome cl.catalog who (histories cl) (map (λ (h : GroupState X). entries_of h) (set cl.groups.items group h)) op group r
+  outcome_of who op h (Ok reply) t e = record {
+    reply = λ es s. reply_at op reply es t e.reply s;
+    ids = λ es s. subst (λ n. n + length (inserts op) ≤ most_ids) (next_at op es t s) e.ids;
+    entry = grows_set h (record { who = who; kind = Write op reply }) e.entry;
+    err = tt;
+    no_ids = tt;
+  }
+  outcome_of who op h (Err x) t e = record {
+    reply = tt;
+    ids = tt;
+    entry = tt;
+    err = same_set h e.err;
+    no_ids = λ is es s. subst (λ n. most_ids < n + length (inserts op)) (next_at op es t s) (e.no_ids is);
+  }
 
-pub next_at : {X : Type 0} (state : X → StoreState) (c : Coordinator X) (place : ℕ) (y : GroupState X) (op : ShardOp) (es : List Entry) → IsSound state c → place < length c.groups.items → y ≡ get_or c.groups.items place y →
-    table_of op ≡ 0 → slice_get (histories c) place ≡ Some es → next_id y (table_of op) ≡ (replay 0 (shape_of c.catalog) es).next
-next_at state c place y op es s h is zero_table t =
-    ap (λ n. (replay n (shapes y n) (entries_of y)).next) zero_table
-    ∙ ap (λ v. (replay 0 v (entries_of y)).next) (its_shape state (shape_of c.catalog) place y (group_at state c place y s h is))
-    ∙ ap (λ (v : List Entry). (replay 0 (shape_of c.catalog) v).next) (its_entries c place y es h is t)
+-- an INSERT needs nothing to be computed
+pub insert_safe : (op : ShardOp) (pairs : List Pair) → IsInsert op → IsSafeWrite op pairs
+insert_safe (Insert table rows) pairs i = tt
+insert_safe (Update table keeps sets) pairs i = absurd i
+insert_safe (Remove table keeps) pairs i = absurd i
 
 -- two calls on a group, one after the other
-pub same_then : {X : Type 0} (a b c : GroupState X) → IsSameGroup a b → IsSameGroup b c → IsSameGroup a c
-same_then a b c p q = record {
-  number = q.number ∙ p.number;
-  opening = q.opening ∙ p.opening;
-  node = q.node ∙ p.node;
-  nodes = q.nodes ∙ p.nodes;
-  tables = q.tables ∙ p.tables;
-}
-
 shapes_same : {X : Type 0} (a b : GroupState X) (table : ℕ) → IsSameGroup a b → shapes b table ≡ shapes a table
 shapes_same a b table p = ap (λ os. or_no_shape (shape_at os table)) p.tables
 
 -- the reply over the group as it was
 pub reply_same : {X : Type 0} (a b : GroupState X) (op : ShardOp) → IsSameGroup a b → entries_of b ≡ entries_of a → reply_over b op ≡ reply_over a op
 reply_same a b op p e =
-    ap (λ v. reply_of op (rows_of (replay (table_of op) v (entries_of b))) v) (shapes_same a b (table_of op) p)
-    ∙ ap (λ (v : List Entry). reply_of op (rows_of (replay (table_of op) (shapes a (table_of op)) v)) (shapes a (table_of op))) e
+    ap (λ (v : Shape). reply_of op (replay (table_of op) v (entries_of b)) v) (shapes_same a b (table_of op) p)
+    ∙ ap (λ (v : List Entry). reply_of op (replay (table_of op) (shapes a (table_of op)) v) (shapes a (table_of op))) e
 
 pub next_same : {X : Type 0} (a b : GroupState X) (table : ℕ) → IsSameGroup a b → entries_of b ≡ entries_of a → next_id b table ≡ next_id a table
 next_same a b table p e =
-    ap (λ v. (replay table v (entries_of b)).next) (shapes_same a b table p)
+    ap (λ (v : Shape). (replay table v (entries_of b)).next) (shapes_same a b table p)
     ∙ ap (λ (v : List Entry). (replay table (shapes a table) v).next) e
 
-pub if_ok_map : {T E : Type 0} (P Q : T → Type 0) (r : Result T E) → ((x : T) → P x → Q x) → IfOk r P → IfOk r Q
-if_ok_map P Q (Ok x) f p = f x p
-if_ok_map P Q (Err e) f p = tt
+-- a write that was staged in a group and then entered, or not
+pub entered_after : {X : Type 0} (who : Who) (op : ShardOp) (a b c : GroupState X) (r : Result Reply WriteError) → IsSameGroup a b → entries_of b ≡ entries_of a →
+    IfOk r (λ reply. reply_over b op ≡ reply) → OnOk r (next_id b (table_of op) + length (inserts op) ≤ most_ids) → IfOk r (λ reply. entries_of c ≡ entries_of b ++ record { who = who; kind = Write op reply } ∷ []) → OnErr r (c ≡ b) →
+    IfErr r (λ e. e ≡ Ids → most_ids < next_id a (table_of op) + length (inserts op)) → IsEntered who op a c r
+entered_after who op a b c (Ok reply) same e said ids entry err no_ids = record {
+  reply = sym (reply_same a b op same e) ∙ said;
+  ids = subst (λ n. n + length (inserts op) ≤ most_ids) (next_same a b (table_of op) same e) ids;
+  entry = entry ∙ ap (λ (es : List Entry). es ++ record { who = who; kind = Write op reply } ∷ []) e;
+  err = tt;
+  no_ids = tt;
+}
+entered_after who op a b c (Err x) same e said ids entry err no_ids = record {
+  reply = tt;
+  ids = tt;
+  entry = tt;
+  err = ap (λ (v : GroupState _). entries_of v) err ∙ e;
+  no_ids = no_ids;
+}
 
-pub if_err_map : {T E : Type 0} (P Q : E → Type 0) (r : Result T E) → ((e : E) → P e → Q e) → IfErr r P → IfErr r Q
-if_err_map P Q (Ok x) f p = tt
-if_err_map P Q (Err e) f p = f e p
+-- a second call that goes on, or leaves the group
+pub went_on : {X T E : Type 0} (state : X → StoreState) (a b c : GroupState X) (r : Result T E) → GroupGoesOn state a b → OnOk r (GroupGoesOn state b c) → OnErr r (c ≡ b) → GroupGoesOn state a c
+went_on state a b c (Ok x) on ok err = goes_on_twice state a b c on ok
+went_on state a b c (Err e) on ok err = rw err on
 
-pub on_ok_map : {T E : Type 0} (P Q : Type 0) (r : Result T E) → (P → Q) → OnOk r P → OnOk r Q
-on_ok_map P Q (Ok x) f p = f p
-on_ok_map P Q (Err e) f p = tt
-
-pub on_err_map : {T E : Type 0} (P Q : Type 0) (r : Result T E) → (P → Q) → OnErr r P → OnErr r Q
-on_err_map P Q (Ok x) f p = tt
-on_err_map P Q (Err e) f p = f p
+-- the ids don't suffice where the staged write says so
+pub no_ids_by : {T : Type 0} {P : Type 0} (staged : Staged) (r : Result T WriteError) → OnErr r (staged ≡ NoIds) → (staged ≡ NoIds → P) → IfErr r (λ e. e ≡ Ids → P)
+no_ids_by staged (Ok x) is p = tt
+no_ids_by staged (Err e) is p = λ same. p is

@@ -1,5 +1,5 @@
-pub mod Answering
-pub mod Bound
+pub mod GroupLaws
 pub mod GroupCalls
-pub mod Opening
-pub mod ReadingLaws
+pub mod QueryAnswers
+pub mod InsertAnswers
+pub mod DefinitionAnswers

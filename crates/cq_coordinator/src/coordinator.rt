@@ -1,11 +1,9 @@
-use cq_group::GroupState;
-use cq_single::Catalog;
-use cq_store::Worker;
+use cq_answer::Settings;
+use cq_cluster::Cluster;
 
-/// The coordinator of a run: its catalogue, the shard groups, and the workers with the stores that no group has.
+/// The coordinator of a run: its catalogue and shard groups, and the settings of its session.
 #[derive(Drop)]
 pub struct Coordinator<S> {
-    pub catalog: Catalog,
-    pub groups: Vec<GroupState<S>>,
-    pub workers: Vec<Worker<S>>,
+    pub cluster: Cluster<S>,
+    pub settings: Settings,
 }

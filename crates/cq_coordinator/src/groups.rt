@@ -1,164 +1,121 @@
-ghost use Rattle.std.specs.Prelude.{◌≡◌, ◌<◌, ◌+◌, ◌≤◌, ℕ, [], ◌∷◌, ◌++◌, length, IfOk, IfErr, OnOk, OnErr, slice_get, Some};
-ghost use Rattle.cq_value.specs.Tables.{rows_of};
-ghost use Rattle.cq_point_meaning.specs.Effects.{reply_of, table_of, inserts};
-ghost use Rattle.cq_single.specs.Tables.{shape_of, group_of, groups_of};
-ghost use Rattle.cq_history.specs.Journals.{replay};
+ghost use Rattle.std.specs.Prelude.{◌≡◌, ◌<◌, ◌+◌, ◌≤◌, ℕ, [], ◌∷◌, ◌++◌, length, IfOk, IfErr, OnOk, OnErr, slice_get, Some, List};
+ghost use Rattle.cq_tree.specs.declared.journal.Entry.{Entry};
+ghost use Rattle.cq_meaning.specs.Effects.{table_of, inserts};
+ghost use Rattle.cq_journal.specs.Journals.{most_ids};
 ghost use Rattle.cq_history.specs.Between.{Grows};
-ghost use Rattle.cq_history.specs.Standing.{home_of, most_ids};
-ghost use Rattle.cq_group.specs.Groups.{IsKept, IsQuiet, IsSteady, IsSameGroup, HasTable, entries_of};
-ghost use Rattle.cq_group.specs.Calls.{next_id};
-ghost use Rattle.cq_coordinator.specs.Coordination.{IsSound, histories, reply_over};
+ghost use Rattle.cq_group.specs.Groups.{IsKept, IsQuiet, IsSteady, HasTable, entries_of};
+ghost use Rattle.cq_group.specs.Calls.{next_id, CanCompute, GroupGoesOn, IsStaged};
+ghost use Rattle.cq_routing.specs.Own.{IsOwn};
+ghost use Rattle.cq_cluster.specs.Cluster.{IsSound, KeepsStores, histories};
+ghost use Rattle.cq_coordinator.specs.Coordination.{reply_over, ArePicked, IsInsert, IsEntered, IsOutcome};
+ghost use Rattle.cq_tree.specs.declared.journal.EntryKind.TheVariants as entry_kind;
 
-use crate::coordinator::Coordinator;
-use cq_group::{Capture, GroupState, Staged};
-use cq_point::{EntryKind, Reply, ShardOp};
+use crate::outcome::WriteError;
+use cq_cluster::Cluster;
+use cq_group::{GroupState, Staged};
+use cq_routing::Point;
 use cq_store::Store;
-use cq_tree::Who;
-use cq_value::{NoMemory, Positions, Row, Rows, Value, shard_index, token};
+use cq_tree::{Reply, ShardOp, Who};
+use cq_value::{NoMemory, Rows};
 use std::alloc::Global;
 
-/// Why a write has no entry.
-#[derive(Clone, Copy, Debug, PartialEq, Eq)]
-pub enum WriteError {
-    /// The row ids of the table in its group don't suffice.
-    Ids,
-    Memory,
+/// The rows that a point has in its shard group, of which the group's journal has a Read then.
+///
+/// Errors: want of memory; nothing is entered.
+pub fn read_in<S: Store>(
+    cluster: &mut Cluster<S>,
+    point: &Point<'_>,
+    who: Who,
+) -> Result<Rows, NoMemory>
+    requires sound { IsSound S.state cluster.old }
+    requires own { IsOwn cluster.old.catalog point.now.table point.now.group }
+    ensures rows { IfOk result (ArePicked cluster.old.catalog (histories cluster.old) point.now) }
+    ensures entry { OnOk result (Grows (histories cluster.old) (histories cluster.new) point.now.group (record { who = who; kind = entry_kind.Read })) }
+    ensures err { OnErr result (histories cluster.new ≡ histories cluster.old) }
+    ensures sound { IsSound S.state cluster.new }
+    ensures stores { KeepsStores S.state cluster.old cluster.new }
+    ensures catalog { cluster.new.catalog ≡ cluster.old.catalog }
+{
+    let shard_group = &mut cluster.groups[point.group as usize];
+    match shard_group.pick(who, 0, point.table, point.column, point.value) {
+        Ok(rows) => Ok(rows),
+        Err(_) => Err(NoMemory),
+    }
 }
 
-/// The number of the only table.
-fn only_table(alloc: Global) -> Result<Positions, NoMemory>
-    ensures { IfOk result (λ tables. tables ≡ 0 ∷ []) }
+/// Enters a write that was staged, and gives its reply.
+///
+/// Errors: its row ids didn't suffice; nothing is entered.
+fn settle<S: Store>(
+    group: &mut GroupState<S>,
+    who: Who,
+    op: ShardOp,
+    staged: Staged,
+) -> Result<Reply, WriteError>
+    requires kept { IsKept S.state group.old }
+    requires staged { IsStaged S.state group.old op staged }
+    ensures reply { IfOk result (λ reply. reply_over group.old op ≡ reply) }
+    ensures ids { OnOk result (next_id group.old (table_of op) + length (inserts op) ≤ most_ids) }
+    ensures entry { IfOk result (λ reply. entries_of group.new ≡ entries_of group.old ++ record { who = who; kind = entry_kind.Write op reply } ∷ []) }
+    ensures err { OnErr result (group.new ≡ group.old) }
+    ensures no_ids { OnErr result (staged ≡ Staged.NoIds) }
+    ensures cause { IfErr result (λ e. e ≡ WriteError.Ids) }
+    ensures kept { IsKept S.state group.new }
+    ensures quiet { IsQuiet S.state group.new }
+    ensures goes_on { OnOk result (GroupGoesOn S.state group.old group.new) }
 {
-    let mut tables = Positions::new(alloc);
-    tables.put(0)?;
-    Ok(tables)
-}
-
-/// The rows of a capture of one table.
-fn rows_alone(capture: Capture) -> Rows
-    requires { length capture.tables ≡ 1 }
-    ensures { (table : ℕ) × (capture.tables ≡ (table, result) ∷ []) }
-{
-    let Capture {
-        place: _,
-        node: _,
-        mut tables,
-    } = capture;
-    match tables.pop() {
-        Some((_, rows)) => rows,
-        None => unreachable!(),
+    match staged {
+        Staged::Ready(reply) | Staged::Refused(reply) => {
+            group.commit_write(who, op, reply);
+            Ok(reply)
+        }
+        Staged::NoIds => Err(WriteError::Ids),
     }
 }
 
 /// Makes a write in a group, and gives its reply, with which it is entered in the journal.
 ///
 /// Errors: too few row ids, and want of memory; nothing is entered.
-fn write_in<S: Store>(
+fn enter<S: Store>(
     alloc: Global,
     group: &mut GroupState<S>,
     who: Who,
-    op: &ShardOp,
+    op: ShardOp,
 ) -> Result<Reply, WriteError>
     requires kept { IsKept S.state group.old }
+    requires there { HasTable group.old (table_of op) }
+    requires safe { CanCompute group.old op }
     requires quiet { IsQuiet S.state group.old }
-    requires there { HasTable group.old (table_of op.now) }
-    ensures reply { IfOk result (λ reply. reply_over group.old op.now ≡ reply) }
-    ensures ids { OnOk result (next_id group.old (table_of op.now) + length (inserts op.now) ≤ most_ids) }
-    ensures entry { IfOk result (λ reply. entries_of group.new ≡ entries_of group.old ++ record { who = who; kind = EntryKind.Write op.now reply } ∷ []) }
-    ensures err { OnErr result (entries_of group.new ≡ entries_of group.old) }
-    ensures no_ids { IfErr result (λ e. e ≡ WriteError.Ids → most_ids < next_id group.old (table_of op.now) + length (inserts op.now)) }
+    requires steady { IsSteady S.state group.old }
+    ensures entered { IsEntered who op group.old group.new result }
     ensures kept { IsKept S.state group.new }
     ensures quiet { IsQuiet S.state group.new }
-    ensures same { IsSameGroup group.old group.new }
-    ensures steady { IsSteady S.state group.old → IsSteady S.state group.new }
+    ensures goes_on { GroupGoesOn S.state group.old group.new }
 {
-    let Ok(entered) = op.copy(alloc) else {
-        return Err(WriteError::Memory);
-    };
-    match group.stage_write(alloc, op) {
-        Ok(Staged::Ready(reply)) => {
-            group.commit_write(who, entered, reply);
-            Ok(reply)
-        }
-        Ok(Staged::Refused(reply)) => {
-            group.commit_write(who, entered, reply);
-            Ok(reply)
-        }
-        Ok(Staged::NoIds) => Err(WriteError::Ids),
+    match group.stage_write(alloc, &op) {
+        Ok(staged) => settle(group, who, op, staged),
         Err(_) => Err(WriteError::Memory),
     }
 }
 
-impl<S: Store> Coordinator<S> {
-    /// The place of the group that the value's rows are in.
-    pub fn group_of(&self, value: &Value) -> usize
-        requires sound { IsSound S.state self.now }
-        requires some { 0 < groups_of self.now.catalog }
-        ensures group { result ≡ group_of self.now.catalog value.now }
-        ensures within { result < length self.now.groups.items }
-    {
-        shard_index(self.groups.len() as u32, token(value)) as usize
-    }
-
-    /// The place of a row's group.
-    pub fn home_of(&self, row: &Row) -> usize
-        requires sound { IsSound S.state self.now }
-        requires some { 0 < groups_of self.now.catalog }
-        ensures group { result ≡ home_of self.now.catalog row.now }
-        ensures within { result < length self.now.groups.items }
-    {
-        match row.get(0) {
-            Some(value) => self.group_of(value),
-            None => self.group_of(&Value::Null),
-        }
-    }
-
-    /// The rows of the table in a group, of which the journal has a Read then.
-    ///
-    /// Errors: want of memory; nothing is entered.
-    pub fn read(&mut self, alloc: Global, place: usize, who: Who) -> Result<Rows, NoMemory>
-        requires sound { IsSound S.state self.old }
-        requires there { place < length self.old.groups.items }
-        ensures rows { IfOk result (λ rows. (es : _) → slice_get (histories self.old) place ≡ Some es → rows ≡ rows_of (replay 0 (shape_of self.old.catalog) es)) }
-        ensures entry { OnOk result (Grows (histories self.old) (histories self.new) place (record { who = who; kind = EntryKind.Read })) }
-        ensures err { OnErr result (histories self.new ≡ histories self.old) }
-        ensures sound { IsSound S.state self.new }
-        ensures count { length self.new.groups.items ≡ length self.old.groups.items }
-        ensures catalog { self.new.catalog ≡ self.old.catalog }
-        ensures workers { self.new.workers ≡ self.old.workers }
-    {
-        let table = only_table(alloc)?;
-        let group = &mut self.groups[place];
-        match group.read(alloc, who, 0, &table) {
-            Ok(capture) => Ok(rows_alone(capture)),
-            Err(_) => Err(NoMemory),
-        }
-    }
-
-    /// Makes a write of the table in a group, and gives its reply, with which it is entered in the journal.
-    ///
-    /// Errors: too few row ids, and want of memory; nothing is entered.
-    pub fn write(
-        &mut self,
-        alloc: Global,
-        place: usize,
-        who: Who,
-        op: &ShardOp,
-    ) -> Result<Reply, WriteError>
-        requires sound { IsSound S.state self.old }
-        requires there { place < length self.old.groups.items }
-        requires table { table_of op.now ≡ 0 }
-        ensures reply { IfOk result (λ reply. (es : _) → slice_get (histories self.old) place ≡ Some es → reply_of op.now (rows_of (replay 0 (shape_of self.old.catalog) es)) (shape_of self.old.catalog) ≡ reply) }
-        ensures ids { OnOk result ((es : _) → slice_get (histories self.old) place ≡ Some es → (replay 0 (shape_of self.old.catalog) es).next + length (inserts op.now) ≤ most_ids) }
-        ensures entry { IfOk result (λ reply. Grows (histories self.old) (histories self.new) place (record { who = who; kind = EntryKind.Write op.now reply })) }
-        ensures err { OnErr result (histories self.new ≡ histories self.old) }
-        ensures no_ids { IfErr result (λ e. e ≡ WriteError.Ids → (es : _) → slice_get (histories self.old) place ≡ Some es → most_ids < (replay 0 (shape_of self.old.catalog) es).next + length (inserts op.now)) }
-        ensures sound { IsSound S.state self.new }
-        ensures count { length self.new.groups.items ≡ length self.old.groups.items }
-        ensures catalog { self.new.catalog ≡ self.old.catalog }
-        ensures workers { self.new.workers ≡ self.old.workers }
-    {
-        let group = &mut self.groups[place];
-        write_in(alloc, group, who, op)
-    }
+/// Makes an INSERT into a table in one of its shard groups, and gives its reply, with which it is entered in the group's journal.
+///
+/// Errors: too few row ids, and want of memory; nothing is entered.
+pub fn insert_in<S: Store>(
+    alloc: Global,
+    cluster: &mut Cluster<S>,
+    group: u32,
+    who: Who,
+    op: ShardOp,
+) -> Result<Reply, WriteError>
+    requires sound { IsSound S.state cluster.old }
+    requires own { IsOwn cluster.old.catalog (table_of op) group }
+    requires insert { IsInsert op }
+    ensures outcome { IsOutcome cluster.old.catalog who (histories cluster.old) (histories cluster.new) op group result }
+    ensures sound { IsSound S.state cluster.new }
+    ensures stores { KeepsStores S.state cluster.old cluster.new }
+    ensures catalog { cluster.new.catalog ≡ cluster.old.catalog }
+{
+    let shard_group = &mut cluster.groups[group as usize];
+    enter(alloc, shard_group, who, op)
 }

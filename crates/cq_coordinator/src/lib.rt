@@ -1,11 +1,16 @@
-//! The coordinator: it reads each statement over its catalogue, sends it to the shard group of its row or key, and answers
-//! it.
+//! The coordinator of a run: it answers bound statements, each by the catalogue, by the settings or by one shard group.
 #![tactic(auto)]
 
-mod answers;
+mod answer;
 mod coordinator;
+mod definitions;
 mod groups;
-mod tables;
+mod inserts;
+mod notice;
+mod outcome;
+mod queries;
 
-pub use answers::Response;
 pub use coordinator::Coordinator;
+pub use groups::{insert_in, read_in};
+pub use notice::{Notice, distributed_notice};
+pub use outcome::WriteError;

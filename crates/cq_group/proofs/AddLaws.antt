@@ -1,16 +1,17 @@
 -- A group with one more table, which no entry names.
-use Rattle.std.proofs.Common.{◌≡◌, ◌≢◌, ◌∙◌, ◌⊎◌, ◌+◌, ℕ, zero, suc, ◌<◌, ◌≤◌, Bool, true, false, if◌then◌else◌, nat_eq, IsSome, Option, Some, None, List, [], ◌∷◌, ◌++◌, length, get_or, take, slice_get, map, inl, inr, refl, sym, ap, subst, vec_capacity, length-append, append-nil, arith}
+use Rattle.std.proofs.Common.{◌≡◌, ◌≢◌, eq-eqb, ◌∙◌, ◌+◌, ℕ, zero, suc, ◌<◌, ◌≤◌, Bool, true, false, if◌then◌else◌, nat_eq, IsSome, Option, Some, None, List, [], ◌∷◌, ◌++◌, length, get_or, take, slice_get, map, refl, sym, ap, subst, vec_capacity, length-append, append-nil, arith}
 use Rattle.std.specs.List.{AllByRecursion, flat_map}
-use Rattle.std.proofs.lemmas.Bool.Decides.{eqb_tells}
 use Rattle.std.proofs.lemmas.List.{map-append}
 use Rattle.std.proofs.lemmas.Grind.{flat_map-append}
 use Rattle.cq_value.specs.declared.schema.Shape.{Shape}
 use Rattle.cq_value.specs.Tables.{Table, empty_table}
-use Rattle.cq_point.specs.declared.journal.Entry.{Entry}
-use Rattle.cq_point.specs.declared.journal.EntryKind.{EntryKind}
-use Rattle.cq_point.specs.declared.journal.EntryKind.TheVariants.{Read, Write}
-use Rattle.cq_point_meaning.specs.Effects.{effect, table_of}
-use Rattle.cq_history.specs.Journals.{entered, replay_from, replay, IsReplied, EachReplied}
+use Rattle.cq_tree.specs.declared.journal.Entry.{Entry}
+use Rattle.cq_tree.specs.declared.journal.EntryKind.{EntryKind}
+use Rattle.cq_tree.specs.declared.journal.EntryKind.TheVariants.{Read, Write, MoveStart, CatchUp, Cutover, MoveStop}
+use Rattle.cq_meaning.specs.Effects.{table_of}
+use Rattle.cq_journal.specs.Journals.{replay, IsReplied, EachReplied}
+use Rattle.cq_journal.specs.Laws.{IsNoWriteOf}
+use Rattle.cq_journal.proofs.Replays.{from_others}
 use Rattle.cq_store.specs.Stores.{StoreState}
 use Rattle.cq_group.specs.declared.group.GroupTable.{GroupTable}
 use Rattle.cq_group.specs.declared.group.GroupState.{GroupState}
@@ -21,7 +22,7 @@ use Rattle.cq_group.proofs.PlaceLaws.{not_same}
 use Rattle.cq_group.proofs.GroupLaws.{copies_same}
 
 -- a table that is found is found beside one more, and its shape is the same
-found_more : (os : List Outline) (o : Outline) (table : ℕ) → IsSome (shape_at os table) → shape_at (os ++ o ∷ []) table ≡ shape_at os table
+pub found_more : (os : List Outline) (o : Outline) (table : ℕ) → IsSome (shape_at os table) → shape_at (os ++ o ∷ []) table ≡ shape_at os table
 found_more [] o table h = absurd (cc h)
 found_more (p ∷ os) o table h = by_cases (nat_eq p.0 table) h (found_more os o table)
   where
@@ -30,41 +31,57 @@ found_more (p ∷ os) o table h = by_cases (nat_eq p.0 table) h (found_more os o
     by_cases true h f = refl
     by_cases false h f = f h
 
--- no other table has the new one's number
-apart : (os : List Outline) (table other : ℕ) → shape_at os table ≡ None → IsSome (shape_at os other) → nat_eq other table ≡ false
-apart os table other none some = by_cases (eqb_tells other table)
+-- the new one is found
+pub found_last : (os : List Outline) (o : Outline) → IsSome (shape_at (os ++ o ∷ []) o.0)
+found_last [] o = rw (eq-eqb o.0 o.0 refl) refl
+found_last (p ∷ os) o = by_cases (nat_eq p.0 o.0) (found_last os o)
   where
-    by_cases : ((nat_eq other table ≡ true) × (other ≡ table)) ⊎ ((nat_eq other table ≡ false) × (other ≢ table)) → nat_eq other table ≡ false
-    by_cases (inl same) =
-        let clash : IsSome {T = Shape} None = subst (λ s. IsSome s) (ap (λ n. shape_at os n) same.1 ∙ none) some in
-        absurd (cc clash)
-    by_cases (inr other) = other.0
+    by_cases : (b : Bool) → IsSome (shape_at (os ++ o ∷ []) o.0) → IsSome (if b then Some p.1 else shape_at (os ++ o ∷ []) o.0)
+    by_cases true h = refl
+    by_cases false h = h
 
-entered_unnamed : (os : List Outline) (table : ℕ) (shape : Shape) (t : Table) (kind : EntryKind) → shape_at os table ≡ None → IsNamed os kind → entered table shape t kind ≡ t
-entered_unnamed os table shape t Read none h = refl
-entered_unnamed os table shape t (Write op reply) none h = ap (λ b. if b then effect op t shape else t) (apart os table (table_of op) none h)
+-- no other table has the new one's number
+apart : (os : List Outline) (table other : ℕ) → shape_at os table ≡ None → IsSome (shape_at os other) → other ≢ table
+apart os table other none some same =
+    let clash : IsSome {T = Shape} None = subst (λ s. IsSome s) (ap (λ n. shape_at os n) same ∙ none) some in
+    absurd (cc clash)
 
-replay_unnamed : (os : List Outline) (table : ℕ) (shape : Shape) (t : Table) (es : List Entry) → shape_at os table ≡ None → AllByRecursion (λ (e : Entry). IsNamed os e.kind) es → replay_from table shape t es ≡ t
-replay_unnamed os table shape t [] none h = refl
-replay_unnamed os table shape t (e ∷ es) none h =
-    ap (λ u. replay_from table shape u es) (entered_unnamed os table shape t e.kind none h.0) ∙ replay_unnamed os table shape t es none h.1
+unnamed : (os : List Outline) (table : ℕ) (kind : EntryKind) → shape_at os table ≡ None → IsNamed os kind → IsNoWriteOf table kind
+unnamed os table Read none h = tt
+unnamed os table (Write op reply) none h = apart os table (table_of op) none h
+unnamed os table (MoveStart node) none h = tt
+unnamed os table CatchUp none h = tt
+unnamed os table Cutover none h = tt
+unnamed os table MoveStop none h = tt
+
+replay_unnamed : (os : List Outline) (table : ℕ) (shape : Shape) (es : List Entry) → shape_at os table ≡ None → AllByRecursion (λ (e : Entry). IsNamed os e.kind) es → replay table shape es ≡ empty_table
+replay_unnamed os table shape es none h =
+    from_others table shape empty_table es (all_weaker (λ (e : Entry). IsNamed os e.kind) (λ (e : Entry). IsNoWriteOf table e.kind) (λ e. unnamed os table e.kind none) es h)
 
 named_more : (os : List Outline) (o : Outline) (kind : EntryKind) → IsNamed os kind → IsNamed (os ++ o ∷ []) kind
 named_more os o Read h = tt
 named_more os o (Write op reply) h = subst (λ s. IsSome s) (sym (found_more os o (table_of op) h)) h
+named_more os o (MoveStart node) h = tt
+named_more os o CatchUp h = tt
+named_more os o Cutover h = tt
+named_more os o MoveStop h = tt
 
 replied_beside : (os : List Outline) (o : Outline) (before : List Entry) (kind : EntryKind) → IsNamed os kind → IsReplied (λ table. or_no_shape (shape_at os table)) before kind →
     IsReplied (λ table. or_no_shape (shape_at (os ++ o ∷ []) table)) before kind
 replied_beside os o before Read h r = tt
 replied_beside os o before (Write op reply) h r = subst (λ s. IsReplied (λ table. or_no_shape s) before (Write op reply)) (sym (found_more os o (table_of op) h)) r
+replied_beside os o before (MoveStart node) h r = tt
+replied_beside os o before CatchUp h r = tt
+replied_beside os o before Cutover h r = tt
+replied_beside os o before MoveStop h r = tt
 
-all_got : {X : Type 0} (P : X → Type 0) (xs : List X) (n : ℕ) (x : X) → AllByRecursion P xs → slice_get xs n ≡ Some x → P x
+pub all_got : {X : Type 0} (P : X → Type 0) (xs : List X) (n : ℕ) (x : X) → AllByRecursion P xs → slice_get xs n ≡ Some x → P x
 all_got P [] n x h is = absurd (cc is)
 all_got P (y ∷ ys) zero x h is = subst P (let e : y ≡ x = cc in e) h.0
 all_got P (y ∷ ys) (suc n) x h is = all_got P ys n x h.1 is
 
 -- a table that isn't found isn't the first, nor found in the rest
-none_first : (b : Bool) (x : Shape) (s : Option Shape) → (if b then Some x else s) ≡ None → (b ≡ false) × (s ≡ None)
+pub none_first : (b : Bool) (x : Shape) (s : Option Shape) → (if b then Some x else s) ≡ None → (b ≡ false) × (s ≡ None)
 none_first true x s e = absurd (cc e)
 none_first false x s e = (refl, e)
 
@@ -102,7 +119,7 @@ module _ {X : Type 0} (state : X → StoreState) where
   fresh_kept : (g : GroupState X) (v : GroupTable X) → IsKept state g → shape_at (outlines g) v.table ≡ None → AreFresh state g.node (copies_of g) v.stores.items →
       v.shard ≡ first_shard state v.stores.items → v.next ≡ 0 → IsTableKept state g.node (copies_of g) (entries_of g) v
   fresh_kept g v k none fresh shard next =
-      let e : replay v.table v.shape (entries_of g) ≡ empty_table = replay_unnamed (outlines g) v.table v.shape empty_table (entries_of g) none k.named in
+      let e : replay v.table v.shape (entries_of g) ≡ empty_table = replay_unnamed (outlines g) v.table v.shape (entries_of g) none k.named in
       record {
         numbered = next ∙ ap (λ (t : Table). t.next) (sym e);
         ids = omega (arith, next);

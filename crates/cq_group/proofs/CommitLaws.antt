@@ -1,46 +1,51 @@
 -- A group whose staged write is made.
 use Rattle.std.proofs.Common.{◌≡◌, ◌∙◌, ◌+◌, ℕ, ◌<◌, ◌≤◌, Bool, true, false, if◌then◌else◌, nat_eq, List, [], ◌∷◌, ◌++◌, length, get_or, map, refl, sym, ap, subst, eq-eqb, add-zero, arith}
 use Rattle.std.proofs.Math.ListN.{set}
+use Rattle.std.specs.Prelude.{filter}
 use Rattle.std.specs.List.{AllByRecursion, AllZip}
 use Rattle.std.proofs.lemmas.List.Elements.{length_all_zip}
-use Rattle.cq_value.specs.declared.value.Value.{Value}
 use Rattle.cq_value.specs.declared.schema.Shape.{Shape}
 use Rattle.cq_value.specs.Tables.{Table, rows_of}
 use Rattle.cq_tree.specs.declared.journal.Who.{Who}
-use Rattle.cq_point.specs.declared.journal.Entry.{Entry}
-use Rattle.cq_point.specs.declared.journal.EntryKind.TheVariants.{Write}
-use Rattle.cq_point.specs.declared.journal.Reply.{Reply}
-use Rattle.cq_point.specs.declared.journal.Reply.TheVariants.{Count, Duplicate}
-use Rattle.cq_point.specs.declared.journal.ShardOp.{ShardOp}
-use Rattle.cq_point.specs.declared.journal.ShardOp.TheVariants.{Insert}
-use Rattle.cq_point_meaning.specs.Effects.{effect, reply_of, repeats, table_of, inserts, with_rows}
-use Rattle.cq_history.specs.Journals.{replay}
+use Rattle.cq_tree.specs.declared.journal.Entry.{Entry}
+use Rattle.cq_tree.specs.declared.journal.EntryKind.TheVariants.{Write}
+use Rattle.cq_tree.specs.declared.write.Reply.{Reply}
+use Rattle.cq_tree.specs.declared.write.Reply.TheVariants.{Count, Duplicate, OutOfRange}
+use Rattle.cq_tree.specs.declared.write.ShardOp.{ShardOp}
+use Rattle.cq_tree.specs.declared.write.ShardOp.TheVariants.{Insert, Update, Remove}
+use Rattle.cq_meaning.specs.Effects.{effect, reply_of, repeats, table_of, inserts, with_rows, fit_kinds, updates, renewed, is_kept}
+use Rattle.cq_journal.specs.Journals.{replay}
 use Rattle.cq_store.specs.Stores.{StoreState}
 use Rattle.cq_group.specs.declared.group.GroupTable.{GroupTable}
 use Rattle.cq_group.specs.declared.group.GroupState.{GroupState}
 use Rattle.cq_group.specs.Groups.{entries_of, stores_of, or_no_shape, shapes, copies_of, AreReplicasFrom, IsTableKept, IsKept, IsTableQuiet, IsStagedIn, IsTableStaged, IsReady}
-use Rattle.cq_group.specs.Calls.{Commits, GoesOn, Lifted, IsSameTable, GroupGoesOn, count_of}
+use Rattle.cq_group.specs.Calls.{Commits, GoesOn, Lifted, IsSameTable, GroupGoesOn, ids_taken}
 use Rattle.cq_group.proofs.Zips.{zip_refl, zip_set, zip_weaker}
 use Rattle.cq_group.proofs.Turns.{keeps, keeps_go_on, commits_go_on}
-use Rattle.cq_group.proofs.JournalLaws.{replay_more}
+use Rattle.cq_journal.proofs.Replays.{replay_more}
 use Rattle.cq_group.proofs.PlaceLaws.{all_at, set_where, not_same}
 use Rattle.cq_group.proofs.GroupLaws.{outlines_same, stores_zip, table_unmoved, kept_more, group_goes_on}
-use Rattle.cq_group.proofs.WriteLaws.{kept_at, shape_found, replay_found, next_found, there}
+use Rattle.cq_group.proofs.WriteLaws.{kept_at, shape_found, replay_found, next_found}
 
 -- the rows that a reply counts are those that the write adds
-effect_next : (op : ShardOp) (t : Table) (shape : Shape) → t.next + count_of (reply_of op (rows_of t) shape) ≡ (effect op t shape).next
+effect_next : (op : ShardOp) (t : Table) (shape : Shape) → t.next + ids_taken op (reply_of op t shape) ≡ (effect op t shape).next
 effect_next (Insert table rows) t shape = by_cases (repeats shape.key (rows_of t) rows)
   where
-    by_cases : (b : Bool) → t.next + count_of (if b then Duplicate else Count (length rows)) ≡ (if b then t else with_rows t rows).next
+    by_cases : (b : Bool) → t.next + ids_taken (Insert table rows) (if b then Duplicate else Count (length rows)) ≡ (if b then t else with_rows t rows).next
     by_cases true = add-zero t.next
     by_cases false = refl
-
-pub count_low : (op : ShardOp) (rows : List (List Value)) (shape : Shape) → count_of (reply_of op rows shape) ≤ length (inserts op)
-count_low (Insert table rows) there shape = by_cases (repeats shape.key there rows)
+effect_next (Update table filter_ sets) t shape = by_cases (fit_kinds shape.kinds (updates filter_ sets t.pairs))
   where
-    by_cases : (b : Bool) → count_of (if b then Duplicate else Count (length rows)) ≤ length rows
-    by_cases true = omega arith
-    by_cases false = omega arith
+    by_cases : (b : Bool) → t.next + ids_taken (Update table filter_ sets) (if b then Count (length (filter (is_kept filter_) t.pairs)) else OutOfRange)
+        ≡ (if b then record { next = t.next; pairs = map (renewed filter_ sets) t.pairs } else t).next
+    by_cases true = add-zero t.next
+    by_cases false = add-zero t.next
+effect_next (Remove table filter_) t shape = add-zero t.next
+
+taken_low : (op : ShardOp) (reply : Reply) → ids_taken op reply ≤ length (inserts op)
+taken_low op (Count n) = omega arith
+taken_low op Duplicate = omega arith
+taken_low op OutOfRange = omega arith
 
 module _ {X : Type 0} (state : X → StoreState) (op : ShardOp) (reply : Reply) (who : Who) where
   abbrev pub entry : Entry
@@ -68,14 +73,14 @@ module _ {X : Type 0} (state : X → StoreState) (op : ShardOp) (reply : Reply) 
   )
 
   table_made : (node copies : ℕ) (es : List Entry) (t u : GroupTable X) → IsTableKept state node copies es t → t.table ≡ table_of op →
-      reply ≡ reply_of op (rows_of (replay t.table t.shape es)) t.shape → t.next + length (inserts op) ≤ 4294967296 → AllByRecursion (λ (x : X). IsStagedIn true op t.shape (state x)) t.stores.items →
-      IsSameTable (Lifted state Commits) t u → u.next ≡ t.next + count_of reply → IsTableKept state node copies (es ++ entry ∷ []) u
+      reply ≡ reply_of op (replay t.table t.shape es) t.shape → t.next + length (inserts op) ≤ 4294967296 → AllByRecursion (λ (x : X). IsStagedIn true op t.shape (state x)) t.stores.items →
+      IsSameTable (Lifted state Commits) t u → u.next ≡ t.next + ids_taken op reply → IsTableKept state node copies (es ++ entry ∷ []) u
   table_made node copies es t u h named replied ids staged same next =
       let more = es ++ entry ∷ [] in
       let made : (replay t.table t.shape more).next ≡ u.next =
       ap (λ (v : Table). v.next) (replay_here es t named) ∙ sym (effect_next op (replay t.table t.shape es) t.shape)
-      ∙ (λ i. sym h.numbered i + count_of (sym replied i)) ∙ sym next in
-      let low : count_of reply ≤ length (inserts op) = subst (λ r. count_of r ≤ length (inserts op)) (sym replied) (count_low op (rows_of (replay t.table t.shape es)) t.shape) in
+      ∙ (λ i. sym h.numbered i + ids_taken op (sym replied i)) ∙ sym next in
+      let low = taken_low op reply in
       record {
         numbered = sym (subst (λ a. (replay a u.shape more).next ≡ u.next) (sym same.table) (subst (λ b. (replay t.table b more).next ≡ u.next) (sym same.shape) made));
         ids = omega (arith, next, low, ids);
@@ -103,16 +108,16 @@ module _ {X : Type 0} (state : X → StoreState) (op : ShardOp) (reply : Reply) 
     pub ids_here : t.next + length (inserts op) ≤ 4294967296
     ids_here = subst (λ n. n + length (inserts op) ≤ 4294967296) (sym (next_found state g k place (table_of op) t within is named)) r.ids
 
-    replied_here : reply ≡ reply_of op (rows_of (replay t.table t.shape (entries_of g))) t.shape
+    replied_here : reply ≡ reply_of op (replay t.table t.shape (entries_of g)) t.shape
     replied_here =
-        let moved : reply_of op (rows_of (replay (table_of op) (shapes g (table_of op)) (entries_of g))) (shapes g (table_of op)) ≡ reply_of op (rows_of (replay t.table t.shape (entries_of g))) t.shape =
-        λ i. reply_of op (rows_of (replay_found state g k place (table_of op) t within is named i)) (or_no_shape (shape_found state g k place (table_of op) t within is named i)) in
+        let moved : reply_of op (replay (table_of op) (shapes g (table_of op)) (entries_of g)) (shapes g (table_of op)) ≡ reply_of op (replay t.table t.shape (entries_of g)) t.shape =
+        λ i. reply_of op (replay_found state g k place (table_of op) t within is named i) (or_no_shape (shape_found state g k place (table_of op) t within is named i)) in
         r.replied ∙ moved
 
     -- the next id stays within bounds
-    pub counted : t.next + count_of reply ≤ 4294967296
+    pub counted : t.next + ids_taken op reply ≤ 4294967296
     counted =
-        let low : count_of reply ≤ length (inserts op) = subst (λ q. count_of q ≤ length (inserts op)) (sym replied_here) (count_low op (rows_of (replay t.table t.shape (entries_of g))) t.shape) in
+        let low = taken_low op reply in
         omega (arith, low, ids_here)
 
     staged_here : AllByRecursion (λ (x : X). IsStagedIn true op t.shape (state x)) t.stores.items
@@ -125,7 +130,7 @@ module _ {X : Type 0} (state : X → StoreState) (op : ShardOp) (reply : Reply) 
         (λ v other staged. subst (λ b. AllByRecursion (λ (x : X). IsStagedIn b op v.shape (state x)) v.stores.items) other staged)
         g.tables.items place t u k.distinct within is named r.staged (quiet_made t u same)
 
-    module _ (h : GroupState X) (u : GroupTable X) (same : IsSameTable (Lifted state Commits) t u) (next : u.next ≡ t.next + count_of reply) (node : h.node ≡ g.node) (nodes : h.nodes ≡ g.nodes)
+    module _ (h : GroupState X) (u : GroupTable X) (same : IsSameTable (Lifted state Commits) t u) (next : u.next ≡ t.next + ids_taken op reply) (node : h.node ≡ g.node) (nodes : h.nodes ≡ g.nodes)
         (tables : h.tables.items ≡ set g.tables.items place u) where
       go_on : (x : X) → Lifted state GoesOn x x
       go_on x = keeps_go_on (state x) (state x) (keeps (state x))

@@ -4,10 +4,10 @@ use Rattle.std.specs.List.{AllZip, AllByRecursion, flat_map}
 use Rattle.std.proofs.lemmas.List.Elements.{length_all_zip}
 use Rattle.cq_value.specs.declared.schema.Shape.{Shape}
 use Rattle.cq_value.specs.Tables.{Table, rows_of}
-use Rattle.cq_point.specs.declared.journal.Entry.{Entry}
+use Rattle.cq_tree.specs.declared.journal.Entry.{Entry}
 use Rattle.cq_tree.specs.declared.journal.Who.{Who}
-use Rattle.cq_point.specs.declared.journal.EntryKind.TheVariants.{Read}
-use Rattle.cq_history.specs.Journals.{replay, IsReplied, EachReplied}
+use Rattle.cq_tree.specs.declared.journal.EntryKind.TheVariants.{Read}
+use Rattle.cq_journal.specs.Journals.{replay, IsReplied, EachReplied}
 use Rattle.cq_store.specs.Stores.{StoreState}
 use Rattle.cq_group.specs.declared.group.GroupError.{GroupError}
 use Rattle.cq_group.specs.declared.group.GroupError.TheVariants.{Worker, Memory}
@@ -17,7 +17,7 @@ use Rattle.cq_group.specs.Groups.{entries_of, stores_of, outline, outlines, shap
 use Rattle.cq_group.specs.Calls.{Rests, KeepsRows, GoesOn, Failed, Lifted, Blames, IsSameTable, IsRestingTable, IsSameBut, GroupGoesOn, captured}
 use Rattle.cq_group.proofs.Zips.{zip_trans, zip_weaker, zip_flat, all_along, some_not, all_weaker, all_push, all_append}
 use Rattle.cq_group.proofs.TableLaws.{table_trans, table_weaker, quiet_rested}
-use Rattle.cq_group.proofs.JournalLaws.{replay_more, replied_more}
+use Rattle.cq_journal.proofs.Replays.{replay_more, replied_more}
 use Rattle.std.proofs.lemmas.Bool.{false≢true}
 
 pub outline_same : {X : Type 0} (R : X → X → Type 0) (t u : GroupTable X) → IsSameTable R t u → outline u ≡ outline t

@@ -3,10 +3,11 @@ pub mod Zips
 pub mod Turns
 pub mod Staging
 pub mod TableLaws
-pub mod JournalLaws
 pub mod GroupLaws
 pub mod PlaceLaws
 pub mod ReadLaws
 pub mod WriteLaws
 pub mod CommitLaws
 pub mod AddLaws
+pub mod DropLaws
+pub mod Cases

@@ -6,9 +6,9 @@ use Rattle.std.proofs.lemmas.Bool.{false≢true}
 use Rattle.std.proofs.lemmas.Bool.Decides.{eqb_tells}
 use Rattle.cq_value.specs.declared.value.Value.{Value}
 use Rattle.cq_value.specs.declared.schema.Shape.{Shape}
-use Rattle.cq_value.specs.Tables.{rows_of}
-use Rattle.cq_point.specs.declared.journal.Entry.{Entry}
-use Rattle.cq_history.specs.Journals.{replay}
+use Rattle.cq_value.specs.Tables.{Table}
+use Rattle.cq_tree.specs.declared.journal.Entry.{Entry}
+use Rattle.cq_journal.specs.Journals.{replay}
 use Rattle.cq_store.specs.Stores.{StoreState}
 use Rattle.cq_group.specs.declared.group.GroupError.{GroupError}
 use Rattle.cq_group.specs.declared.group.GroupError.TheVariants.{Worker, Memory}
@@ -92,12 +92,12 @@ pub table_refl : {X : Type 0} (R : X → X → Type 0) → ((x : X) → R x x) �
 table_refl R r t = record { same = record { table = refl; shape = refl; shard = refl; stores = zip_refl R r t.stores.items }; next = refl }
 
 module _ {X : Type 0} (state : X → StoreState) where
-  -- the rows of a store of the table
-  pub replica_rows : (first node : ℕ) (es : List Entry) (table : ℕ) (shape : Shape) (shard : ℕ) (xs : List X) (place : ℕ) (rows : List (List Value)) →
-      AreReplicasFrom first node es table shape shard (map state xs) → place < length xs → HoldsAt (λ x. rows ≡ rows_of (state x).rows) xs place → rows ≡ rows_of (replay table shape es)
-  replica_rows first node es table shape shard [] place rows h low k = absurd (omega arith)
-  replica_rows first node es table shape shard (x ∷ xs) zero rows h low k = k x ∙ ap rows_of h.0.holds
-  replica_rows first node es table shape shard (x ∷ xs) (suc place) rows h low k = replica_rows (first + 1) node es table shape shard xs place rows h.1 (omega arith) k
+  -- what f gives of the rows of a store of the table
+  pub replica_rows : (f : Table → List (List Value)) (first node : ℕ) (es : List Entry) (table : ℕ) (shape : Shape) (shard : ℕ) (xs : List X) (place : ℕ) (rows : List (List Value)) →
+      AreReplicasFrom first node es table shape shard (map state xs) → place < length xs → HoldsAt (λ x. rows ≡ f (state x).rows) xs place → rows ≡ f (replay table shape es)
+  replica_rows f first node es table shape shard [] place rows h low k = absurd (omega arith)
+  replica_rows f first node es table shape shard (x ∷ xs) zero rows h low k = k x ∙ ap f h.0.holds
+  replica_rows f first node es table shape shard (x ∷ xs) (suc place) rows h low k = replica_rows f (first + 1) node es table shape shard xs place rows h.1 (omega arith) k
 
   go_on : (x : X) → Lifted state GoesOn x x
   go_on x = keeps_go_on (state x) (state x) (keeps (state x))

@@ -1,15 +1,20 @@
 -- Reads of a group's tables, one after another.
-use Rattle.std.proofs.Common.{◌≡◌, ◌∙◌, ℕ, ◌+◌, ◌<◌, IsSome, List, [], ◌∷◌, ◌++◌, map, take, get_or, length, ap, subst, sym, refl}
+use Rattle.std.proofs.Common.{◌≡◌, ◌∙◌, ℕ, ◌+◌, ◌<◌, IsSome, List, [], ◌∷◌, ◌++◌, map, take, get_or, length, ap, subst, sym, refl, zero-add}
 use Rattle.std.proofs.lemmas.List.{map_more}
+use Rattle.std.specs.List.{HoldsAt}
+use Rattle.cq_value.specs.declared.value.Value.{Value}
+use Rattle.cq_value.specs.Tables.{Table}
+use Rattle.cq_journal.specs.Journals.{replay}
 use Rattle.cq_store.specs.Stores.{StoreState}
 use Rattle.cq_group.specs.declared.group.GroupError.{GroupError}
 use Rattle.cq_group.specs.declared.group.GroupState.{GroupState}
-use Rattle.cq_group.specs.Groups.{stores_of, shape_at, HasTable, IsKept, IsQuiet}
-use Rattle.cq_group.specs.Calls.{Rests, KeepsRows, Lifted, Blames, IsSameBut, IsRestingTable, GroupGoesOn, captured}
+use Rattle.cq_group.specs.declared.group.GroupTable.{GroupTable}
+use Rattle.cq_group.specs.Groups.{stores_of, entries_of, copies_of, shapes, shape_at, or_no_shape, node_at, HasTable, IsKept, IsTableKept, IsQuiet}
+use Rattle.cq_group.specs.Calls.{Rests, KeepsRows, Lifted, Blames, IsOn, IsSameBut, IsRestingTable, GroupGoesOn, captured}
 use Rattle.cq_group.proofs.Zips.{zip_refl}
 use Rattle.cq_group.proofs.Turns.{rests, rests_keep, rests_more, rests_go_on}
 use Rattle.cq_group.proofs.TableLaws.{blames_later, rested_go_on}
-use Rattle.cq_group.proofs.PlaceLaws.{table_refl}
+use Rattle.cq_group.proofs.PlaceLaws.{table_refl, all_at, found_shape, replica_rows, replica_node}
 use Rattle.cq_group.proofs.GroupLaws.{group_trans, group_weaker, kept_along, outlines_along, captured_along, stores_zip, resting_same, goes_on_but, same_with, quiet_along}
 
 -- one more table was read
@@ -19,6 +24,25 @@ captures_more f tables n seen y low s is =
     (λ i. s i ++ is i ∷ []) ∙ sym (map_more f tables n 0 low)
 
 module _ {X : Type 0} (state : X → StoreState) where
+  -- what f gives of the rows of a table's store, it gives of those that the entries leave of the table
+  pub rows_found : (f : Table → List (List Value)) (g : GroupState X) (place table copy : ℕ) (t : GroupTable X) (rows : List (List Value)) → IsKept state g →
+      place < length g.tables.items → t ≡ get_or g.tables.items place t → t.table ≡ table → copy < copies_of g →
+      HoldsAt (λ x. rows ≡ f (state x).rows) t.stores.items copy → rows ≡ f (replay table (shapes g table) (entries_of g))
+  rows_found f g place table copy t rows k low is number near h =
+      let found = found_shape g.tables.items place table t k.distinct low is number in
+      let kept = all_at (IsTableKept state g.node (copies_of g) (entries_of g)) g.tables.items place t k.tables low is in
+      let here = replica_rows state f 0 g.node (entries_of g) t.table t.shape t.shard t.stores.items copy rows kept.replicas (subst (λ n. copy < n) (sym kept.complete) near) h in
+      subst (λ shape. rows ≡ f (replay table shape (entries_of g))) (ap or_no_shape (sym found))
+      (subst (λ n. rows ≡ f (replay n t.shape (entries_of g))) number here)
+
+  -- an error of a table's store is on the node of the store's place
+  pub node_found : (g : GroupState X) (place copy : ℕ) (t : GroupTable X) (e : GroupError) → IsKept state g → place < length g.tables.items → t ≡ get_or g.tables.items place t → copy < copies_of g →
+      HoldsAt (λ x. IsOn (state x).node e) t.stores.items copy → IsOn (node_at g.node copy) e
+  node_found g place copy t e k low is near h =
+      let kept = all_at (IsTableKept state g.node (copies_of g) (entries_of g)) g.tables.items place t k.tables low is in
+      subst (λ n. IsOn (node_at g.node n) e) (zero-add copy)
+      (replica_node state 0 g.node (entries_of g) t.table t.shape t.shard t.stores.items copy e kept.replicas (subst (λ n. copy < n) (sym kept.complete) near) h)
+
   pub rested_none : (g : GroupState X) → IsSameBut (Lifted state Rests) g g
   rested_none g = record {
     node = refl;

@@ -1,13 +1,19 @@
 -- The stores of one table, call after call.
-use Rattle.std.proofs.Common.{◌≡◌, ◌∙◌, ℕ, ◌<◌, List, [], ◌∷◌, length, get_or, inl, inr, sym, ap, subst, true, arith}
+use Rattle.std.proofs.Common.{◌≡◌, ◌∙◌, ◌⊎◌, ℕ, ◌<◌, List, [], ◌∷◌, length, get_or, inl, inr, sym, ap, subst, true, arith}
 use Rattle.std.proofs.Math.ListN.{set}
 use Rattle.std.specs.List.{AllZip, AllByRecursion, HoldsAt}
 use Rattle.cq_value.specs.declared.schema.Shape.{Shape}
 use Rattle.cq_value.specs.declared.change.Change.{Change}
 use Rattle.cq_value.specs.Tables.{Table}
 use Rattle.cq_value.specs.Changes.{applied, Fit}
-use Rattle.cq_point.specs.declared.journal.ShardOp.{ShardOp}
-use Rattle.cq_point_meaning.specs.Effects.{effect}
+use Rattle.cq_tree.specs.declared.write.ShardOp.{ShardOp}
+use Rattle.cq_tree.specs.declared.write.Reply.{Reply}
+use Rattle.cq_tree.specs.declared.write.Reply.TheVariants.{Duplicate, OutOfRange}
+use Rattle.cq_meaning.specs.Effects.{effect}
+use Rattle.cq_engine.specs.declared.write.Effect.{Effect}
+use Rattle.cq_engine.specs.WriteEffects.{IsEffect}
+use Rattle.cq_journal.specs.Replies.{IsRefusal}
+use Rattle.cq_journal.proofs.Replies.{refused}
 use Rattle.cq_store.specs.Stores.{StoreState}
 use Rattle.cq_group.specs.declared.group.GroupError.{GroupError}
 use Rattle.cq_group.specs.declared.group.GroupError.TheVariants.{Worker, Memory}
@@ -33,6 +39,14 @@ table_weaker R S f t u h = record {
   same = record { table = h.same.table; shape = h.same.shape; shard = h.same.shard; stores = zip_weaker R S f t.stores.items u.stores.items h.same.stores };
   next = h.next;
 }
+
+pub is_refusal : (reply : Reply) → (reply ≡ Duplicate) ⊎ (reply ≡ OutOfRange) → IsRefusal reply
+is_refusal reply (inl e) = subst IsRefusal (sym e) tt
+is_refusal reply (inr e) = subst IsRefusal (sym e) tt
+
+-- a refused write has no changes
+pub refused_changes : (op : ShardOp) (t : Table) (shape : Shape) (made : Effect) → IsEffect op t shape made → IsRefusal made.reply → made.changes ≡ []
+refused_changes op t shape made h refusal = h.listed ∙ (refused op t shape (subst IsRefusal h.replied refusal)).1
 
 module _ {X : Type 0} (state : X → StoreState) where
   -- one store was called

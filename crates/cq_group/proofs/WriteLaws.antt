@@ -3,12 +3,12 @@ use Rattle.std.proofs.Common.{◌≡◌, ◌∙◌, ◌+◌, ℕ, ◌<◌, ◌�
 use Rattle.std.proofs.Math.ListN.{set}
 use Rattle.std.specs.List.{AllByRecursion, AllZip}
 use Rattle.cq_value.specs.declared.schema.Shape.{Shape}
-use Rattle.cq_value.specs.Tables.{Table, rows_of}
-use Rattle.cq_point.specs.declared.journal.Entry.{Entry}
-use Rattle.cq_point.specs.declared.journal.Reply.{Reply}
-use Rattle.cq_point.specs.declared.journal.ShardOp.{ShardOp}
-use Rattle.cq_point_meaning.specs.Effects.{reply_of, table_of, inserts}
-use Rattle.cq_history.specs.Journals.{replay}
+use Rattle.cq_value.specs.Tables.{Table}
+use Rattle.cq_tree.specs.declared.journal.Entry.{Entry}
+use Rattle.cq_tree.specs.declared.write.Reply.{Reply}
+use Rattle.cq_tree.specs.declared.write.ShardOp.{ShardOp}
+use Rattle.cq_meaning.specs.Effects.{reply_of, table_of, inserts}
+use Rattle.cq_journal.specs.Journals.{replay}
 use Rattle.cq_store.specs.Stores.{StoreState}
 use Rattle.cq_group.specs.declared.group.GroupTable.{GroupTable}
 use Rattle.cq_group.specs.declared.group.GroupState.{GroupState}
@@ -87,6 +87,10 @@ module _ {X : Type 0} (state : X → StoreState) where
     pub next_found : t.next ≡ next_id g number
     next_found = kept_at.numbered ∙ ap (λ (u : Table). u.next) (sym replay_found)
 
+    -- its first store holds what the entries leave
+    pub rows_found : first_rows state t.stores.items ≡ replay number (shapes g number) (entries_of g)
+    rows_found = first_is g.node (copies_of g) (entries_of g) t kept_at ∙ sym replay_found
+
     pub there : HasTable g number
     there = subst (λ o. IsSome o) (sym shape_found) refl
 
@@ -111,7 +115,7 @@ module _ {X : Type 0} (state : X → StoreState) where
 
     -- the staged write is ready
     pub ready : (h : GroupState X) (op : ShardOp) (u : GroupTable X) (reply : Reply) → table_of op ≡ number → IsQuiet state g → IsRestingTable (Lifted state KeepsRows) t u →
-        AllByRecursion (λ (x : X). IsStagedIn true op t.shape (state x)) u.stores.items → reply ≡ reply_of op (rows_of (first_rows state t.stores.items)) t.shape →
+        AllByRecursion (λ (x : X). IsStagedIn true op t.shape (state x)) u.stores.items → reply ≡ reply_of op (first_rows state t.stores.items) t.shape →
         next_id g number + length (inserts op) ≤ 4294967296 → IsSameBut (Lifted state KeepsRows) g h → h.tables.items ≡ set g.tables.items place u → entries_of h ≡ entries_of g → 0 < h.journal.entries.room →
         IsReady state h op reply
     ready h op u reply e q r s replied ids same tables entries room =
@@ -120,9 +124,9 @@ module _ {X : Type 0} (state : X → StoreState) where
         let moved : shape_at (outlines h) (table_of op) ≡ shape_at (outlines g) number = λ i. shape_at (os i) (e i) in
         let shape : shapes h (table_of op) ≡ t.shape = ap or_no_shape (moved ∙ shape_found) in
         let rows : first_rows state t.stores.items ≡ replay (table_of op) (shapes h (table_of op)) (entries_of h) =
-        first_is g.node (copies_of g) (entries_of g) t kept_at ∙ sym replay_found ∙ sym held in
-        let expected : reply_of op (rows_of (first_rows state t.stores.items)) t.shape ≡ reply_of op (rows_of (replay (table_of op) (shapes h (table_of op)) (entries_of h))) (shapes h (table_of op)) =
-        λ i. reply_of op (rows_of (rows i)) (sym shape i) in
+        rows_found ∙ sym held in
+        let expected : reply_of op (first_rows state t.stores.items) t.shape ≡ reply_of op (replay (table_of op) (shapes h (table_of op)) (entries_of h)) (shapes h (table_of op)) =
+        λ i. reply_of op (rows i) (sym shape i) in
         record {
           room = room;
           there = subst (λ o. IsSome o) (sym moved) there;

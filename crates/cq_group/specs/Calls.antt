@@ -5,12 +5,15 @@ use Rattle.cq_value.specs.declared.change.Change.{Change}
 use Rattle.cq_value.specs.declared.value.Value.{Value}
 use Rattle.cq_value.specs.Tables.{Table, empty_table, rows_of}
 use Rattle.cq_value.specs.Changes.{applied, Fit}
-use Rattle.cq_point.specs.declared.journal.ShardOp.{ShardOp}
-use Rattle.cq_point_meaning.specs.Effects.{inserts}
-use Rattle.cq_history.specs.Journals.{replay}
+use Rattle.cq_tree.specs.declared.write.ShardOp.{ShardOp}
+use Rattle.cq_meaning.specs.Effects.{inserts, table_of, IsSafeWrite}
+use Rattle.cq_journal.specs.Journals.{replay}
+use Rattle.cq_journal.specs.Replies.{IsMade, IsRefusal}
 use Rattle.cq_store.specs.Stores.{StoreState, Becomes, Rose}
-use Rattle.cq_point.specs.declared.journal.Reply.{Reply}
-use Rattle.cq_point.specs.declared.journal.Reply.TheVariants.{Count, Duplicate}
+use Rattle.cq_store.specs.declared.store.StoreError.{StoreError}
+use Rattle.cq_store.specs.declared.store.StoreError.TheVariants as call
+use Rattle.cq_tree.specs.declared.write.Reply.{Reply}
+use Rattle.cq_tree.specs.declared.write.Reply.TheVariants.{Count, Duplicate, OutOfRange}
 use Rattle.cq_group.specs.Groups.{stores_of, IsTableQuiet, IsQuiet, IsReady, IsSameGroup, IsSteady, shapes, entries_of}
 use Rattle.cq_group.specs.declared.group.GroupError.{GroupError}
 use Rattle.cq_group.specs.declared.group.GroupError.TheVariants.{Worker, Memory}
@@ -30,6 +33,10 @@ Discards old new = Becomes old (record old { staged = [] }) new
 -- the staged changes are made
 abbrev pub Commits : StoreState → StoreState → Type 0
 Commits old new = Becomes old (record old { rows = applied old.rows old.staged; staged = [] }) new
+
+-- the store is spare again
+abbrev pub Releases : StoreState → StoreState → Type 0
+Releases old new = Becomes old (record old { shard = 0; rows = empty_table; staged = [] }) new
 
 -- these changes are staged
 abbrev pub Stages : List Change → StoreState → StoreState → Type 0
@@ -92,6 +99,11 @@ abbrev pub Blames : {X : Type 0} → (X → StoreState) → GroupError → List 
 Blames state Memory old new = ⊤
 Blames state (Worker node shard before after) old new = SomeZip (Lifted state (Failed node shard before after)) old new
 
+-- what an error of a call on a store tells: which store failed, and how its count of faults rose
+abbrev pub error_told : ℕ → StoreState → StoreError → GroupError
+error_told before s call.Failed = Worker s.node s.shard before s.faults
+error_told before s call.Memory = Memory
+
 -- changes can be staged in a store: it keeps a shard, nothing is staged, and they fit its rows
 pub record Takes (changes : List Change) (s : StoreState) : Type 0 where
   pub shard : 0 < s.shard
@@ -115,11 +127,15 @@ captured g table = (table, rows_of (replay table (shapes g table) (entries_of g)
 abbrev pub next_id : {X : Type 0} → GroupState X → ℕ → ℕ
 next_id g table = (replay table (shapes g table) (entries_of g)).next
 
--- what staging a write came to: it is ready and counts its rows, or it is refused, or its ids don't suffice; nothing is
--- staged for a write that isn't made
+-- a group's tables can compute a write: over each row that the entries leave of its table
+abbrev pub CanCompute : {X : Type 0} → GroupState X → ShardOp → Type 0
+CanCompute g op = IsSafeWrite op (replay (table_of op) (shapes g (table_of op)) (entries_of g)).pairs
+
+-- what staging a write came to: it is made and ready, or it is refused, or its ids don't suffice; nothing is staged for a
+-- write that isn't made
 abbrev pub IsStaged : {X : Type 0} → (X → StoreState) → GroupState X → ShardOp → Staged → Type 0
-IsStaged state g op (Ready reply) = (reply ≡ Count (length (inserts op))) × IsReady state g op reply
-IsStaged state g op (Refused reply) = (reply ≡ Duplicate) × IsReady state g op reply × IsQuiet state g
+IsStaged state g op (Ready reply) = IsMade reply × IsReady state g op reply
+IsStaged state g op (Refused reply) = IsRefusal reply × IsReady state g op reply × IsQuiet state g
 IsStaged state g op NoIds = IsQuiet state g
 
 -- the rows of the first store
@@ -135,10 +151,11 @@ pub record AreAlike {X : Type 0} (state : X → StoreState) (t : GroupTable X) :
   pub rows : AllByRecursion (λ (x : X). (state x).rows ≡ first_rows state t.stores.items) t.stores.items
   pub nothing : IsTableQuiet state t
 
--- how many rows a reply counts
-abbrev pub count_of : Reply → ℕ
-count_of (Count n) = n
-count_of Duplicate = 0
+-- how many row ids a write takes that is replied so
+abbrev pub ids_taken : ShardOp → Reply → ℕ
+ids_taken op (Count n) = length (inserts op)
+ids_taken op Duplicate = 0
+ids_taken op OutOfRange = 0
 
 -- the first n elements are related to what they became, and the others are as before
 pub record IsThrough {X : Type 0} (R : X → X → Type 0) (n : ℕ) (xs ys : List X) : Type 0 where

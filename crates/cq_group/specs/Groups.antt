@@ -2,15 +2,14 @@
 use Rattle.std.specs.Prelude.{◌≡◌, ◌+◌, ◌<◌, ◌≤◌, ℕ, ⊤, IsTrue, Bool, true, false, List, [], ◌∷◌, length, map, nat_eq, if◌then◌else◌, IsSome, Option, Some, None, vec_capacity}
 use Rattle.std.specs.List.{AllByRecursion, flat_map}
 use Rattle.cq_value.specs.declared.schema.Shape.{Shape}
-use Rattle.cq_value.specs.Tables.{rows_of}
 use Rattle.cq_value.specs.Changes.{applied}
-use Rattle.cq_point.specs.declared.journal.Entry.{Entry}
-use Rattle.cq_point.specs.declared.journal.EntryKind.{EntryKind}
-use Rattle.cq_point.specs.declared.journal.EntryKind.TheVariants.{Read, Write}
-use Rattle.cq_point.specs.declared.journal.Reply.{Reply}
-use Rattle.cq_point.specs.declared.journal.ShardOp.{ShardOp}
-use Rattle.cq_point_meaning.specs.Effects.{effect, reply_of, table_of, inserts}
-use Rattle.cq_history.specs.Journals.{replay, EachReplied}
+use Rattle.cq_tree.specs.declared.journal.Entry.{Entry}
+use Rattle.cq_tree.specs.declared.journal.EntryKind.{EntryKind}
+use Rattle.cq_tree.specs.declared.journal.EntryKind.TheVariants.{Read, Write, MoveStart, CatchUp, Cutover, MoveStop}
+use Rattle.cq_tree.specs.declared.write.Reply.{Reply}
+use Rattle.cq_tree.specs.declared.write.ShardOp.{ShardOp}
+use Rattle.cq_meaning.specs.Effects.{effect, reply_of, table_of, inserts}
+use Rattle.cq_journal.specs.Journals.{most_ids, replay, EachReplied}
 use Rattle.cq_store.specs.Stores.{StoreState}
 use Rattle.cq_group.specs.declared.group.GroupTable.{GroupTable}
 use Rattle.cq_group.specs.declared.group.GroupState.{GroupState}
@@ -68,7 +67,7 @@ AreReplicasFrom place node entries table shape shard (s ∷ ss) =
 -- a table's next id is its replay's, and it has all its stores, which hold the replay
 pub record IsTableKept {X : Type 0} (state : X → StoreState) (node copies : ℕ) (entries : List Entry) (t : GroupTable X) : Type 0 where
   pub numbered : t.next ≡ (replay t.table t.shape entries).next
-  pub ids : t.next ≤ 4294967296
+  pub ids : t.next ≤ most_ids
   pub some_shard : 0 < t.shard
   pub some_store : 0 < copies
   pub complete : length t.stores.items ≡ copies
@@ -83,6 +82,10 @@ AreDistinct (o ∷ os) = (shape_at os o.0 ≡ None) × AreDistinct os
 abbrev pub IsNamed : List Outline → EntryKind → Type 0
 IsNamed os Read = ⊤
 IsNamed os (Write op reply) = IsSome (shape_at os (table_of op))
+IsNamed os (MoveStart node) = ⊤
+IsNamed os CatchUp = ⊤
+IsNamed os Cutover = ⊤
+IsNamed os MoveStop = ⊤
 
 -- the group's stores, in order of its tables
 abbrev pub stores_of : {X : Type 0} → GroupState X → List X
@@ -118,8 +121,8 @@ IsTableStaged {X} state op t = AllByRecursion (λ (x : X). IsStagedIn (nat_eq t.
 pub record IsReady {X : Type 0} (state : X → StoreState) (g : GroupState X) (op : ShardOp) (reply : Reply) : Type 0 where
   pub room : 0 < g.journal.entries.room
   pub there : HasTable g (table_of op)
-  pub replied : reply ≡ reply_of op (rows_of (replay (table_of op) (shapes g (table_of op)) (entries_of g))) (shapes g (table_of op))
-  pub ids : (replay (table_of op) (shapes g (table_of op)) (entries_of g)).next + length (inserts op) ≤ 4294967296
+  pub replied : reply ≡ reply_of op (replay (table_of op) (shapes g (table_of op)) (entries_of g)) (shapes g (table_of op))
+  pub ids : (replay (table_of op) (shapes g (table_of op)) (entries_of g)).next + length (inserts op) ≤ most_ids
   pub staged : AllByRecursion (IsTableStaged state op) g.tables.items
 
 -- every store is steady

@@ -1,8 +1,13 @@
--- A group as it is opened, and the stores of a table that is added to it.
-use Rattle.std.specs.Prelude.{◌≡◌, ◌+◌, ◌<◌, ℕ, ⊤, List, [], ◌∷◌, length, map}
+-- The stores of a table that is added to a group, and those of one that is taken out again.
+use Rattle.std.specs.Prelude.{◌≡◌, ◌+◌, ◌<◌, ℕ, ⊤, List, [], ◌∷◌, ◌++◌, length, map}
+use Rattle.std.specs.List.{AllByRecursion, AllZip}
 use Rattle.cq_value.specs.Tables.{empty_table}
-use Rattle.cq_store.specs.Stores.{StoreState}
-use Rattle.cq_group.specs.Groups.{node_at}
+use Rattle.cq_tree.specs.declared.journal.Entry.{Entry}
+use Rattle.cq_journal.specs.Laws.{IsNoWriteOf}
+use Rattle.cq_store.specs.Stores.{StoreState, IsSpare}
+use Rattle.cq_group.specs.declared.group.GroupState.{GroupState}
+use Rattle.cq_group.specs.Groups.{Outline, outlines, entries_of, stores_of, node_at}
+use Rattle.cq_group.specs.Calls.{Lifted, Releases}
 
 -- a store of a new table: on its node, adopted under the shard id, empty, with nothing staged
 pub record IsFresh (node shard : ℕ) (s : StoreState) : Type 0 where
@@ -26,3 +31,23 @@ pub record AreFresh {X : Type 0} (state : X → StoreState) (node copies : ℕ) 
   pub complete : length stores ≡ copies
   pub adopted : 0 < first_shard state stores
   pub each : AreFreshFrom 0 node (first_shard state stores) (map state stores)
+
+-- there is a table, and no entry is a write of the one that was added last
+pub record EndsUnwritten {X : Type 0} (g : GroupState X) : Type 0 where
+  pub others : List Outline
+  pub last : Outline
+  pub tables : outlines g ≡ others ++ last ∷ []
+  pub unwritten : AllByRecursion (λ (e : Entry). IsNoWriteOf last.0 e.kind) (entries_of g)
+
+-- the table that was added last is gone, and the stores that it had are these, released
+pub record LosesLast {X : Type 0} (state : X → StoreState) (old new : GroupState X) (stores : List X) : Type 0 where
+  pub last : Outline
+  pub tables : outlines old ≡ outlines new ++ last ∷ []
+  pub held : List X
+  pub rest : stores_of old ≡ stores_of new ++ held
+  pub released : AllZip (Lifted state Releases) held stores
+
+-- spare stores from a place on, each on its node
+abbrev pub AreSpareFrom : ℕ → ℕ → List StoreState → Type 0
+AreSpareFrom place node [] = ⊤
+AreSpareFrom place node (s ∷ ss) = IsSpare s × (s.node ≡ node_at node place) × AreSpareFrom (place + 1) node ss

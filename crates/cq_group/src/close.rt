@@ -3,7 +3,7 @@ ghost use Rattle.std.specs.List.{flat_map};
 ghost use Rattle.cq_group.specs.Groups.{IsKept, stores_of};
 
 use crate::group::{Closed, GroupState, GroupTable};
-use cq_point::Journal;
+use cq_journal::Journal;
 use cq_store::Store;
 
 /// Puts stores last, where there is room for them.

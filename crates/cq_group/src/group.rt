@@ -1,4 +1,5 @@
-use cq_point::{Journal, Reply};
+use cq_journal::Journal;
+use cq_tree::Reply;
 use cq_value::{Items, Rows, Shape};
 
 /// A table's shard in a group: the table's number and shape, the shard's id, the next row id, and the stores that hold the

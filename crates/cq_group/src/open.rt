@@ -1,10 +1,13 @@
-ghost use Rattle.std.specs.Prelude.{◌≡◌, ◌+◌, ◌<◌, ◌≤◌, [], ◌∷◌, ◌++◌, length, vec_len, vec_capacity, unwrap_or, None, OnOk, OnErr, IfOk, IfErr, IfSome};
-ghost use Rattle.cq_group.specs.Groups.{IsKept, IsQuiet, entries_of, stores_of, outlines, shape_at, copies_of};
-ghost use Rattle.cq_group.specs.Opening.{AreFresh, first_shard};
+ghost use Rattle.std.specs.Prelude.{◌≡◌, ◌+◌, ◌<◌, ◌≤◌, [], ◌∷◌, ◌++◌, length, map, vec_len, vec_capacity, unwrap_or, IsTrue, None, OnOk, OnErr, IfOk, IfErr, IfSome};
+ghost use Rattle.std.specs.List.{AllByRecursion};
+ghost use Rattle.cq_group.specs.Groups.{IsKept, IsQuiet, IsSteady, entries_of, stores_of, outlines, shape_at, copies_of};
+ghost use Rattle.cq_group.specs.Opening.{AreFresh, first_shard, EndsUnwritten, LosesLast, AreSpareFrom};
 
 use crate::group::{GroupState, GroupTable};
-use cq_point::{Entries, Journal};
+use crate::stores::release_stores;
+use cq_journal::Journal;
 use cq_store::Store;
+use cq_tree::Entries;
 use cq_value::{NoMemory, Shape};
 use std::alloc::Global;
 
@@ -111,5 +114,29 @@ impl<S: Store> GroupState<S> {
             stores,
         });
         Ok(())
+    }
+
+    /// Takes out the table that was added last, of which no entry is a write, and gives its stores, spare again, in the order
+    /// in which they came. Takes no memory.
+    pub fn drop_table(&mut self) -> Vec<S>
+        requires kept { IsKept S.state self.old }
+        requires unwritten { EndsUnwritten self.old }
+        ensures table { LosesLast S.state self.old self.new result.items }
+        ensures number { length result.items ≡ copies_of self.old }
+        ensures spare { AreSpareFrom 0 self.old.node (map S.state result.items) }
+        ensures journal { self.new.journal ≡ self.old.journal }
+        ensures node { self.new.node ≡ self.old.node }
+        ensures nodes { self.new.nodes ≡ self.old.nodes }
+        ensures kept { IsKept S.state self.new }
+        ensures quiet { IsQuiet S.state self.old → IsQuiet S.state self.new }
+        ensures steady { IsSteady S.state self.old → IsSteady S.state self.new }
+        ensures stores { IsSteady S.state self.old → AllByRecursion (λ x. IsTrue (S.state x).steady) result.items }
+    {
+        let Some(table) = self.tables.pop() else {
+            unreachable!()
+        };
+        let GroupTable { mut stores, .. } = table;
+        release_stores(&mut stores);
+        stores
     }
 }

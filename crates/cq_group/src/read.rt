@@ -1,16 +1,16 @@
-ghost use Rattle.std.specs.Prelude.{◌≡◌, ◌+◌, ◌<◌, ◌≤◌, [], ◌∷◌, ◌++◌, length, map, OnOk, OnErr, IfOk, IfErr};
+ghost use Rattle.std.specs.Prelude.{◌≡◌, ◌+◌, ◌<◌, ◌≤◌, [], ◌∷◌, ◌++◌, filter, length, map, OnOk, OnErr, IfOk, IfErr};
 ghost use Rattle.std.specs.List.{AllByRecursion};
 ghost use Rattle.cq_value.specs.Tables.{rows_of};
-ghost use Rattle.cq_history.specs.Journals.{replay};
+ghost use Rattle.cq_journal.specs.Journals.{replay};
+ghost use Rattle.cq_store.specs.Stores.{has_value};
 ghost use Rattle.cq_group.specs.Groups.{IsKept, IsQuiet, IsSteady, HasTable, entries_of, stores_of, shapes, copies_of, node_at};
 ghost use Rattle.cq_group.specs.Calls.{Rests, Lifted, Blames, IsOn, IsSameBut, GroupGoesOn, node_read, captured};
 
 use crate::group::{Capture, GroupError, GroupState, Tables};
 use crate::place::place_of;
-use cq_point::{Entry, EntryKind};
 use cq_store::Store;
-use cq_tree::Who;
-use cq_value::{NoMemory, Positions, Rows};
+use cq_tree::{Entry, EntryKind, Who};
+use cq_value::{NoMemory, Positions, Rows, Value};
 use std::alloc::Global;
 
 impl<S: Store> GroupState<S> {
@@ -27,6 +27,27 @@ impl<S: Store> GroupState<S> {
     {
         let place = place_of(&self.tables, table);
         self.tables[place].read(alloc, copy)
+    }
+
+    /// The rows of one table that have this value in a column, from the store in a place of its list.
+    fn pick_table(
+        &mut self,
+        table: u32,
+        copy: usize,
+        column: u32,
+        value: &Value,
+    ) -> Result<Rows, GroupError>
+        requires kept { IsKept S.state self.old }
+        requires there { HasTable self.old table }
+        requires copy { copy < copies_of self.old }
+        ensures rows { IfOk result (λ rows. rows ≡ filter (has_value column value.now) (rows_of (replay table (shapes self.old table) (entries_of self.old)))) }
+        ensures journal { self.new.journal ≡ self.old.journal }
+        ensures same { IsSameBut (Lifted S.state Rests) self.old self.new }
+        ensures blame { IfErr result (λ e. Blames S.state e (stores_of self.old) (stores_of self.new)) }
+        ensures here { IfErr result (IsOn (node_at self.old.node copy)) }
+    {
+        let place = place_of(&self.tables, table);
+        self.tables[place].pick(copy, column, value)
     }
 
     /// The named tables' rows, in order, from the stores in a place of their lists.
@@ -124,5 +145,37 @@ impl<S: Store> GroupState<S> {
             node,
             tables: seen,
         })
+    }
+
+    /// The rows of a table that have this value in a column, in order, and one Read in the journal; in a reference group they
+    /// are read on the near node, which is one of its nodes. Nothing is staged before or afterwards.
+    ///
+    /// Errors: a store of that node failed, or want of memory. The journal is then as it was.
+    pub fn pick(
+        &mut self,
+        who: Who,
+        near: u32,
+        table: u32,
+        column: u32,
+        value: &Value,
+    ) -> Result<Rows, GroupError>
+        requires kept { IsKept S.state self.old }
+        requires quiet { IsQuiet S.state self.old }
+        requires there { HasTable self.old table }
+        requires near { self.old.node ≡ 0 → (0 < near) × (near ≤ self.old.nodes) }
+        ensures rows { IfOk result (λ rows. rows ≡ filter (has_value column value.now) (rows_of (replay table (shapes self.old table) (entries_of self.old)))) }
+        ensures entry { OnOk result (entries_of self.new ≡ entries_of self.old ++ record { who = who; kind = EntryKind.Read } ∷ []) }
+        ensures err { OnErr result (entries_of self.new ≡ entries_of self.old) }
+        ensures kept { IsKept S.state self.new }
+        ensures quiet { IsQuiet S.state self.new }
+        ensures goes_on { GroupGoesOn S.state self.old self.new }
+        ensures blame { IfErr result (λ e. Blames S.state e (stores_of self.old) (stores_of self.new)) }
+        ensures near { IfErr result (IsOn (node_read self.old near)) }
+        ensures steady { IfErr result (λ e. IsSteady S.state self.old → e ≡ GroupError.Memory) }
+    {
+        let copy = self.copy_near(near);
+        let rows = self.pick_table(table, copy, column, value)?;
+        self.append_read(who)?;
+        Ok(rows)
     }
 }

@@ -1,11 +1,28 @@
-ghost use Rattle.std.specs.Prelude.{◌≡◌, ◌<◌, [], ◌∷◌, OnOk, OnErr, IfOk, IfErr};
+ghost use Rattle.std.specs.Prelude.{◌≡◌, ◌<◌, [], ◌∷◌, filter, OnOk, OnErr, IfOk, IfErr};
 ghost use Rattle.std.specs.List.{AllZip, AllByRecursion};
 ghost use Rattle.cq_value.specs.Changes.{Fit};
-ghost use Rattle.cq_group.specs.Calls.{Rests, Discards, Commits, Stages, Lifted, Blames, Takes};
+ghost use Rattle.cq_value.specs.Tables.{rows_of};
+ghost use Rattle.cq_store.specs.Stores.{has_value};
+ghost use Rattle.cq_group.specs.Calls.{Rests, Discards, Commits, Releases, Stages, Lifted, Blames, Takes, error_told};
 
 use crate::group::GroupError;
 use cq_store::{Store, StoreError};
-use cq_value::{Changes, Numbered};
+use cq_value::{Changes, Numbered, Rows, Value};
+
+/// What an error of a call on a store tells, where the store had counted `before` faults ahead of the call.
+fn told<S: Store>(before: u64, store: &S, error: StoreError) -> GroupError
+    ensures { result ≡ error_told before (S.state store.now) error }
+{
+    match error {
+        StoreError::Failed => GroupError::Worker {
+            node: store.node(),
+            shard: store.shard(),
+            before,
+            after: store.faults(),
+        },
+        StoreError::Memory => GroupError::Memory,
+    }
+}
 
 /// The rows of a store.
 pub(crate) fn scan_store<S: Store>(store: &mut S) -> Result<Numbered, GroupError>
@@ -16,13 +33,24 @@ pub(crate) fn scan_store<S: Store>(store: &mut S) -> Result<Numbered, GroupError
     let before = store.faults();
     match store.scan() {
         Ok(rows) => Ok(rows),
-        Err(StoreError::Failed) => Err(GroupError::Worker {
-            node: store.node(),
-            shard: store.shard(),
-            before,
-            after: store.faults(),
-        }),
-        Err(StoreError::Memory) => Err(GroupError::Memory),
+        Err(error) => Err(told(before, store, error)),
+    }
+}
+
+/// The rows of a store that have this value in a column.
+pub(crate) fn pick_store<S: Store>(
+    store: &mut S,
+    column: u32,
+    value: &Value,
+) -> Result<Rows, GroupError>
+    ensures rows { IfOk result (λ rows. rows ≡ filter (has_value column value.now) (rows_of (S.state store.old).rows)) }
+    ensures same { Lifted S.state Rests store.old store.new }
+    ensures blame { IfErr result (λ e. Blames S.state e (store.old ∷ []) (store.new ∷ [])) }
+{
+    let before = store.faults();
+    match store.pick(column, value) {
+        Ok(rows) => Ok(rows),
+        Err(error) => Err(told(before, store, error)),
     }
 }
 
@@ -38,13 +66,7 @@ pub(crate) fn stage_store<S: Store>(store: &mut S, changes: &Changes) -> Result<
     let before = store.faults();
     match store.stage(changes) {
         Ok(()) => Ok(()),
-        Err(StoreError::Failed) => Err(GroupError::Worker {
-            node: store.node(),
-            shard: store.shard(),
-            before,
-            after: store.faults(),
-        }),
-        Err(StoreError::Memory) => Err(GroupError::Memory),
+        Err(error) => Err(told(before, store, error)),
     }
 }
 
@@ -82,5 +104,14 @@ pub(crate) fn commit_stores<S: Store>(stores: &mut Vec<S>)
 {
     for place in 0..stores.len() {
         stores[place].commit();
+    }
+}
+
+/// Makes the stores spare.
+pub(crate) fn release_stores<S: Store>(stores: &mut Vec<S>)
+    ensures { AllZip (Lifted S.state Releases) stores.old.items stores.new.items }
+{
+    for place in 0..stores.len() {
+        stores[place].release();
     }
 }

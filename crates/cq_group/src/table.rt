@@ -1,22 +1,44 @@
-ghost use Rattle.std.specs.Prelude.{◌≡◌, ◌+◌, ◌<◌, ◌≤◌, ◌^◌, ◌↔◌, IsTrue, true, [], length, map, OnOk, OnErr, IfOk, IfErr};
+ghost use Rattle.std.specs.Prelude.{◌≡◌, ◌+◌, ◌<◌, ◌≤◌, ◌^◌, ◌↔◌, IsTrue, true, [], filter, length, map, OnOk, OnErr, IfOk, IfErr};
 ghost use Rattle.std.specs.List.{AllByRecursion, HoldsAt};
 ghost use Rattle.cq_value.specs.Tables.{rows_of};
-ghost use Rattle.cq_point_meaning.specs.Effects.{reply_of, inserts};
-ghost use Rattle.cq_history.specs.Standing.{most_ids};
-ghost use Rattle.cq_point_engine.specs.WriteEffects.{IsEffect};
+ghost use Rattle.cq_meaning.specs.Effects.{reply_of, inserts, IsSafeWrite};
+ghost use Rattle.cq_journal.specs.Journals.{most_ids};
+ghost use Rattle.cq_journal.specs.Replies.{IsRefusal};
+ghost use Rattle.cq_engine.specs.WriteEffects.{IsEffect};
+ghost use Rattle.cq_store.specs.Stores.{has_value};
 ghost use Rattle.cq_group.specs.Groups.{IsStagedIn, IsTableQuiet};
-ghost use Rattle.cq_group.specs.Calls.{Rests, Discards, Commits, Stages, KeepsRows, Lifted, Blames, IsOn, Takes, IsSameTable, IsRestingTable, AreAlike, first_rows, count_of};
+ghost use Rattle.cq_group.specs.Calls.{Rests, Discards, Commits, Stages, KeepsRows, Lifted, Blames, IsOn, Takes, IsSameTable, IsRestingTable, AreAlike, first_rows, ids_taken};
 
 use crate::group::{GroupError, GroupTable};
-use crate::stores::{commit_stores, discard_stores, scan_store, stage_stores};
-use cq_point::{Reply, ShardOp};
-use cq_point_engine::{Effect, changes_of};
+use crate::stores::{commit_stores, discard_stores, pick_store, scan_store, stage_stores};
+use cq_engine::{Effect, changes_of};
 use cq_store::Store;
-use cq_value::{NoMemory, Numbered, Rows};
+use cq_tree::{Reply, ShardOp};
+use cq_value::{NoMemory, Numbered, Rows, Value};
 use std::alloc::Global;
 
 /// The most row ids of one table in one shard group.
 const MOST_IDS: u64 = 4_294_967_296;
+
+/// How many rows a write inserts.
+fn inserted(op: &ShardOp) -> u64
+    ensures { result ≡ length (inserts op.now) }
+{
+    match op {
+        ShardOp::Insert { rows, .. } => rows.len(),
+        ShardOp::Update { .. } | ShardOp::Remove { .. } => 0,
+    }
+}
+
+/// How many row ids a write takes that has this reply.
+fn taken(op: &ShardOp, reply: Reply) -> u64
+    ensures { result ≡ ids_taken op.now reply }
+{
+    match reply {
+        Reply::Count(_) => inserted(op),
+        Reply::Duplicate | Reply::OutOfRange => 0,
+    }
+}
 
 /// The rows of a numbered table, without their ids.
 fn rows_alone(alloc: Global, table: &Numbered) -> Result<Rows, NoMemory>
@@ -56,20 +78,35 @@ impl<S: Store> GroupTable<S> {
         }
     }
 
+    /// The rows with this value in a column that the store in a place of the list holds.
+    pub(crate) fn pick(
+        &mut self,
+        place: usize,
+        column: u32,
+        value: &Value,
+    ) -> Result<Rows, GroupError>
+        requires { place < length self.old.stores.items }
+        ensures rows { IfOk result (λ rows. HoldsAt (λ x. rows ≡ filter (has_value column value.now) (rows_of (S.state x).rows)) self.old.stores.items place) }
+        ensures same { IsRestingTable (Lifted S.state Rests) self.old self.new }
+        ensures blame { IfErr result (λ e. Blames S.state e self.old.stores.items self.new.stores.items) }
+        ensures here { IfErr result (λ e. HoldsAt (λ x. IsOn (S.state x).node e) self.old.stores.items place) }
+    {
+        pick_store(&mut self.stores[place], column, value)
+    }
+
     /// Whether the row ids that are left are fewer than the rows of a write.
     pub(crate) fn lacks_ids(&self, op: &ShardOp) -> bool
         requires { self.now.next ≤ most_ids }
         ensures { IsTrue result ↔ (most_ids < self.now.next + length (inserts op.now)) }
     {
-        match op {
-            ShardOp::Insert { rows, .. } => rows.len() > MOST_IDS - self.next,
-        }
+        inserted(op) > MOST_IDS - self.next
     }
 
     /// What a write comes to over the rows of the first store.
     fn effect_of(&mut self, alloc: Global, op: &ShardOp) -> Result<Effect, GroupError>
         requires alike { AreAlike S.state self.old }
         requires ids { self.old.next + length (inserts op.now) ≤ 2 ^ 32 }
+        requires safe { IsSafeWrite op.now (first_rows S.state self.old.stores.items).pairs }
         ensures effect { IfOk result (λ made. IsEffect op.now (first_rows S.state self.old.stores.items) self.old.shape made) }
         ensures same { IsRestingTable (Lifted S.state Rests) self.old self.new }
         ensures blame { IfErr result (λ e. Blames S.state e self.old.stores.items self.new.stores.items) }
@@ -84,26 +121,28 @@ impl<S: Store> GroupTable<S> {
     /// Stages the changes of a write in each store. A write that is refused has none, and no store is asked.
     fn stage_effect(&mut self, effect: &Effect) -> Result<(), GroupError>
         requires takes { AllByRecursion (λ x. Takes effect.now.changes (S.state x)) self.old.stores.items }
-        requires refused { effect.now.reply ≡ Reply.Duplicate → effect.now.changes ≡ [] }
+        requires refused { IsRefusal effect.now.reply → effect.now.changes ≡ [] }
         ensures ok { OnOk result (IsRestingTable (Lifted S.state (Stages effect.now.changes)) self.old self.new) }
         ensures err { OnErr result (IsRestingTable (Lifted S.state Rests) self.old self.new) }
         ensures blame { IfErr result (λ e. Blames S.state e self.old.stores.items self.new.stores.items) }
     {
         match effect.reply {
             Reply::Count(_) => stage_stores(&mut self.stores, &effect.changes),
-            Reply::Duplicate => Ok(()),
+            Reply::Duplicate | Reply::OutOfRange => Ok(()),
         }
     }
 
     /// Stages a write in each store, and gives its reply. A write that is refused stages nothing.
     ///
+    /// Conditions: its ids suffice, and it can be computed over each row of the stores, which hold the same rows.
     /// Errors: a store failed, or want of memory; nothing is staged.
     pub(crate) fn stage(&mut self, alloc: Global, op: &ShardOp) -> Result<Reply, GroupError>
         requires alike { AreAlike S.state self.old }
         requires ids { self.old.next + length (inserts op.now) ≤ 2 ^ 32 }
-        ensures reply { IfOk result (λ reply. reply ≡ reply_of op.now (rows_of (first_rows S.state self.old.stores.items)) self.old.shape) }
+        requires safe { IsSafeWrite op.now (first_rows S.state self.old.stores.items).pairs }
+        ensures reply { IfOk result (λ reply. reply ≡ reply_of op.now (first_rows S.state self.old.stores.items) self.old.shape) }
         ensures staged { OnOk result (AllByRecursion (λ x. IsStagedIn true op.now self.old.shape (S.state x)) self.new.stores.items) }
-        ensures refused { IfOk result (λ reply. reply ≡ Reply.Duplicate → IsTableQuiet S.state self.new) }
+        ensures refused { IfOk result (λ reply. IsRefusal reply → IsTableQuiet S.state self.new) }
         ensures same { IsRestingTable (Lifted S.state KeepsRows) self.old self.new }
         ensures err { OnErr result (IsRestingTable (Lifted S.state Rests) self.old self.new) }
         ensures blame { IfErr result (λ e. Blames S.state e self.old.stores.items self.new.stores.items) }
@@ -120,15 +159,13 @@ impl<S: Store> GroupTable<S> {
         discard_stores(&mut self.stores);
     }
 
-    /// Makes what is staged, which has this reply.
-    pub(crate) fn commit(&mut self, reply: Reply)
-        requires { self.old.next + count_of reply ≤ 2 ^ 32 }
+    /// Makes what is staged: a write that has this reply.
+    pub(crate) fn commit(&mut self, op: &ShardOp, reply: Reply)
+        requires { self.old.next + ids_taken op.now reply ≤ 2 ^ 32 }
         ensures same { IsSameTable (Lifted S.state Commits) self.old self.new }
-        ensures next { self.new.next ≡ self.old.next + count_of reply }
+        ensures next { self.new.next ≡ self.old.next + ids_taken op.now reply }
     {
         commit_stores(&mut self.stores);
-        if let Reply::Count(n) = reply {
-            self.next += n;
-        }
+        self.next += taken(op, reply);
     }
 }

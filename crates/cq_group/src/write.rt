@@ -1,15 +1,15 @@
 ghost use Rattle.std.specs.Prelude.{◌≡◌, ◌+◌, ◌<◌, ◌≤◌, ◌^◌, ◌↔◌, IsTrue, [], ◌∷◌, ◌++◌, length, OnOk, OnErr, IfOk, IfErr};
 ghost use Rattle.std.specs.List.{AllZip, HoldsAt};
-ghost use Rattle.cq_point_meaning.specs.Effects.{table_of, inserts};
-ghost use Rattle.cq_history.specs.Standing.{most_ids};
+ghost use Rattle.cq_meaning.specs.Effects.{table_of, inserts};
+ghost use Rattle.cq_journal.specs.Journals.{most_ids};
+ghost use Rattle.cq_journal.specs.Replies.{IsRefusal};
 ghost use Rattle.cq_group.specs.Groups.{IsKept, IsQuiet, IsReady, IsSteady, HasTable, entries_of, stores_of};
-ghost use Rattle.cq_group.specs.Calls.{Discards, KeepsRows, Lifted, Blames, IsRestingTable, IsSameBut, GroupGoesOn, IsStaged, next_id};
+ghost use Rattle.cq_group.specs.Calls.{Discards, KeepsRows, Lifted, Blames, IsRestingTable, IsSameBut, GroupGoesOn, CanCompute, IsStaged, next_id};
 
 use crate::group::{GroupError, GroupState, GroupTable, Staged};
 use crate::place::place_of;
-use cq_point::{Entry, EntryKind, Reply, ShardOp};
 use cq_store::Store;
-use cq_tree::Who;
+use cq_tree::{Entry, EntryKind, Reply, ShardOp, Who};
 use std::alloc::Global;
 
 /// The number of the table that a write names.
@@ -17,7 +17,9 @@ fn table_number(op: &ShardOp) -> u32
     ensures { result ≡ table_of op.now }
 {
     match op {
-        ShardOp::Insert { table, .. } => *table,
+        ShardOp::Insert { table, .. }
+        | ShardOp::Update { table, .. }
+        | ShardOp::Remove { table, .. } => *table,
     }
 }
 
@@ -50,8 +52,9 @@ impl<S: Store> GroupState<S> {
         requires within { place < length self.old.tables.items }
         requires found { HoldsAt (λ t. t.table ≡ table_of op.now) self.old.tables.items place }
         requires ids { next_id self.old (table_of op.now) + length (inserts op.now) ≤ 2 ^ 32 }
+        requires safe { CanCompute self.old op.now }
         ensures ready { IfOk result (λ reply. IsReady S.state self.new op.now reply) }
-        ensures refused { IfOk result (λ reply. reply ≡ Reply.Duplicate → IsQuiet S.state self.new) }
+        ensures refused { IfOk result (λ reply. IsRefusal reply → IsQuiet S.state self.new) }
         ensures err { OnErr result (IsQuiet S.state self.new) }
         ensures entries { entries_of self.new ≡ entries_of self.old }
         ensures kept { IsKept S.state self.new }
@@ -79,6 +82,7 @@ impl<S: Store> GroupState<S> {
         requires kept { IsKept S.state self.old }
         requires quiet { IsQuiet S.state self.old }
         requires there { HasTable self.old (table_of op.now) }
+        requires safe { CanCompute self.old op.now }
         ensures lacks { most_ids < next_id self.old (table_of op.now) + length (inserts op.now) → result ≡ Ok Staged.NoIds }
         ensures suffices { IfOk result (λ staged. staged ≡ Staged.NoIds → most_ids < next_id self.old (table_of op.now) + length (inserts op.now)) }
         ensures staged { IfOk result (IsStaged S.state self.new op.now) }
@@ -95,7 +99,7 @@ impl<S: Store> GroupState<S> {
         let reply = self.stage_at(alloc, place, op)?;
         match reply {
             Reply::Count(_) => Ok(Staged::Ready(reply)),
-            Reply::Duplicate => Ok(Staged::Refused(reply)),
+            Reply::Duplicate | Reply::OutOfRange => Ok(Staged::Refused(reply)),
         }
     }
 
@@ -103,10 +107,12 @@ impl<S: Store> GroupState<S> {
     /// be committed with this reply, which takes no memory. `Refused`: so can its refusal, and nothing is staged. `NoIds`: the
     /// row ids that are left of its table are fewer than its rows; no store was asked for that, and nothing is staged.
     ///
+    /// Conditions: its table is in the group, and it can be computed over each row that the entries leave of the table.
     /// Errors: a store failed, or want of memory; nothing is staged.
     pub fn stage_write(&mut self, alloc: Global, op: &ShardOp) -> Result<Staged, GroupError>
         requires kept { IsKept S.state self.old }
         requires there { HasTable self.old (table_of op.now) }
+        requires safe { CanCompute self.old op.now }
         ensures lacks { most_ids < next_id self.old (table_of op.now) + length (inserts op.now) → result ≡ Ok Staged.NoIds }
         ensures suffices { IfOk result (λ staged. staged ≡ Staged.NoIds → most_ids < next_id self.old (table_of op.now) + length (inserts op.now)) }
         ensures staged { IfOk result (IsStaged S.state self.new op.now) }
@@ -131,7 +137,7 @@ impl<S: Store> GroupState<S> {
         ensures goes_on { GroupGoesOn S.state self.old self.new }
     {
         let place = place_of(&self.tables, table_number(&op));
-        self.tables[place].commit(reply);
+        self.tables[place].commit(&op, reply);
         self.journal.entries.push(Entry {
             who,
             kind: EntryKind::Write(op, reply),

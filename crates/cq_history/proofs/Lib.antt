@@ -1,7 +1,16 @@
 pub mod Lists
 pub mod Values
+pub mod ValueSets
+pub mod Points
 pub mod Replays
 pub mod Whole
+pub mod QueryLaws
+pub mod Keys
+pub mod InsertLaws
 pub mod Standing
+pub mod Later
 pub mod Steps
+pub mod Growth
+pub mod Responses
 pub mod Ddl
+pub mod Within

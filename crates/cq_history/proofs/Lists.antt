@@ -51,6 +51,10 @@ all_take P (suc n) [] all = tt
 all_take P (suc n) (x ∷ xs) all = (all.0, all_take P n xs all.1)
 
 -- a test that no item passes
+pub all_filtered : {X : Type 0} (P : X → Type 0) (p : X → Bool) (xs : List X) → AllByRecursion P xs → AllByRecursion P (filter p xs)
+all_filtered P p [] all = tt
+all_filtered P p (x ∷ xs) all = elim (two_ways (p x)) [ inl t ↦ rw t (all.0, all_filtered P p xs all.1) | inr f ↦ rw f (all_filtered P p xs all.1) ]
+
 pub filter_none : {X : Type 0} (p : X → Bool) (xs : List X) → AllByRecursion (λ x. p x ≡ false) xs → filter p xs ≡ []
 filter_none p [] all = refl
 filter_none p (x ∷ xs) all = rw all.0 (filter_none p xs all.1)

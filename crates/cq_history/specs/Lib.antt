@@ -1,5 +1,10 @@
-pub mod Journals
+pub mod Environment
 pub mod Places
+pub mod Legality
+pub mod Routing
+pub mod ValueSets
+pub mod Room
 pub mod Standing
 pub mod Log
 pub mod Between
+pub mod Laws

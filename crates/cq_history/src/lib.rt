@@ -1,3 +1,7 @@
-//! The histories of shard groups and what an answer says of them: replay, legal journals, the database at places of the
-//! journals, and when an answer stands. Definitions in `specs/`, their laws in `proofs/`; there is no code here.
+//! The histories of shard groups and what an answer says of them: legal journals, the database at places of the journals, the
+//! value sets of columns, and when an answer stands. Definitions in `specs/`; a law is the contract of a function that does nothing.
 #![tactic(auto)]
+
+mod laws;
+
+pub use laws::history_laws;

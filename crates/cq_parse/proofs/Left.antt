@@ -7,7 +7,7 @@ use Rattle.cq_grammar.specs.declared.statement.Ast.{Ast}
 use Rattle.cq_grammar.specs.Conditions.{miscalled, misplaced}
 use Rattle.cq_grammar.specs.Read.{Fault}
 use Rattle.cq_grammar.specs.Verdicts.{Complaint, left_of, place, syntax, by_grammar, called, unless_misplaced, judged}
-use Rattle.cq_tree.specs.declared.answer.What.TheVariants as limits
+use Rattle.cq_tree.specs.declared.limit.What.TheVariants as limits
 use Rattle.cq_parse.specs.declared.error.ParseError.{ParseError}
 use Rattle.cq_parse.specs.declared.error.ParseError.TheVariants as errors
 use Rattle.cq_parse.specs.Outcomes.{Gives, ReadsAll}

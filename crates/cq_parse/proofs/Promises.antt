@@ -1,8 +1,8 @@
 -- What the reader's verdict says by the grammar.
 use Rattle.std.proofs.Common.{◌≡◌, ◌≢◌, ℕ, List, Result, Ok, Err, IfOk, refl, sym, ap, ◌∙◌}
 use Rattle.cq_token.specs.declared.token.Token.{Token}
-use Rattle.cq_tree.specs.declared.answer.What.{What}
-use Rattle.cq_tree.specs.declared.answer.What.TheVariants as limits
+use Rattle.cq_tree.specs.declared.limit.What.{What}
+use Rattle.cq_tree.specs.declared.limit.What.TheVariants as limits
 use Rattle.cq_grammar.specs.declared.statement.Ast.{Ast}
 use Rattle.cq_grammar.specs.Statements.{max_depth, GoesDeep}
 use Rattle.cq_grammar.specs.Verdicts.{Complaint, syntax, depth, verdict, Accepted, RefusedAt}

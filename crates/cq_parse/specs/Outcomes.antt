@@ -1,7 +1,7 @@
 -- What the parser answers of a whole text.
 use Rattle.std.specs.Prelude.{◌≡◌, ◌≢◌, List, [], Result, Ok, Err}
 use Rattle.cq_token.specs.declared.token.Token.{Token}
-use Rattle.cq_tree.specs.declared.answer.What.TheVariants as limits
+use Rattle.cq_tree.specs.declared.limit.What.TheVariants as limits
 use Rattle.cq_grammar.specs.declared.error.Refusal.{Refusal}
 use Rattle.cq_grammar.specs.declared.error.Refusal.TheVariants.{Memory}
 use Rattle.cq_grammar.specs.declared.statement.Ast.{Ast}

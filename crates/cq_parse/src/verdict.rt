@@ -9,8 +9,8 @@ ghost use Rattle.cq_grammar.specs.Reading.{written};
 ghost use Rattle.cq_grammar.specs.Verdicts as verdicts;
 ghost use Rattle.cq_grammar.specs.Verdicts.{verdict, Accepted, RefusedAt};
 ghost use Rattle.cq_grammar.specs.Statements.{max_depth, GoesDeep};
-ghost use Rattle.cq_tree.specs.declared.answer.What.{What};
-ghost use Rattle.cq_tree.specs.declared.answer.What.TheVariants.{Depth};
+ghost use Rattle.cq_tree.specs.declared.limit.What.{What};
+ghost use Rattle.cq_tree.specs.declared.limit.What.TheVariants.{Depth};
 ghost use Rattle.cq_parse.specs.declared.error.ParseError.TheVariants as errors;
 ghost use Rattle.cq_parse.specs.Outcomes.{Gives, ReadsAll};
 

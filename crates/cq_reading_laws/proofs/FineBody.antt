@@ -27,7 +27,7 @@ use Rattle.cq_reading_laws.specs.Bounds.{HasBits, HaveBits, MayStand, Onward, Ag
 use Rattle.cq_reading_laws.specs.Worlds.{OutputsFit}
 use Rattle.cq_reading_laws.proofs.Onwards.{Kept, now, on, more_results, gives, where_fit, onwards, append_empty}
 use Rattle.cq_reading_laws.proofs.Standing.{no_truth}
-use Rattle.cq_reading_laws.proofs.GrowthParts.{IfPart}
+use Rattle.cq_reading_laws.proofs.CarryingParts.{IfPart}
 use Rattle.cq_reading_laws.proofs.FineParts.{PartStands}
 use Rattle.cq_reading_laws.proofs.FineNames.{value_type}
 use Rattle.cq_reading_laws.proofs.FineFrom.{Joined, sources_have}

@@ -27,7 +27,9 @@ use Rattle.cq_reading_laws.proofs.Onwards.{Later, Kept, Fine, now, on, more_resu
 use Rattle.cq_reading_laws.proofs.Standing.{no_truth, stands_null, stands_truth, bound_negated}
 use Rattle.cq_reading_laws.proofs.Digits.{stands_signed}
 use Rattle.cq_reading_laws.proofs.Growth.{Grew, Grows}
-use Rattle.cq_reading_laws.proofs.GrowthParts.{SelectGrows, SameAggs, IfPart}
+use Rattle.cq_reading_laws.proofs.Carrying.{Carries}
+use Rattle.cq_reading_laws.proofs.CarryingParts.{IfPart}
+use Rattle.cq_reading_laws.proofs.GrowthParts.{SelectGrows, SameAggs}
 use Rattle.cq_reading_laws.proofs.FineRules.{signed_fine, coalesced_fine, chosen_fine, ArmsFine}
 use Rattle.cq_reading_laws.proofs.FineNames.{Plain, named_fine, named_of_fine, summed_fine}
 use Rattle.cq_reading_laws.proofs.FineParts.{PartStands, AnyOf, first_may, second_may}
@@ -52,7 +54,7 @@ select_onward ks found (Ok p) h same = (more_results ks found p.1 h.0.more same,
 select_onward ks found (Err x) h same = tt
 
 grew : {A : Type 0} (r : Reading A) (found : Found) → Grows true r → Grew true found (r found)
-unfolding Grows
+unfolding Carries
 grew r found h = h found
 
 module _ (ks : List ℕ) (cx : Context) (have : HaveBits ks cx) where

@@ -23,13 +23,14 @@ use Rattle.cq_reading_laws.specs.Worlds.{OutputsFit, WorldFits, BlockStands}
 use Rattle.cq_reading_laws.specs.Written.{written_select}
 use Rattle.cq_reading_laws.specs.QueryLaws.{written_tables, HaveResults, QueriesBound}
 use Rattle.cq_reading_laws.proofs.Standing.{left_true, right_true}
-use Rattle.cq_reading_laws.proofs.Growth.{Grew, Grows}
+use Rattle.cq_reading_laws.proofs.Carrying.{Carries}
+use Rattle.cq_reading_laws.proofs.Growth.{Grew}
 use Rattle.cq_reading_laws.proofs.GrowthWalk.{select_grows}
 use Rattle.cq_reading_laws.proofs.FineJoins.{FineBlockIf}
 use Rattle.cq_reading_laws.proofs.FineTree.{select_stands}
 use Rattle.cq_reading_laws.proofs.Trees.{bound_query}
 
-abbrev IsNone : {A : Type 0} → Option A → Type 0
+abbrev pub IsNone : {A : Type 0} → Option A → Type 0
 IsNone None = ⊤
 IsNone (Some a) = ⊥
 
@@ -38,16 +39,16 @@ IfSome P None = ⊤
 IfSome P (Some a) = P a
 
 -- one more behind a list, where it can be found
-before_last : {A : Type 0} (xs : List A) (y : A) (i : ℕ) (x : A) → slice_get xs i ≡ Some x → slice_get (xs ++ y ∷ []) i ≡ Some x
+pub before_last : {A : Type 0} (xs : List A) (y : A) (i : ℕ) (x : A) → slice_get xs i ≡ Some x → slice_get (xs ++ y ∷ []) i ≡ Some x
 before_last [] y i x is = absurd (subst (λ o. IsNone o) is tt)
 before_last (a ∷ xs) y zero x is = is
 before_last (a ∷ xs) y (suc i) x is = before_last xs y i x is
 
-at_last : {A : Type 0} (xs : List A) (y : A) → slice_get (xs ++ y ∷ []) (length xs) ≡ Some y
+pub at_last : {A : Type 0} (xs : List A) (y : A) → slice_get (xs ++ y ∷ []) (length xs) ≡ Some y
 at_last [] y = refl
 at_last (x ∷ xs) y = at_last xs y
 
-with_last : {A : Type 0} (P : ℕ → A → Type 0) (xs : List A) (y : A) → ((i : ℕ) (x : A) → slice_get xs i ≡ Some x → P i x) → P (length xs) y → (i : ℕ) (x : A) → slice_get (xs ++ y ∷ []) i ≡ Some x → P i x
+pub with_last : {A : Type 0} (P : ℕ → A → Type 0) (xs : List A) (y : A) → ((i : ℕ) (x : A) → slice_get xs i ≡ Some x → P i x) → P (length xs) y → (i : ℕ) (x : A) → slice_get (xs ++ y ∷ []) i ≡ Some x → P i x
 with_last P [] y h k zero x is = subst (λ o. IfSome (P 0) o) is k
 with_last P [] y h k (suc i) x is = absurd (subst (λ o. IsNone o) is tt)
 with_last P (a ∷ xs) y h k zero x is = h zero x is
@@ -57,12 +58,12 @@ all_more : {B : Type 0} (P : B → Type 0) (bs : List B) (b : B) → AllByRecurs
 all_more P [] b h p = (p, tt)
 all_more P (c ∷ bs) b h p = (h.0, all_more P bs b h.1 p)
 
-length_more : {A : Type 0} (xs : List A) (y : A) → length (xs ++ y ∷ []) ≡ length xs + 1
+pub length_more : {A : Type 0} (xs : List A) (y : A) → length (xs ++ y ∷ []) ≡ length xs + 1
 length_more [] y = refl
 length_more (x ∷ xs) y = let e = length_more xs y in omega (arith, e)
 
 grew : (x : Select) (w : World) (f : Found) → Grew true f (select_of x w f)
-unfolding Grows
+unfolding Carries
 grew x w f = (select_grows x w).0 f
 
 module _ (cs : Columns) (tables : List TableInfo) where
@@ -114,7 +115,7 @@ module _ (cs : Columns) (tables : List TableInfo) where
   unfolding out-Query denote.Hole.Carrier.out
   opened (Query' ts ctes ss subs from filter_ grouped keys aggs having items shown distinct order limit offset names) h = h
 
-  with_ctes_bound : (q : Query) (ctes : List Query) → IsBoundQuery cs q → IsBoundQuery cs (st.with_ctes q ctes)
+  pub with_ctes_bound : (q : Query) (ctes : List Query) → IsBoundQuery cs q → IsBoundQuery cs (st.with_ctes q ctes)
   with_ctes_bound q ctes h = let k = opened q h in bound_query cs (record (out-Query q) { ctes = ctes }) k.0 k.1 k.2
 
   abbrev QueryIf : Result (Query × Found) BindError → Type 0

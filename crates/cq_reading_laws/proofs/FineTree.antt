@@ -15,7 +15,7 @@ use Rattle.cq_reading_laws.specs.Written.{all, if_any, is_some, written_expr, wr
 use Rattle.cq_reading_laws.specs.SelectLaws.{SelectsBound}
 use Rattle.cq_reading_laws.proofs.Induction as tree
 use Rattle.cq_reading_laws.proofs.Standing.{left_true, right_true, no_truth}
-use Rattle.cq_reading_laws.proofs.GrowthParts.{IfPart}
+use Rattle.cq_reading_laws.proofs.CarryingParts.{IfPart}
 use Rattle.cq_reading_laws.proofs.FineParts.{PartStands}
 use Rattle.cq_reading_laws.proofs.FineNodes.{ArmStands}
 use Rattle.cq_reading_laws.proofs.FineSteps as step

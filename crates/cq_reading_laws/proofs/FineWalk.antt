@@ -11,8 +11,9 @@ use Rattle.cq_reading_laws.specs.Bounds.{Stands}
 use Rattle.cq_reading_laws.specs.Written.{written_expr}
 use Rattle.cq_reading_laws.specs.ExpressionLaws.{ResultsGrow, ExpressionsBound, GroupedBound}
 use Rattle.cq_reading_laws.proofs.Induction as tree
-use Rattle.cq_reading_laws.proofs.Growth.{Grows, Grew}
-use Rattle.cq_reading_laws.proofs.GrowthParts.{reads_grow}
+use Rattle.cq_reading_laws.proofs.Carrying.{Carries}
+use Rattle.cq_reading_laws.proofs.CarryingParts.{reads_carry}
+use Rattle.cq_reading_laws.proofs.Growth.{Grew, growing_in, same_growing}
 use Rattle.cq_reading_laws.proofs.GrowthWalk.{expression_grows}
 use Rattle.cq_reading_laws.proofs.Standing.{no_truth}
 use Rattle.cq_reading_laws.proofs.Onwards.{Kept, Fine, more_results}
@@ -34,8 +35,8 @@ expressions_bound ks cx x found new b n written have plain refused is more =
     subst (λ g. Stands (input_bits ks g cx.keys new.aggs) n b) plain (h.1 last (more_results ks new last more refl))
 
 grown : (cx : Context) (x : Expr) (found : Found) → Grew cx.may_select found (reads (part_of x) cx found)
-unfolding Grows
-grown cx x found = reads_grow (part_of x) cx (expression_grows x) found
+unfolding Carries
+grown cx x found = reads_carry growing_in same_growing (part_of x) cx (expression_grows x) found
 
 pub results_grow : ResultsGrow
 results_grow cx x found new b is = let g = subst (λ o. Grew cx.may_select found o) is (grown cx x found) in (g.0.more, g.0.same)

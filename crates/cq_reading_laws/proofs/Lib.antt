@@ -1,5 +1,9 @@
 pub mod Induction
 pub mod Keeping
+pub mod Carrying
+pub mod CarryingParts
+pub mod CarryingSelects
+pub mod CarryingWalk
 pub mod Growth
 pub mod GrowthParts
 pub mod GrowthSelects
@@ -30,3 +34,11 @@ pub mod FineQueries
 pub mod Refusals
 pub mod RefusalSelects
 pub mod RefusalWalk
+pub mod StepRows
+pub mod StepSubs
+pub mod StepFrom
+pub mod StepSelect
+pub mod StepTree
+pub mod StepCtes
+pub mod StepWidths
+pub mod StepQueries

@@ -18,7 +18,7 @@ use Rattle.cq_reading.specs.Parts.{Part, LaterPart, AddedPart, MultipliedPart, A
 use Rattle.cq_reading.specs.Expressions as e
 use Rattle.cq_reading.specs.Expressions.{reads, behind_keys}
 use Rattle.cq_reading_laws.proofs.Standing.{no_truth}
-use Rattle.cq_reading_laws.proofs.GrowthParts.{IfPart}
+use Rattle.cq_reading_laws.proofs.CarryingParts.{IfPart}
 
 abbrev pub IsRefused : {A : Type 0} → Result (A × Found) BindError → Type 0
 IsRefused (Ok p) = ⊥

@@ -5,3 +5,4 @@ pub mod Worlds
 pub mod SelectLaws
 pub mod WriteLaws
 pub mod QueryLaws
+pub mod StepLaws

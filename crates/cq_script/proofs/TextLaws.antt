@@ -1,4 +1,4 @@
--- Fields with a bar between each two.
+-- Fields with a bar between each two, and words with numbers one after the other.
 use Rattle.std.proofs.Common.{◌≡◌, ◌≤◌, ◌-◌, ℕ, Result, Ok, Err, List, [], ◌∷◌, ◌++◌, length, take, drop, get_or, map, sym, ap, ◌∙◌, arith, append-nil, append_assoc}
 use Rattle.std.specs.Prelude.{flat_map, OnOk}
 use Rattle.std.specs.List.{join_with_byte}
@@ -21,3 +21,12 @@ joined_after text fields x before first all (Err e) is some put h = h
 joined_after text fields x before first all (Ok u) is some put h =
     h ∙ ap (λ v. v ++ flat_map (λ y. 124 ∷ text y) (take (length fields - 1) (drop 1 fields))) put
     ∙ append_assoc before (text x) (flat_map (λ y. 124 ∷ text y) (take (length fields - 1) (drop 1 fields))) ∙ ap (λ v. before ++ v) (sym (joined_at text fields x is some))
+
+-- what was put last, and then some words and a number
+pub put_after : (before some words number first all : List ℕ) → first ≡ before ++ some → all ≡ first ++ (words ++ number) → all ≡ before ++ (some ++ words ++ number)
+put_after before some words number first all put h =
+    h ∙ ap (λ v. v ++ (words ++ number)) put ∙ append_assoc before some (words ++ number) ∙ ap (λ v. before ++ v) (sym (append_assoc some words number))
+
+pub put_last : {E : Type 0} (before some words number first all : List ℕ) (r : Result (Unit {0}) E) → first ≡ before ++ some → OnOk r (all ≡ first ++ (words ++ number)) → OnOk r (all ≡ before ++ (some ++ words ++ number))
+put_last before some words number first all (Err e) put h = h
+put_last before some words number first all (Ok u) put h = put_after before some words number first all put h

@@ -4,13 +4,16 @@ use Rattle.std.specs.Fmt.{signed_decimal}
 use Rattle.std.specs.List.{join_with_byte}
 use Rattle.cq_value.specs.declared.value.Value.{Value}
 use Rattle.cq_value.specs.declared.value.Value.TheVariants as values
-use Rattle.cq_tree.specs.declared.answer.Answer.{Answer}
-use Rattle.cq_tree.specs.declared.answer.Answer.TheVariants.{Tag, Table, Failed}
-use Rattle.cq_tree.specs.declared.answer.Tag.TheVariants.{CreateTable, Insert}
-use Rattle.cq_tree.specs.declared.answer.Fault.{Fault}
-use Rattle.cq_tree.specs.declared.answer.Fault.TheVariants as faults
-use Rattle.cq_tree.specs.declared.answer.What.{What}
-use Rattle.cq_tree.specs.declared.answer.What.TheVariants.{Ids, Depth}
+use Rattle.cq_answer.specs.declared.answer.Answer.{Answer}
+use Rattle.cq_answer.specs.declared.answer.Answer.TheVariants.{Tag, Table, Failed}
+use Rattle.cq_answer.specs.declared.answer.Tag.{Tag as Done}
+use Rattle.cq_answer.specs.declared.answer.Tag.TheVariants.{CreateTable, Insert, Update, Delete, Setting}
+use Rattle.cq_answer.specs.declared.fault.Fault.{Fault}
+use Rattle.cq_answer.specs.declared.fault.Fault.TheVariants as faults
+use Rattle.cq_answer.specs.declared.fault.What.{What}
+use Rattle.cq_answer.specs.declared.fault.What.TheVariants as limits
+use Rattle.cq_answer.specs.declared.unsupported.Unsupported.{Unsupported}
+use Rattle.cq_answer.specs.declared.unsupported.Unsupported.TheVariants as plans
 use Rattle.cq_script.specs.declared.fatal.Fatal.{Fatal}
 use Rattle.cq_script.specs.declared.fatal.Fatal.TheVariants as ends
 
@@ -37,22 +40,67 @@ unfoldable pub count_line : ℕ → List ℕ
 count_line n = if nat_eq n 1 then codes "(1 row)\n" else codes "(" ++ decimal n ++ codes " rows)\n"
 
 unfoldable pub what_text : What → List ℕ
-what_text Ids = codes "ids"
-what_text Depth = codes "depth"
+what_text limits.Depth = codes "depth"
+what_text limits.Relations = codes "relations"
+what_text limits.Blocks = codes "blocks"
+what_text limits.Columns = codes "columns"
+what_text limits.Outputs = codes "outputs"
+what_text limits.Keys = codes "keys"
+what_text limits.Tables = codes "tables"
+what_text limits.Groups = codes "groups"
+what_text limits.Rows = codes "rows"
+what_text limits.Ids = codes "ids"
 
-unfoldable pub fault_text : Fault → List ℕ
+unfoldable pub unsupported_text : Unsupported → List ℕ
+unsupported_text plans.NeedsRepartition = codes "U1 join needs repartition"
+unsupported_text plans.NoEquality = codes "U2 no equality between distributed tables"
+unsupported_text plans.OuterJoin = codes "U3 outer join is not co-located"
+unsupported_text plans.LimitWithoutOrder = codes "U4 limit without full order"
+unsupported_text plans.DistributionColumn = codes "U5 distribution column can't change"
+unsupported_text (plans.NoDistributionValue row) = codes "U6 no distribution value in row " ++ decimal row
+
+-- a name is escaped as a text of a table, so that a fault is one line
+abbrev pub fault_text : Fault → List ℕ
 fault_text (faults.OpenQuote at) = codes "1 open quote at " ++ decimal at
 fault_text (faults.BadCharacter at) = codes "2 bad character at " ++ decimal at
 fault_text (faults.NumberTooLarge at) = codes "3 number too large at " ++ decimal at
 fault_text (faults.Syntax at) = codes "4 syntax at " ++ decimal at
+fault_text (faults.NameTaken name) = codes "5 name taken: " ++ escaped name
+fault_text (faults.UnknownTable name) = codes "6 no such table: " ++ escaped name
+fault_text (faults.UnknownColumn name) = codes "7 no such column: " ++ escaped name
+fault_text (faults.AlreadyDistributed name) = codes "8 already distributed: " ++ escaped name
+fault_text (faults.KeyLacksColumn name) = codes "9 primary key lacks the distribution column: " ++ escaped name
+fault_text (faults.OutOfRange value least greatest) = codes "10 out of range: " ++ signed_decimal value ++ codes " not in " ++ signed_decimal least ++ codes " to " ++ signed_decimal greatest
+fault_text faults.ColocationDiffers = codes "11 co-location differs"
+fault_text (faults.Unknown at) = codes "12 unknown name at " ++ decimal at
+fault_text (faults.Ambiguous at) = codes "13 ambiguous name at " ++ decimal at
+fault_text (faults.Type at) = codes "14 type at " ++ decimal at
+fault_text (faults.NotGrouped at) = codes "15 not grouped at " ++ decimal at
+fault_text (faults.TooWide at) = codes "16 too wide at " ++ decimal at
+fault_text (faults.WrongCount at) = codes "17 wrong count of values at " ++ decimal at
+fault_text (faults.Divisor at) = codes "18 divisor at " ++ decimal at
+fault_text (faults.KeyColumn at) = codes "19 key column at " ++ decimal at
+fault_text (faults.Subquery at) = codes "19 subquery at " ++ decimal at
+fault_text (faults.LocalTable at) = codes "19 local table at " ++ decimal at
+fault_text (faults.GroupedJoin at) = codes "19 grouped join at " ++ decimal at
 fault_text faults.Memory = codes "24 out of memory"
+fault_text (faults.NoRoom node free needed) = codes "26 no room on node " ++ decimal node ++ codes ": " ++ decimal free ++ codes " free, " ++ decimal needed ++ codes " needed"
+fault_text (faults.Value row column) = codes "28 value in row " ++ decimal row ++ codes " column " ++ decimal column
 fault_text faults.Duplicate = codes "30 duplicate key"
+fault_text faults.ValueOutOfRange = codes "31 value out of range"
 fault_text (faults.Limit what number) = codes "33 limit " ++ what_text what ++ codes " " ++ decimal number
+fault_text (faults.Unsupported why) = unsupported_text why
 fault_text faults.NotBuilt = codes "35 not built"
 
+unfoldable pub tag_text : Done → List ℕ
+tag_text CreateTable = codes "CREATE TABLE"
+tag_text (Insert n) = codes "INSERT 0 " ++ decimal n
+tag_text (Update n) = codes "UPDATE " ++ decimal n
+tag_text (Delete n) = codes "DELETE " ++ decimal n
+tag_text Setting = codes "SET"
+
 unfoldable pub text_of : Answer → List ℕ
-text_of (Tag CreateTable) = codes "CREATE TABLE\n"
-text_of (Tag (Insert n)) = codes "INSERT 0 " ++ decimal n ++ codes "\n"
+text_of (Tag tag) = tag_text tag ++ codes "\n"
 text_of (Table names rows) = fields_line (map escaped names) ++ flat_map row_line rows ++ count_line (length rows)
 text_of (Failed fault) = codes "ERROR " ++ fault_text fault ++ codes "\n"
 

@@ -2,8 +2,11 @@
 //! text of each answer.
 #![tactic(auto)]
 
+#[cfg(test)]
+mod answer_tests;
 mod cutter;
 mod fatal;
+mod fault;
 mod memory;
 mod rendering;
 mod scan;
@@ -13,6 +16,7 @@ mod source;
 mod standard;
 #[cfg(test)]
 mod tests;
+mod words;
 
 pub use cutter::{Cutter, Step};
 pub use fatal::{Fatal, MOST_BYTES};

@@ -1,33 +1,13 @@
-ghost use Rattle.std.specs.Prelude.{◌≡◌, ℕ, List, ◌∷◌, ◌++◌, map, flat_map, decimal, IfOk, OnOk};
+ghost use Rattle.std.specs.Prelude.{◌≡◌, ℕ, List, ◌∷◌, ◌++◌, map, flat_map, IfOk, OnOk};
 ghost use Rattle.std.specs.List.{join_with_byte};
-ghost use Rattle.cq_script.specs.Texts.{escaped_byte, escaped, value_text, fields_line, row_line, count_line, what_text, fault_text, text_of};
+ghost use Rattle.cq_script.specs.Texts.{escaped, value_text, fields_line, row_line, count_line, tag_text, text_of};
 
-use cq_tree::{Answer, Fault, Tag, What};
+use crate::fault::push_fault;
+use crate::words::{push_escaped, push_with, push_words};
+use cq_answer::{Answer, Tag};
 use cq_value::{NoMemory, Row, Rows, Text, Value};
 use itoa::Buffer;
 use std::alloc::{AllocError, Global};
-
-#[tactic(auto, unfolding(crate::specs::Texts::escaped_byte))]
-fn push_byte(out: &mut Vec<u8>, byte: u8) -> Result<(), AllocError>
-    ensures { OnOk result (out.new.items ≡ out.old.items ++ escaped_byte byte) }
-{
-    match byte {
-        b'\\' => out.extend_from_slice(b"\\\\"),
-        b'|' => out.extend_from_slice(b"\\|"),
-        b'\n' => out.extend_from_slice(b"\\n"),
-        _ => out.extend_from_slice(&[byte]),
-    }
-}
-
-#[tactic(auto, unfolding(crate::specs::Texts::escaped))]
-fn push_escaped(out: &mut Vec<u8>, bytes: &[u8]) -> Result<(), AllocError>
-    ensures { OnOk result (out.new.items ≡ out.old.items ++ escaped bytes.now) }
-{
-    for byte in bytes {
-        push_byte(out, *byte)?;
-    }
-    Ok(())
-}
 
 /// A field of a line.
 trait Field {
@@ -128,42 +108,16 @@ fn push_count(out: &mut Vec<u8>, n: u64) -> Result<(), AllocError>
     out.extend_from_slice(b" rows)\n")
 }
 
-#[tactic(auto, unfolding(crate::specs::Texts::what_text))]
-fn name_of(what: What) -> &'static [u8]
-    ensures { result.now ≡ what_text what }
+#[tactic(auto, unfolding(crate::specs::Texts::tag_text))]
+fn push_tag(out: &mut Vec<u8>, tag: Tag) -> Result<(), AllocError>
+    ensures { OnOk result (out.new.items ≡ out.old.items ++ tag_text tag) }
 {
-    match what {
-        What::Ids => b"ids",
-        What::Depth => b"depth",
-    }
-}
-
-/// Puts the words and the number last.
-fn push_with(out: &mut Vec<u8>, words: &[u8], number: u64) -> Result<(), AllocError>
-    ensures { OnOk result (out.new.items ≡ out.old.items ++ (words.now ++ decimal number)) }
-{
-    let mut buffer = Buffer::new();
-    out.extend_from_slice(words)?;
-    out.extend_from_slice(buffer.format(number).as_bytes())
-}
-
-#[tactic(auto, unfolding(crate::specs::Texts::fault_text))]
-fn push_fault(out: &mut Vec<u8>, fault: Fault) -> Result<(), AllocError>
-    ensures { OnOk result (out.new.items ≡ out.old.items ++ fault_text fault) }
-{
-    match fault {
-        Fault::OpenQuote { at } => push_with(out, b"1 open quote at ", at),
-        Fault::BadCharacter { at } => push_with(out, b"2 bad character at ", at),
-        Fault::NumberTooLarge { at } => push_with(out, b"3 number too large at ", at),
-        Fault::Syntax { at } => push_with(out, b"4 syntax at ", at),
-        Fault::Memory => out.extend_from_slice(b"24 out of memory"),
-        Fault::Duplicate => out.extend_from_slice(b"30 duplicate key"),
-        Fault::Limit { what, number } => {
-            out.extend_from_slice(b"33 limit ")?;
-            out.extend_from_slice(name_of(what))?;
-            push_with(out, b" ", number)
-        }
-        Fault::NotBuilt => out.extend_from_slice(b"35 not built"),
+    match tag {
+        Tag::CreateTable => push_words(out, b"CREATE TABLE"),
+        Tag::Insert(n) => push_with(out, b"INSERT 0 ", n),
+        Tag::Update(n) => push_with(out, b"UPDATE ", n),
+        Tag::Delete(n) => push_with(out, b"DELETE ", n),
+        Tag::Setting => push_words(out, b"SET"),
     }
 }
 
@@ -172,11 +126,8 @@ fn push_answer(out: &mut Vec<u8>, answer: &Answer) -> Result<(), AllocError>
     ensures { OnOk result (out.new.items ≡ out.old.items ++ text_of answer.now) }
 {
     match answer {
-        Answer::Tag(Tag::CreateTable) => out.extend_from_slice(b"CREATE TABLE\n"),
-        Answer::Tag(Tag::Insert(n)) => {
-            let mut buffer = Buffer::new();
-            out.extend_from_slice(b"INSERT 0 ")?;
-            out.extend_from_slice(buffer.format(*n).as_bytes())?;
+        Answer::Tag(tag) => {
+            push_tag(out, *tag)?;
             out.extend_from_slice(b"\n")
         }
         Answer::Table { names, rows } => {
@@ -186,7 +137,7 @@ fn push_answer(out: &mut Vec<u8>, answer: &Answer) -> Result<(), AllocError>
         }
         Answer::Failed(fault) => {
             out.extend_from_slice(b"ERROR ")?;
-            push_fault(out, *fault)?;
+            push_fault(out, fault)?;
             out.extend_from_slice(b"\n")
         }
     }

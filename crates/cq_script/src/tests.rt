@@ -1,5 +1,5 @@
-//! Scripts and texts worked out by hand, sources and sinks that fail in mid-stream, and each call that may want memory,
-//! once with ample memory.
+//! Scripts worked out by hand, sources and sinks that fail in mid-stream, and each call that may want memory, once with ample
+//! memory.
 
 ghost use Rattle.std.specs.Prelude.{◌≡◌, ◌<◌, ℕ, List, ◌++◌, map, IfOk, OnOk};
 ghost use Rattle.cq_script.specs.Scripts.{Cut, statements, statement_of, if_any};
@@ -7,13 +7,11 @@ ghost use Rattle.cq_script.specs.Scripts.{Cut, statements, statement_of, if_any}
 use crate::cutter::Cutter;
 use crate::fatal::Fatal;
 use crate::memory::{MemSink, MemSource};
-use crate::rendering::render;
 use crate::scan::statement_in;
 use crate::sink::{Sink, SinkError, emit};
 use crate::source::{Failed, Source};
 use crate::standard::{ReadSource, WriteSink};
-use cq_tree::{Answer, Fault, Tag, What};
-use cq_value::{Items, Names, NoMemory, Row, Rows, Text, Value};
+use cq_value::{Items, NoMemory};
 use std::alloc::Global;
 use std::test::Fail;
 
@@ -165,98 +163,14 @@ fn readers_and_writers(rt: HostRuntime) -> Result<(), Fail> {
     Ok(())
 }
 
-fn names(alloc: Global, first: &'static str, second: &'static str) -> Result<Names, Fail> {
-    let mut names = Names::new(alloc);
-    names.put(Text::of_string(String::from_str(alloc, first)?))?;
-    names.put(Text::of_string(String::from_str(alloc, second)?))?;
-    Ok(names)
-}
-
-fn row(alloc: Global, first: Value, second: &'static str) -> Result<Row, Fail> {
-    let mut row = Row::new(alloc);
-    row.put(first)?;
-    row.put(Value::Text(Text::of_string(String::from_str(alloc, second)?)))?;
-    Ok(row)
-}
-
 #[test]
-fn tables_are_rendered(rt: HostRuntime) -> Result<(), Fail> {
-    let alloc = rt.alloc();
-    let empty = Answer::Table {
-        names: names(alloc, "k", "v")?,
-        rows: Rows::new(alloc),
-    };
-    assert_eq!(rt;
-        render(alloc, &empty)?.as_slice(),
-        b"k|v\n(0 rows)\n".as_slice()
-    );
-    let mut rows = Rows::new(alloc);
-    rows.put(row(alloc, Value::Int(-7), "a|b\\c\nd")?)?;
-    let one = Answer::Table {
-        names: names(alloc, "k|", "v")?,
-        rows,
-    };
-    assert_eq!(rt;
-        render(alloc, &one)?.as_slice(),
-        b"k\\||v\n-7|a\\|b\\\\c\\nd\n(1 row)\n".as_slice()
-    );
-    let mut rows = Rows::new(alloc);
-    rows.put(row(alloc, Value::Null, "\\N")?)?;
-    rows.put(row(alloc, Value::Int(10), "")?)?;
-    let two = Answer::Table {
-        names: names(alloc, "k", "v")?,
-        rows,
-    };
-    assert_eq!(rt;
-        render(alloc, &two)?.as_slice(),
-        b"k|v\n\\N|\\\\N\n10|\n(2 rows)\n".as_slice()
-    );
-    Ok(())
-}
-
-#[test]
-fn other_answers_are_rendered(rt: HostRuntime) -> Result<(), Fail> {
-    let alloc = rt.alloc();
-    let limit = Fault::Limit {
-        what: What::Ids,
-        number: 4294967296,
-    };
-    let depth = Fault::Limit {
-        what: What::Depth,
-        number: 64,
-    };
-    for (answer, want) in [
-        (Answer::Tag(Tag::CreateTable), "CREATE TABLE\n"),
-        (Answer::Tag(Tag::Insert(12)), "INSERT 0 12\n"),
-        (
-            Answer::Failed(Fault::OpenQuote { at: 7 }),
-            "ERROR 1 open quote at 7\n",
-        ),
-        (
-            Answer::Failed(Fault::BadCharacter { at: 0 }),
-            "ERROR 2 bad character at 0\n",
-        ),
-        (
-            Answer::Failed(Fault::NumberTooLarge { at: 7 }),
-            "ERROR 3 number too large at 7\n",
-        ),
-        (
-            Answer::Failed(Fault::Syntax { at: 1234 }),
-            "ERROR 4 syntax at 1234\n",
-        ),
-        (Answer::Failed(depth), "ERROR 33 limit depth 64\n"),
-        (Answer::Failed(Fault::Memory), "ERROR 24 out of memory\n"),
-        (Answer::Failed(Fault::Duplicate), "ERROR 30 duplicate key\n"),
-        (Answer::Failed(limit), "ERROR 33 limit ids 4294967296\n"),
-        (Answer::Failed(Fault::NotBuilt), "ERROR 35 not built\n"),
+fn last_lines(rt: HostRuntime) -> Result<(), Fail> {
+    for (fatal, want) in [
+        (Fatal::Usage, "FATAL usage\n"),
+        (Fatal::Read, "FATAL read\n"),
+        (Fatal::LimitBytes, "FATAL limit bytes 16777216\n"),
     ] {
-        assert_eq!(rt; render(alloc, &answer)?.as_slice(), want.as_bytes());
+        assert_eq!(rt; fatal.line(), want.as_bytes());
     }
-    assert_eq!(rt; Fatal::Usage.line(), b"FATAL usage\n".as_slice());
-    assert_eq!(rt; Fatal::Read.line(), b"FATAL read\n".as_slice());
-    assert_eq!(rt;
-        Fatal::LimitBytes.line(),
-        b"FATAL limit bytes 16777216\n".as_slice()
-    );
     Ok(())
 }

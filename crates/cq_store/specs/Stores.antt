@@ -1,6 +1,10 @@
 -- What a store holds: the rows of one shard, on one node, and the changes staged for them.
-use Rattle.std.specs.Prelude.{◌≡◌, ◌<◌, ◌≤◌, ◌⊎◌, ℕ, Bool, true, IsTrue, List, []}
+use Rattle.std.specs.Prelude.{◌≡◌, ◌<◌, ◌≤◌, ◌⊎◌, ℕ, Bool, true, IsTrue, List, [], slice_index_or}
+use Rattle.std.specs.Ordering.{is_eq}
 use Rattle.cq_value.specs.declared.change.Change.{Change}
+use Rattle.cq_value.specs.declared.value.Value.{Value}
+use Rattle.cq_value.specs.declared.value.Value.TheVariants.{Null}
+use Rattle.cq_value.specs.Order.{value_cmp}
 use Rattle.cq_value.specs.Tables.{Table, empty_table}
 
 -- the node that the store is on, the shard that it keeps (0: none), the shard's rows, the changes staged, how many calls
@@ -28,6 +32,10 @@ pub record Becomes (old want new : StoreState) : Type 0 where
   pub state : new ≡ record want { faults = new.faults }
   pub counts : old.faults ≤ new.faults
   pub steady : IsTrue old.steady → new.faults ≡ old.faults
+
+-- whether a row has this value in a column, NULL being itself; past the row's end stands NULL
+abbrev pub has_value : ℕ → Value → List Value → Bool
+has_value column value row = is_eq (value_cmp (slice_index_or row column Null) value)
 
 -- a spare store of a node that never fails
 abbrev pub steady_spare : ℕ → StoreState

@@ -1,15 +1,16 @@
-ghost use Rattle.std.specs.Prelude.{◌≡◌, ◌<◌, [], false, OnOk, IfOk, IfErr};
+ghost use Rattle.std.specs.Prelude.{◌≡◌, ◌<◌, [], false, filter, OnOk, IfOk, IfErr};
 ghost use Rattle.cq_value.specs.Changes.{Fit};
-ghost use Rattle.cq_value.specs.Tables.{empty_table};
+ghost use Rattle.cq_value.specs.Tables.{empty_table, rows_of};
 ghost use Rattle.cq_store.specs.Faults.{FaultState, held, fails_next, counted, RefusesCall};
+ghost use Rattle.cq_store.specs.Stores.{has_value};
 
 use crate::mem::MemStore;
 use crate::store::{Store, StoreError};
-use cq_value::{Changes, Numbered};
+use cq_value::{Changes, Numbered, Rows, Value};
 use std::alloc::Global;
 use std::marker::Model;
 
-/// A store in memory of which chosen calls fail: its scans and stages are counted together, from 1, and those whose
+/// A store in memory of which chosen calls fail: its scans, picks and stages are counted together, from 1, and those whose
 /// numbers are listed fail.
 #[derive(Drop)]
 pub struct FaultStore {
@@ -63,6 +64,18 @@ impl FaultStore {
         self.inner.read().map_err(|_| StoreError::Memory)
     }
 
+    /// What `pick` does, with the exact calls that fail: those whose numbers are listed. Others give copies of the rows, but
+    /// for want of memory.
+    pub fn counted_pick(&mut self, column: u32, value: &Value) -> Result<Rows, StoreError>
+        ensures ok { IfOk result (λ rows. (fails_next self.old ≡ false) × (rows ≡ filter (has_value column value.now) (rows_of self.old.rows)) × (self.new ≡ counted self.old)) }
+        ensures err { IfErr result (λ e. RefusesCall e self.old self.new) }
+    {
+        self.count_call()?;
+        self.inner
+            .read_matches(column, value)
+            .map_err(|_| StoreError::Memory)
+    }
+
     /// What `stage` does, with the exact calls that fail: those whose numbers are listed. Others stage the changes, but for
     /// want of memory.
     pub fn counted_stage(&mut self, changes: &Changes) -> Result<(), StoreError>
@@ -100,6 +113,10 @@ impl Store for FaultStore {
 
     fn scan(&mut self) -> Result<Numbered, StoreError> {
         self.counted_scan()
+    }
+
+    fn pick(&mut self, column: u32, value: &Value) -> Result<Rows, StoreError> {
+        self.counted_pick(column, value)
     }
 
     fn stage(&mut self, changes: &Changes) -> Result<(), StoreError> {

@@ -1,9 +1,12 @@
-ghost use Rattle.std.specs.Prelude.{◌≡◌, [], IfOk, OnOk, OnErr};
+ghost use Rattle.std.specs.Prelude.{◌≡◌, [], filter, map, IfOk, OnOk, OnErr};
 ghost use Rattle.cq_value.specs.Changes.{Fit, adds_in};
-ghost use Rattle.cq_store.specs.Stores.{steady_spare};
+ghost use Rattle.cq_value.specs.Tables.{rows_of};
+ghost use Rattle.cq_store.specs.Stores.{has_value, steady_spare};
 
 use crate::store::{Store, StoreError};
-use cq_value::{Change, Changes, Duplicate, NoMemory, Numbered, ReservedTable};
+use cq_value::{
+    Change, Changes, Duplicate, NoMemory, Numbered, ReservedTable, Row, Rows, Value, order,
+};
 use std::alloc::Global;
 use std::marker::Model;
 use std::mem;
@@ -42,6 +45,34 @@ fn count_adds(changes: &Changes) -> u64
         .count() as u64
 }
 
+/// Whether a row has this value in a column, in which NULL stands past the row's end.
+fn is_value_in(row: &Row, column: u32, value: &Value) -> bool
+    ensures { result ≡ has_value column value.now row.now }
+{
+    match row.get(column as u64) {
+        Some(found) => order(found, value).is_eq(),
+        None => order(&Value::Null, value).is_eq(),
+    }
+}
+
+/// Copies of the rows that have this value in a column, in order.
+fn copy_matches(
+    alloc: Global,
+    pairs: &[(u64, Row)],
+    column: u32,
+    value: &Value,
+) -> Result<Rows, NoMemory>
+    ensures { IfOk result (λ rows. rows ≡ filter (has_value column value.now) (map (λ p. p.1) pairs.now)) }
+{
+    let mut rows = Rows::new(alloc);
+    for pair in pairs {
+        if is_value_in(&pair.1, column, value) {
+            rows.put(pair.1.copy(alloc)?)?;
+        }
+    }
+    Ok(rows)
+}
+
 impl MemStore {
     /// A spare store of a node.
     pub fn new(alloc: Global, node: u32) -> MemStore
@@ -61,6 +92,13 @@ impl MemStore {
         ensures { IfOk result (λ t. t ≡ self.now.rows) }
     {
         self.rows.copy(self.alloc)
+    }
+
+    /// Copies of the rows that have this value in a column, in order, without the changes staged.
+    pub(crate) fn read_matches(&self, column: u32, value: &Value) -> Result<Rows, NoMemory>
+        ensures { IfOk result (λ rows. rows ≡ filter (has_value column value.now) (rows_of self.now.rows)) }
+    {
+        copy_matches(self.alloc, self.rows.pairs(), column, value)
     }
 
     /// Stages a copy of changes, and makes room for the rows that they add.
@@ -100,6 +138,11 @@ impl Store for MemStore {
 
     fn scan(&mut self) -> Result<Numbered, StoreError> {
         self.read().map_err(|_| StoreError::Memory)
+    }
+
+    fn pick(&mut self, column: u32, value: &Value) -> Result<Rows, StoreError> {
+        self.read_matches(column, value)
+            .map_err(|_| StoreError::Memory)
     }
 
     fn stage(&mut self, changes: &Changes) -> Result<(), StoreError> {

@@ -1,9 +1,9 @@
-ghost use Rattle.std.specs.Prelude.{◌≡◌, ◌<◌, [], OnOk, OnErr, IfOk, IfErr, IsTrue};
+ghost use Rattle.std.specs.Prelude.{◌≡◌, ◌<◌, [], filter, OnOk, OnErr, IfOk, IfErr, IsTrue};
 ghost use Rattle.cq_value.specs.Changes.{Fit, applied};
-ghost use Rattle.cq_value.specs.Tables.{empty_table};
-ghost use Rattle.cq_store.specs.Stores.{StoreState, IsSpare, Becomes, Rose};
+ghost use Rattle.cq_value.specs.Tables.{empty_table, rows_of};
+ghost use Rattle.cq_store.specs.Stores.{StoreState, IsSpare, Becomes, Rose, has_value};
 
-use cq_value::{Changes, Numbered};
+use cq_value::{Changes, Numbered, Rows, Value};
 use thiserror::Error;
 
 /// Why a store did not answer: the call failed, or there was no memory for it.
@@ -41,6 +41,14 @@ pub trait Store: Drop {
     /// A copy of the rows, without the changes staged. `Err`: the call failed, or there was no memory for the copy.
     fn scan(&mut self) -> Result<Numbered, StoreError>
         ensures rows { IfOk result (λ t. t ≡ (state self.old).rows) }
+        ensures same { Becomes (state self.old) (state self.old) (state self.new) }
+        ensures failed { IfErr result (λ e. e ≡ StoreError.Failed → Rose (state self.old).faults (state self.new).faults) }
+        ensures steady { IfErr result (λ e. IsTrue (state self.old).steady → e ≡ StoreError.Memory) };
+
+    /// Copies of the rows that have this value in a column, in order, without the changes staged. `Err`: the call failed, or
+    /// there was no memory for the copies.
+    fn pick(&mut self, column: u32, value: &Value) -> Result<Rows, StoreError>
+        ensures rows { IfOk result (λ rows. rows ≡ filter (has_value column value.now) (rows_of (state self.old).rows)) }
         ensures same { Becomes (state self.old) (state self.old) (state self.new) }
         ensures failed { IfErr result (λ e. e ≡ StoreError.Failed → Rose (state self.old).faults (state self.new).faults) }
         ensures steady { IfErr result (λ e. IsTrue (state self.old).steady → e ≡ StoreError.Memory) };
@@ -90,6 +98,10 @@ impl Store for Box<dyn Store + Send> {
 
     fn scan(&mut self) -> Result<Numbered, StoreError> {
         (**self).scan()
+    }
+
+    fn pick(&mut self, column: u32, value: &Value) -> Result<Rows, StoreError> {
+        (**self).pick(column, value)
     }
 
     fn stage(&mut self, changes: &Changes) -> Result<(), StoreError> {

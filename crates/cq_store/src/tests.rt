@@ -1,4 +1,6 @@
 ghost use Rattle.std.specs.Prelude.{◌≡◌, ◌<◌, [], ◌∷◌, IfOk, length};
+ghost use Rattle.cq_value.specs.Changes.{Fit};
+ghost use Rattle.cq_value.specs.Tables.{empty_table};
 ghost use Rattle.cq_value.specs.declared.change.Change.TheVariants.{Add};
 ghost use Rattle.cq_store.specs.Stores.{IsSpare};
 
@@ -18,6 +20,27 @@ fn first_row(alloc: Global, number: i128) -> Result<Changes, NoMemory>
     row.put(Value::Int(number))?;
     let mut changes = Changes::new(alloc);
     changes.put(Change::Add(0, row))?;
+    Ok(changes)
+}
+
+/// A row of a number, and of a second value where there is one.
+fn row_of(alloc: Global, number: i128, second: Option<Value>) -> Result<Row, NoMemory> {
+    let mut row = Row::new(alloc);
+    row.put(Value::Int(number))?;
+    if let Some(second) = second {
+        row.put(second)?;
+    }
+    Ok(row)
+}
+
+/// Changes that add three rows: the first and the last have one number, and the last two NULL or nothing as the second value.
+fn three_rows(alloc: Global) -> Result<Changes, NoMemory>
+    ensures { IfOk result (Fit empty_table) }
+{
+    let mut changes = Changes::new(alloc);
+    changes.put(Change::Add(0, row_of(alloc, 5, Some(Value::Int(1)))?))?;
+    changes.put(Change::Add(1, row_of(alloc, 6, Some(Value::Null))?))?;
+    changes.put(Change::Add(2, row_of(alloc, 5, None)?))?;
     Ok(changes)
 }
 
@@ -54,6 +77,44 @@ fn discarded_rows_are_gone(rt: HostRuntime) -> Result<(), Fail> {
     assert_eq!(rt; store.shard(), 0);
     assert_eq!(rt; store.scan()?.len(), 0);
     assert_eq!(rt; store.faults(), 0);
+    Ok(())
+}
+
+#[test]
+fn rows_are_picked_by_a_value(rt: HostRuntime) -> Result<(), Fail> {
+    let alloc = rt.alloc();
+    let mut store: BoxedStore = Box::new(alloc, MemStore::new(alloc, 7))?;
+    store.adopt(102008);
+    store.stage(&three_rows(alloc)?)?;
+    assert_eq!(rt; store.pick(0, &Value::Int(5))?.len(), 0);
+    store.commit();
+    assert_eq!(rt; store.pick(0, &Value::Int(5))?.len(), 2);
+    assert_eq!(rt; store.pick(0, &Value::Int(7))?.len(), 0);
+    assert_eq!(rt; store.pick(1, &Value::Null)?.len(), 2);
+    let rows = store.pick(0, &Value::Int(6))?;
+    assert_eq!(rt; rows.len(), 1);
+    let row = rows.get(0).ok_or("none was picked")?;
+    assert!(rt; matches!(row.get(0), Some(Value::Int(6))));
+    assert!(rt; matches!(row.get(1), Some(Value::Null)));
+    Ok(())
+}
+
+#[test]
+fn picks_are_counted(rt: HostRuntime) -> Result<(), Fail> {
+    let alloc = rt.alloc();
+    let fails = [3].to_vec(alloc)?;
+    let mut store: BoxedStore = Box::new(alloc, FaultStore::new(alloc, 7, fails))?;
+    store.adopt(102008);
+    store.stage(&first_row(alloc, 5)?)?;
+    store.commit();
+    assert_eq!(rt; store.pick(0, &Value::Int(5))?.len(), 1);
+    assert_eq!(rt;
+        store.pick(0, &Value::Int(5)).err(),
+        Some(StoreError::Failed)
+    );
+    assert_eq!(rt; store.faults(), 1);
+    assert_eq!(rt; store.pick(0, &Value::Int(5))?.len(), 1);
+    assert_eq!(rt; store.scan()?.len(), 1);
     Ok(())
 }
 

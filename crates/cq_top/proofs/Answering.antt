@@ -4,12 +4,10 @@ use Rattle.std.specs.Prelude.{fold, ◌↔◌}
 use Rattle.std.proofs.Math.ListN.{set}
 use Rattle.std.proofs.lemmas.Grind.{common_steps}
 use Rattle.std.proofs.lemmas.List.{take-append-drop}
-use Rattle.cq_point.specs.declared.answered.Answered.{Answered}
-use Rattle.cq_single.specs.declared.catalog.Catalog.{Catalog}
-use Rattle.cq_single.specs.Tables.{no_table}
-use Rattle.cq_history.specs.Log.{catalog_after}
-use Rattle.cq_forms.specs.Reading.{reading}
-use Rattle.cq_coordinator.specs.Responses.{ReadsAs}
+use Rattle.cq_answer.specs.declared.answered.Answered.{Answered}
+use Rattle.cq_statement.specs.Reading.{reading_of}
+use Rattle.cq_history.specs.Environment.{Environment, after, first as at_first}
+use Rattle.cq_session.specs.Responses.{ReadsAs}
 use Rattle.cq_script.specs.Scripts.{Cut, Gives, pieces, statement_of, statements, whole_statements, rest_of, if_any}
 use Rattle.cq_script.specs.Streams.{SourceState, SinkState, Took, Moved}
 use Rattle.cq_script.proofs.CuttingLaws.{cut_first, cutting_more, cutting_gives, cutting_done, cut_last}
@@ -29,15 +27,15 @@ set_last xs ys zs p a n e y z = z ∙ ap (λ v. set v (n - 1) a) y ∙ ap (λ m.
     at_last (x ∷ xs) p a = ap (λ v. x ∷ v) (at_last xs p a)
 
 -- one more text with its answer
-answers_from_more : (cat : Catalog) (texts : List (List ℕ)) (answers : List Answered) (text : List ℕ) (a : Answered) → AnswersFrom cat texts answers →
-    ReadsAs a.bound a.answer (reading text (fold (λ c (b : Answered). catalog_after c b.bound b.answer) cat answers)) → AnswersFrom cat (texts ++ text ∷ []) (answers ++ a ∷ [])
-answers_from_more cat [] [] text a all r = (r, tt)
-answers_from_more cat (t ∷ texts) (b ∷ answers) text a all r = (all.0, answers_from_more (catalog_after cat b.bound b.answer) texts answers text a all.1 r)
-answers_from_more cat [] (b ∷ answers) text a all r = absurd all
-answers_from_more cat (t ∷ texts) [] text a all r = absurd all
+answers_from_more : (e : Environment) (texts : List (List ℕ)) (answers : List Answered) (text : List ℕ) (a : Answered) → AnswersFrom e texts answers →
+    ReadsAs a.bound a.answer (reading_of text (fold (λ v (b : Answered). after v b.bound b.answer) e answers).catalog.tables) → AnswersFrom e (texts ++ text ∷ []) (answers ++ a ∷ [])
+answers_from_more e [] [] text a all r = (r, tt)
+answers_from_more e (t ∷ texts) (b ∷ answers) text a all r = (all.0, answers_from_more (after e b.bound b.answer) texts answers text a all.1 r)
+answers_from_more e [] (b ∷ answers) text a all r = absurd all
+answers_from_more e (t ∷ texts) [] text a all r = absurd all
 
 pub answers_more : (texts : List (List ℕ)) (old new : List Answered) (text : List ℕ) → AnswersTo texts old → AnswersNext old new text → AnswersTo (texts ++ text ∷ []) new
-answers_more texts old new text all next = subst (AnswersTo (texts ++ text ∷ [])) (sym next.1) (answers_from_more no_table texts old text next.0 all next.2)
+answers_more texts old new text all next = subst (AnswersTo (texts ++ text ∷ [])) (sym next.1) (answers_from_more at_first texts old text next.0 all next.2)
 
 -- one more text with its answer, if it has a byte
 pub answers_any : (texts : List (List ℕ)) (old new : List Answered) (text : List ℕ) → AnswersTo texts old → AnswersAny old new text → AnswersTo (texts ++ if_any text) new

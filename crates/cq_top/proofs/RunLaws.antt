@@ -6,74 +6,77 @@ use Rattle.std.proofs.lemmas.Bool.Decides.{nat_tests}
 use Rattle.std.specs.List.{AllByRecursion}
 use Rattle.std.proofs.lemmas.List.{length-map, take-append-drop}
 use Rattle.std.proofs.lemmas.List.Elements.{All-head, All-tail}
-use Rattle.cq_value.specs.declared.schema.Shape.{Shape}
-use Rattle.cq_point.specs.declared.answered.Answered.{Answered}
-use Rattle.cq_point.specs.declared.journal.Entry.{Entry}
-use Rattle.cq_point.specs.declared.journal.Journal.{Journal}
-use Rattle.cq_single.specs.declared.catalog.Catalog.{Catalog}
-use Rattle.cq_history.specs.Journals.{EachJournal, IsLegal}
+use Rattle.cq_answer.specs.declared.answered.Answered.{Answered}
+use Rattle.cq_tree.specs.declared.journal.Entry.{Entry}
+use Rattle.cq_catalog.specs.Contents.{Contents, nothing}
+use Rattle.cq_journal.specs.declared.journal.Journal.{Journal}
+use Rattle.cq_history.specs.Environment.{Environment, first, first_settings}
+use Rattle.cq_history.specs.Places.{EachJournal}
+use Rattle.cq_history.specs.Legality.{IsLegal}
 use Rattle.cq_history.specs.Log.{AllStand, IsInOrder, IsOfFirst}
+use Rattle.cq_history.specs.Room.{nodes}
 use Rattle.cq_history.specs.Between.{IsConsistent}
 use Rattle.cq_history.proofs.Standing.{all_stand}
 use Rattle.cq_history.proofs.Lists.{two_ways}
 use Rattle.cq_history.proofs.Ddl.{consistent_first}
 use Rattle.cq_store.specs.Stores.{StoreState, IsSpare}
 use Rattle.cq_store.specs.declared.worker.Worker.{Worker}
-use Rattle.cq_cluster.specs.Cluster.{stores_in, AreIdle, IsWaiting}
+use Rattle.cq_cluster.specs.Cluster.{stores_in, whole_at, AreIdle, IsWaiting}
 use Rattle.cq_cluster.specs.Ending.{IsFinal, AreJournals}
 use Rattle.cq_script.specs.Scripts.{statements, whole_statements}
 use Rattle.cq_script.specs.Streams.{SourceState, SinkState, Rose}
-use Rattle.cq_coordinator.specs.Coordination.{histories}
 use Rattle.cq_top.specs.declared.log.RunLog.{RunLog}
 use Rattle.cq_top.specs.declared.status.Status.{Status}
 use Rattle.cq_top.specs.declared.status.Status.TheVariants.{Done, Usage, ReadFault, Stopped, WriteFault, Memory, TooLong, Script}
 use Rattle.cq_top.specs.Scripts.{AnswersTo, AnswersFirst, IsAnswered, Serves}
 use Rattle.cq_top.specs.Serving.{IsEndedBy, IsRunEnd, BlamesSource, BlamesSink, BlamesLast}
-use Rattle.cq_top.specs.Runs.{IsEmptyLog, IsWhole, IsMisused, HasCause, journals_of}
+use Rattle.cq_top.specs.Runs.{IsEmptyLog, IsWhole, Stand, IsMisused, HasCause, journals_of}
 use Rattle.cq_top.proofs.Answering.{answers_first, first_of_all}
 
 -- a log of consistent answers and journals
-pub whole_of : {X : Type 0} (log : RunLog X) (histories : List (List Entry)) → IsConsistent log.catalog log.answers histories → journals_of log ≡ histories → AreJournals log.journals.list → log.retired ≡ [] → log.waves ≡ [] → IsWhole log
-whole_of log histories c is opened retired waves = record {
-  catalog = c.catalog;
+pub whole_of : {X : Type 0} (log : RunLog X) (stores : ℕ → ℕ) (e : Environment) (histories : List (List Entry)) → IsConsistent stores e log.answers histories → log.catalog ≡ e.catalog → journals_of log ≡ histories →
+    AreJournals log.catalog log.journals.list → log.retired ≡ [] → log.waves ≡ [] → IsWhole log
+whole_of log stores e histories c catalog is opened retired waves = record {
+  catalog = catalog ∙ ap (λ (v : Environment). v.catalog) c.environment;
   numbered = c.numbered;
-  count = (let e : length (journals_of log) ≡ length log.journals.list = length-map _ _ in sym e ∙ ap length is ∙ c.groups);
   opened = opened;
-  legal = subst (EachJournal (IsLegal log.catalog)) (sym is) c.legal;
+  legal = subst (EachJournal (IsLegal log.catalog)) (sym is) (subst (λ (v : Contents). EachJournal (IsLegal v) histories) (sym catalog) c.legal);
   known = subst (EachJournal (λ group es. AllByRecursion (IsOfFirst (length log.answers)) es)) (sym is) c.older;
   ordered = subst (EachJournal (λ group es. IsInOrder es)) (sym is) c.order;
   retired = retired;
   waves = waves;
 }
 
-pub stand_of : (cat : Catalog) (answers : List Answered) (journals histories : List (List Entry)) → IsConsistent cat answers histories → journals ≡ histories → AllStand cat journals answers
-stand_of cat answers journals histories c is = subst (λ (v : List (List Entry)). AllStand cat v answers) (sym is) (all_stand cat histories answers c)
+pub stand_of : (answers : List Answered) (journals histories : List (List Entry)) (stores : ℕ → ℕ) (e : Environment) → IsConsistent stores e answers histories → journals ≡ histories → AllStand stores journals answers
+stand_of answers journals histories stores e c is = subst (λ (v : List (List Entry)). AllStand stores v answers) (sym is) (all_stand stores e histories answers c)
+
+-- before the first statement
+pub consistent_new : (stores : ℕ → ℕ) (c : Contents) (answers : List Answered) (journals : List (List Entry)) → c ≡ nothing → answers ≡ [] → journals ≡ [] → IsConsistent stores (record { catalog = c; settings = first_settings }) answers journals
+consistent_new stores c answers journals a b d = rw (a, b, d) (consistent_first stores)
 
 -- the empty log
-pub no_journals : {X : Type 0} (log : RunLog X) → IsEmptyLog log → journals_of log ≡ []
-no_journals log e = ap (map (λ (j : Journal). j.entries.list)) e.journals
-
-empty_consistent : {X : Type 0} (log : RunLog X) → IsEmptyLog log → IsConsistent log.catalog log.answers []
-empty_consistent log e = consistent_first log.catalog log.answers [] e.catalog e.answers refl
-
-none_opened : (js : List Journal) → js ≡ [] → AreJournals js
-none_opened js e group j s = (let nothing : slice_get [] group ≡ Some j = ap (λ v. slice_get v group) (sym e) ∙ s in cc)
+none_opened : AreJournals nothing []
+none_opened = record { count = refl; numbered = λ group j s. cc; opened = λ colocation i co j there h s. cc }
 
 pub empty_whole : {X : Type 0} (log : RunLog X) → IsEmptyLog log → IsWhole log
-empty_whole log e = whole_of log [] (empty_consistent log e) (no_journals log e) (none_opened log.journals.list e.journals) e.retired e.waves
+empty_whole log e = whole_of log (λ place. 0) first [] (subst (λ (v : List Answered). IsConsistent (λ place. 0) first v []) (sym e.answers) (consistent_first (λ place. 0))) e.catalog
+    (ap (map (λ (j : Journal). j.entries.list)) e.journals) (rw (e.catalog, e.journals) none_opened) e.retired e.waves
+
+pub empty_stands : {X : Type 0} (stores : ℕ → ℕ) (log : RunLog X) → IsEmptyLog log → Stand stores log
+empty_stands stores log e = subst (λ (v : List Answered). AllStand stores (journals_of log) v) (sym e.answers) tt
 
 -- workers whose stores all wait
 spare_of_waiting : {X : Type 0} (state : X → StoreState) (node : ℕ) (xs : List X) → All (λ x. IsWaiting node (state x)) xs → AllByRecursion (λ x. IsSpare (state x)) xs
 spare_of_waiting state node [] all = tt
 spare_of_waiting state node (x ∷ xs) all = ((All-head (λ x. IsWaiting node (state x)) x xs all).spare, spare_of_waiting state node xs (All-tail (λ x. IsWaiting node (state x)) x xs all))
 
-pub final_idle : {X : Type 0} (state : X → StoreState) (shape : Shape) (journals : List (List Entry)) (workers : List (Worker X)) → AreIdle state workers → journals ≡ [] → IsFinal state workers shape journals workers
-final_idle {X} state shape journals workers idle none = subst (λ (v : List (List Entry)). IsFinal state workers shape v workers) (sym none) (record {
+pub final_idle : {X : Type 0} (state : X → StoreState) (c : Contents) (journals : List Journal) (workers : List (Worker X)) → AreIdle state workers → journals ≡ [] → IsFinal state workers c journals workers
+final_idle {X} state c journals workers idle none = subst (λ (v : List Journal). IsFinal state workers c v workers) (sym none) (record {
   same_length = refl;
   used = λ place w h s. record {
     node = (idle place w s).node;
     total = ap stores_in (sym s);
-    stores = (w.stores.items, [], sym (append-nil w.stores.items), spare_of_waiting state (place + 1) w.stores.items (idle place w s).stores, tt);
+    stores = (w.stores.items, [], sym (append-nil w.stores.items), spare_of_waiting state (place + 1) w.stores.items (idle place w s).stores, refl);
   };
   unused = λ place h. refl;
 })

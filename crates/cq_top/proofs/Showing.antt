@@ -2,7 +2,7 @@
 use Rattle.std.proofs.Common.{◌≡◌, ℕ, List, [], ◌∷◌, ◌++◌, length, take, drop, refl, sym, ◌∙◌, ap, subst, Some, slice_get, append_assoc, append-nil}
 use Rattle.std.specs.Prelude.{option_map}
 use Rattle.std.proofs.lemmas.List.{take-append-drop}
-use Rattle.cq_point.specs.declared.answered.Answered.{Answered}
+use Rattle.cq_answer.specs.declared.answered.Answered.{Answered}
 use Rattle.cq_script.specs.Texts.{text_of, fatal_line}
 use Rattle.cq_script.specs.declared.fatal.Fatal.{Fatal}
 use Rattle.cq_script.specs.declared.fatal.Fatal.TheVariants as fatal

@@ -1,6 +1,6 @@
 -- The bytes that a run writes: the texts of its answers, and a last line where it stops early.
 use Rattle.std.specs.Prelude.{◌≡◌, ℕ, List, [], ◌∷◌, ◌++◌, flat_map}
-use Rattle.cq_point.specs.declared.answered.Answered.{Answered}
+use Rattle.cq_answer.specs.declared.answered.Answered.{Answered}
 use Rattle.cq_script.specs.Texts.{text_of, fatal_line}
 use Rattle.cq_script.specs.declared.fatal.Fatal.TheVariants as fatal
 use Rattle.cq_top.specs.declared.status.Status.{Status}

@@ -1,12 +1,14 @@
 -- What a run promises of its log, its answers, the bytes written and the stores.
 use Rattle.std.specs.Prelude.{◌≡◌, ◌≢◌, ◌<◌, ◌⊎◌, ℕ, IsTrue, Option, Some, List, [], ◌++◌, length, map}
 use Rattle.std.specs.List.{AllByRecursion}
-use Rattle.cq_point.specs.declared.journal.Entry.{Entry}
-use Rattle.cq_point.specs.declared.journal.Journal.{Journal}
-use Rattle.cq_point.specs.declared.answered.Answered.{Answered}
-use Rattle.cq_single.specs.Tables.{no_table, groups_of}
-use Rattle.cq_history.specs.Journals.{EachJournal, AllLegal}
-use Rattle.cq_history.specs.Log.{catalog_of, NumberedFrom, AllStand, IsInOrder, IsOfFirst}
+use Rattle.cq_tree.specs.declared.journal.Entry.{Entry}
+use Rattle.cq_answer.specs.declared.answered.Answered.{Answered}
+use Rattle.cq_catalog.specs.Contents.{nothing}
+use Rattle.cq_journal.specs.declared.journal.Journal.{Journal}
+use Rattle.cq_history.specs.Environment.{first, environment_of}
+use Rattle.cq_history.specs.Places.{EachJournal}
+use Rattle.cq_history.specs.Legality.{AllLegal}
+use Rattle.cq_history.specs.Log.{NumberedFrom, AllStand, IsInOrder, IsOfFirst}
 use Rattle.cq_cluster.specs.Ending.{AreJournals}
 use Rattle.cq_script.specs.Streams.{SourceState, SinkState, Rose}
 use Rattle.cq_top.specs.declared.log.RunLog.{RunLog}
@@ -16,7 +18,7 @@ use Rattle.cq_top.specs.Outputs.{IsOutput}
 
 pub record IsEmptyLog {X : Type 0} (log : RunLog X) : Type 0 where
   pub answers : log.answers ≡ []
-  pub catalog : log.catalog ≡ no_table
+  pub catalog : log.catalog ≡ nothing
   pub journals : log.journals.list ≡ []
   pub retired : log.retired ≡ []
   pub waves : log.waves ≡ []
@@ -25,22 +27,23 @@ pub record IsEmptyLog {X : Type 0} (log : RunLog X) : Type 0 where
 abbrev pub journals_of : {X : Type 0} → RunLog X → List (List Entry)
 journals_of log = map (λ (j : Journal). j.entries.list) log.journals.list
 
--- the log is whole: its catalogue is that which its answers give; there is one journal for each shard group, opened on the
--- group's node; each journal is a legal history, its entries are of statements of the log, in the order of the statements
+-- the log is whole: its catalogue is that which its answers give; the answers are numbered, each with the settings that those before it
+-- give; there is one journal for each shard group, opened on the group's node; each journal is a legal history, its entries are of
+-- statements of the log, in the order of the statements
 pub record IsWhole {X : Type 0} (log : RunLog X) : Type 0 where
-  pub catalog : log.catalog ≡ catalog_of log.answers
-  pub numbered : NumberedFrom 1 log.answers
-  pub count : length log.journals.list ≡ groups_of log.catalog
-  pub opened : AreJournals log.journals.list
+  pub catalog : log.catalog ≡ (environment_of log.answers).catalog
+  pub numbered : NumberedFrom 1 first log.answers
+  pub opened : AreJournals log.catalog log.journals.list
   pub legal : AllLegal log.catalog (journals_of log)
   pub known : EachJournal (λ group es. AllByRecursion (IsOfFirst (length log.answers)) es) (journals_of log)
   pub ordered : EachJournal (λ group es. IsInOrder es) (journals_of log)
   pub retired : log.retired ≡ []
   pub waves : log.waves ≡ []
 
--- every answer stands: it is its statement's meaning over the undistributed table, at the statement's places in the journals
-abbrev pub Stand : {X : Type 0} → RunLog X → Type 0
-Stand log = AllStand log.catalog (journals_of log) log.answers
+-- every answer stands: it is its statement's meaning over the undistributed database, at the statement's places in the journals, or a
+-- refusal with its cause, where the nodes had so many stores
+abbrev pub Stand : {X : Type 0} → (ℕ → ℕ) → RunLog X → Type 0
+Stand stores log = AllStand stores (journals_of log) log.answers
 
 -- the command line is wrong, or there are too few workers
 abbrev pub IsMisused : ℕ → ℕ → Type 0

@@ -1,28 +1,26 @@
--- The answers to the statements of a script: each statement is read over the catalogue that the answers before it give.
+-- The answers to the statements of a script: each statement is read over the tables that the answers before it give.
 use Rattle.std.specs.Prelude.{◌≡◌, ◌+◌, ◌<◌, ◌≤◌, ⊤, ℕ, List, [], ◌∷◌, ◌++◌, length, take, drop, Option, Some}
-use Rattle.cq_point.specs.declared.answered.Answered.{Answered}
-use Rattle.cq_single.specs.declared.catalog.Catalog.{Catalog}
-use Rattle.cq_single.specs.Tables.{no_table}
-use Rattle.cq_history.specs.Log.{catalog_after}
-use Rattle.cq_forms.specs.Reading.{reading}
+use Rattle.cq_answer.specs.declared.answered.Answered.{Answered}
+use Rattle.cq_statement.specs.Reading.{reading_of}
+use Rattle.cq_history.specs.Environment.{Environment, after, first}
 use Rattle.cq_script.specs.Scripts.{statements, whole_statements}
-use Rattle.cq_coordinator.specs.Responses.{ReadsAs}
+use Rattle.cq_session.specs.Responses.{ReadsAs}
 use Rattle.cq_top.specs.declared.status.Status.{Status}
 use Rattle.cq_top.specs.declared.status.Status.TheVariants.{Done, Usage, ReadFault, TooLong}
 
--- the answers are those to these texts, in order, from this catalogue on
-abbrev pub AnswersFrom : Catalog → List (List ℕ) → List Answered → Type 0
-AnswersFrom cat [] [] = ⊤
-AnswersFrom cat (text ∷ texts) (a ∷ answers) = ReadsAs a.bound a.answer (reading text cat) × AnswersFrom (catalog_after cat a.bound a.answer) texts answers
-AnswersFrom cat [] (a ∷ answers) = ⊥
-AnswersFrom cat (text ∷ texts) [] = ⊥
+-- the answers are those to these texts, in order, from this environment on
+abbrev pub AnswersFrom : Environment → List (List ℕ) → List Answered → Type 0
+AnswersFrom e [] [] = ⊤
+AnswersFrom e (text ∷ texts) (a ∷ answers) = ReadsAs a.bound a.answer (reading_of text e.catalog.tables) × AnswersFrom (after e a.bound a.answer) texts answers
+AnswersFrom e [] (a ∷ answers) = ⊥
+AnswersFrom e (text ∷ texts) [] = ⊥
 
 abbrev pub AnswersTo : List (List ℕ) → List Answered → Type 0
-AnswersTo texts answers = AnswersFrom no_table texts answers
+AnswersTo texts answers = AnswersFrom first texts answers
 
 -- the answers are those to the first of these texts
 abbrev pub AnswersFirst : List (List ℕ) → List Answered → Type 0
-AnswersFirst texts answers = (first rest : List (List ℕ)) × (texts ≡ first ++ rest) × AnswersTo first answers
+AnswersFirst texts answers = (front rest : List (List ℕ)) × (texts ≡ front ++ rest) × AnswersTo front answers
 
 -- the most bytes of a script
 abbrev pub most_bytes : ℕ

@@ -1,30 +1,41 @@
 -- How far a run is: its answers so far, what was taken of the script, and what was written.
 use Rattle.std.specs.Prelude.{◌≡◌, ◌≢◌, ◌≤◌, ◌⊎◌, ⊤, ℕ, IsTrue, Option, Some, None, List, [], ◌∷◌, ◌++◌, length, take, drop}
-use Rattle.cq_point.specs.declared.answered.Answered.{Answered}
-use Rattle.cq_history.specs.Log.{catalog_of}
+use Rattle.cq_answer.specs.declared.answered.Answered.{Answered}
+use Rattle.cq_statement.specs.Reading.{reading_of}
+use Rattle.cq_history.specs.Environment.{environment_of}
 use Rattle.cq_history.specs.Between.{IsConsistent}
 use Rattle.cq_store.specs.Stores.{StoreState}
-use Rattle.cq_forms.specs.Reading.{reading}
+use Rattle.cq_store.specs.declared.worker.Worker.{Worker}
+use Rattle.cq_cluster.specs.Cluster.{IsSound, AreWorkers, whole_at}
 use Rattle.cq_script.specs.Scripts.{Cut, Cutting}
 use Rattle.cq_script.specs.Streams.{SourceState, SinkState, Rose}
 use Rattle.cq_script.specs.declared.fatal.Fatal.{Fatal}
 use Rattle.cq_script.specs.declared.fatal.Fatal.TheVariants as fatal
-use Rattle.cq_coordinator.specs.Coordination.{IsSound, histories}
-use Rattle.cq_coordinator.specs.Responses.{ReadsAs}
+use Rattle.cq_coordinator.specs.Coordination.{environment, journals}
+use Rattle.cq_session.specs.Responses.{ReadsAs}
 use Rattle.cq_top.specs.declared.serving.Serving.{Serving}
 use Rattle.cq_top.specs.declared.status.Status.{Status}
 use Rattle.cq_top.specs.declared.status.Status.TheVariants.{Done, Usage, ReadFault, WriteFault, Memory, TooLong}
 use Rattle.cq_top.specs.Outputs.{texts, IsCutOff}
 use Rattle.cq_top.specs.Scripts.{AnswersTo}
 
--- the answers and the journals fit together, and the coordinator keeps its groups and stores
-pub record IsServing {X : Type 0} (state : X → StoreState) (s : Serving X) : Type 0 where
-  pub consistent : IsConsistent s.coordinator.catalog s.answers (histories s.coordinator)
-  pub sound : IsSound state s.coordinator
+-- over workers that were handed in so: the answers and the journals fit together, and the coordinator keeps its groups and stores
+pub record IsServingOver {X : Type 0} (state : X → StoreState) (entry : List (Worker X)) (s : Serving X) : Type 0 where
+  pub consistent : IsConsistent (whole_at entry) (environment s.coordinator) s.answers (journals s.coordinator)
+  pub sound : IsSound state s.coordinator.cluster
+  pub workers : AreWorkers state entry s.coordinator.cluster.groups.items s.coordinator.cluster.workers.items
+
+-- the same, over some workers
+abbrev pub IsServing : {X : Type 0} → (X → StoreState) → Serving X → Type 0
+IsServing {X} state s = (entry : List (Worker X)) × IsServingOver state entry s
+
+-- a call after which all this is so still
+abbrev pub KeepsServing : {X : Type 0} → (X → StoreState) → Serving X → Serving X → Type 0
+KeepsServing {X} state old new = (entry : List (Worker X)) → IsServingOver state entry old → IsServingOver state entry new
 
 -- one more answer, to this text
 abbrev pub AnswersNext : List Answered → List Answered → List ℕ → Type 0
-AnswersNext old new text = (a : Answered) × (new ≡ old ++ a ∷ []) × ReadsAs a.bound a.answer (reading text (catalog_of old))
+AnswersNext old new text = (a : Answered) × (new ≡ old ++ a ∷ []) × ReadsAs a.bound a.answer (reading_of text (environment_of old).catalog.tables)
 
 -- the same, or there was no memory for it
 abbrev pub AnswersMaybe : List Answered → List Answered → List ℕ → Type 0

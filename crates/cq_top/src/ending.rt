@@ -1,7 +1,7 @@
 ghost use Rattle.std.specs.Prelude.{◌≡◌, ◌≤◌, ◌⊎◌, ◌≢◌, ℕ, List, length, Some, None, IsTrue, option_map};
 ghost use Rattle.cq_script.specs.Texts.{fatal_line};
 ghost use Rattle.cq_script.specs.Streams.{Rose};
-ghost use Rattle.cq_point.specs.declared.answered.Answered.{Answered};
+ghost use Rattle.cq_answer.specs.declared.answered.Answered.{Answered};
 ghost use Rattle.cq_top.specs.Outputs.{last_line};
 ghost use Rattle.cq_top.specs.Runs.{Writes};
 ghost use Rattle.cq_top.specs.Serving.{IsShownBy, IsEndedBy, HasLastLine, BlamesLast};

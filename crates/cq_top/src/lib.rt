@@ -11,8 +11,6 @@ mod serve;
 mod serving;
 mod status;
 mod stop;
-#[cfg(test)]
-mod tests;
 
 pub use cq_group as group;
 pub use cq_group::{Gate, IdleGate, Point};

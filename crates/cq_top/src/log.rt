@@ -1,8 +1,9 @@
 ghost use Rattle.std.specs.Prelude.{◌≡◌};
 ghost use Rattle.cq_top.specs.Runs.{IsEmptyLog};
 
-use cq_point::{AnsweredList, Journals};
-use cq_single::Catalog;
+use cq_answer::AnsweredList;
+use cq_catalog::Catalog;
+use cq_journal::Journals;
 use cq_store::BoxedStore;
 use cq_tree::{Waves, Who};
 use cq_value::Items;
@@ -39,7 +40,7 @@ impl<S> RunLog<S> {
     {
         RunLog {
             answers: AnsweredList::new(alloc),
-            catalog: Catalog::new(),
+            catalog: Catalog::new(alloc),
             journals: Journals::new(alloc),
             retired: Items::new(alloc),
             waves: Waves::new(alloc),

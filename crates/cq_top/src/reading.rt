@@ -1,8 +1,7 @@
 ghost use Rattle.std.specs.Prelude.{◌≡◌, ◌<◌, ◌≤◌, ◌^◌, ◌≢◌, ℕ, List, [], length, Some, IsTrue};
 ghost use Rattle.cq_script.specs.Streams.{Rose};
-ghost use Rattle.cq_coordinator.specs.Coordination.{KeepsStores};
 ghost use Rattle.cq_top.specs.Scripts.{IsAnswered, Serves, most_bytes};
-ghost use Rattle.cq_top.specs.Serving.{IsServing, IsAnsweredUpTo, IsShown, IsShownBy, IsReadingEnd, IsLastEnd, BlamesSink, BlamesSource};
+ghost use Rattle.cq_top.specs.Serving.{IsServing, KeepsServing, IsAnsweredUpTo, IsShown, IsShownBy, IsReadingEnd, IsLastEnd, BlamesSink, BlamesSource};
 
 use crate::serve::{answer_piece, feed};
 use crate::serving::Serving;
@@ -30,7 +29,7 @@ fn finish<S: Store, K: Sink, G: Gate>(
     ensures answered { (bytes : List ℕ) → length bytes ≤ most_bytes → IsAnsweredUpTo bytes cutter serving.old.answers → IsAnswered result bytes (length bytes) serving.new.answers }
     ensures shown { (before : List ℕ) → IsShown before (K.shown sink.old) serving.old.answers → IsShownBy result before (K.shown sink.new) serving.new.answers }
     ensures blames { BlamesSink result (K.shown sink.old) (K.shown sink.new) }
-    ensures stores { KeepsStores S.state serving.old.coordinator serving.new.coordinator }
+    ensures keeps { KeepsServing S.state serving.old serving.new }
 {
     let piece = cutter.finish();
     match answer_piece(alloc, gate, serving, sink, piece.as_slice()) {
@@ -55,7 +54,7 @@ pub fn serve<S: Store, I: Source, K: Sink, G: Gate>(
     ensures shown { (before : List ℕ) → (K.shown sink.old).written ≡ Some before → IsShownBy result before (K.shown sink.new) serving.new.answers }
     ensures source { BlamesSource result (I.told source.old) (I.told source.new) }
     ensures sink { BlamesSink result (K.shown sink.old) (K.shown sink.new) }
-    ensures stores { KeepsStores S.state serving.old.coordinator serving.new.coordinator }
+    ensures keeps { KeepsServing S.state serving.old serving.new }
 {
     let mut room = [0u8; ROOM];
     let mut cutter = Cutter::new(alloc);

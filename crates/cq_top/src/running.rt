@@ -1,23 +1,20 @@
 ghost use Rattle.std.specs.Prelude.{◌≡◌, ◌<◌, ◌≤◌, ◌↔◌, ℕ, List, [], length, Some, map};
-ghost use Rattle.cq_single.specs.Tables.{shape_of};
-ghost use Rattle.cq_cluster.specs.Cluster.{AreIdle, AreWorkers};
-ghost use Rattle.cq_cluster.specs.Ending.{IsFinal, AreJournals};
-ghost use Rattle.cq_coordinator.specs.Coordination.{histories};
+ghost use Rattle.cq_store.specs.declared.worker.Worker.{Worker};
+ghost use Rattle.cq_cluster.specs.Cluster.{AreIdle, whole_at};
+ghost use Rattle.cq_cluster.specs.Ending.{IsFinal};
 ghost use Rattle.cq_top.specs.Scripts.{Serves};
-ghost use Rattle.cq_top.specs.Serving.{IsServing, IsShownBy, IsReadingEnd, IsRunEnd, BlamesSink, BlamesSource};
-ghost use Rattle.cq_top.specs.Runs.{IsEmptyLog, IsWhole, Stand, IsMisused, HasCause, Writes, journals_of};
+ghost use Rattle.cq_top.specs.Serving.{IsServing, IsServingOver, IsShownBy, IsReadingEnd, IsRunEnd, BlamesSink, BlamesSource};
+ghost use Rattle.cq_top.specs.Runs.{IsEmptyLog, IsWhole, Stand, IsMisused, HasCause, Writes};
 
 use crate::ending::end_with;
 use crate::log::RunLog;
 use crate::reading::serve;
 use crate::serving::Serving;
 use crate::status::Status;
-use cq_cluster::close_groups;
+use cq_cluster::Ended;
 use cq_coordinator::Coordinator;
 use cq_group::Gate;
-use cq_point::AnsweredList;
 use cq_script::{Sink, Source};
-use cq_single::Catalog;
 use cq_store::{Store, Worker};
 use std::alloc::Global;
 use std::mem;
@@ -25,30 +22,28 @@ use std::sync::Wait;
 use std::thread::Threads;
 
 /// The most shard groups of a run.
-const MOST_GROUPS: u64 = 128;
+const MOST_GROUPS: u64 = 512;
 
 /// Puts what a run did into its log, and the stores of its groups back into the workers' lists. Takes no memory.
 fn close<S: Store>(serving: Serving<S>, workers: &mut Vec<Worker<S>>, log: &mut RunLog<S>)
     requires serving { IsServing S.state serving }
     requires fresh { IsEmptyLog log.old }
-    requires room { 128 ≤ log.old.journals.room }
-    requires stores { (entry : _) × AreWorkers S.state entry (length serving.coordinator.groups.items) serving.coordinator.workers.items }
+    requires room { 512 ≤ log.old.journals.room }
     ensures answers { log.new.answers ≡ serving.answers }
     ensures whole { IsWhole log.new }
-    ensures stand { Stand log.new }
-    ensures last { (entry : _) → AreWorkers S.state entry (length serving.coordinator.groups.items) serving.coordinator.workers.items → IsFinal S.state entry (shape_of log.new.catalog) (journals_of log.new) workers.new.items }
+    ensures stand { (entry : List (Worker S)) → IsServingOver S.state entry serving → Stand (whole_at entry) log.new }
+    ensures last { (entry : List (Worker S)) → IsServingOver S.state entry serving → IsFinal S.state entry log.new.catalog log.new.journals.list workers.new.items }
 {
     let Serving {
         coordinator,
         answers,
     } = serving;
-    let Coordinator {
+    let Coordinator { cluster, .. } = coordinator;
+    let Ended {
         catalog,
-        groups,
         workers: lists,
-    } = coordinator;
+    } = cluster.close(&mut log.journals);
     *workers = lists;
-    close_groups(workers, groups, &mut log.journals);
     log.answers = answers;
     log.catalog = catalog;
 }
@@ -67,24 +62,17 @@ fn run_script<S: Store, I: Source, K: Sink, G: Gate>(
     requires fresh { IsEmptyLog log.old }
     ensures end { IsReadingEnd result }
     ensures whole { IsWhole log.new }
-    ensures stand { Stand log.new }
+    ensures stand { Stand (whole_at workers.old.items) log.new }
     ensures served { (bytes : List ℕ) → (I.told source.old).left ≡ Some bytes → Serves result bytes (I.told source.new).left log.new.answers }
     ensures shown { (before : List ℕ) → (K.shown sink.old).written ≡ Some before → IsShownBy result before (K.shown sink.new) log.new.answers }
     ensures source { BlamesSource result (I.told source.old) (I.told source.new) }
     ensures sink { BlamesSink result (K.shown sink.old) (K.shown sink.new) }
-    ensures last { IsFinal S.state workers.old.items (shape_of log.new.catalog) (journals_of log.new) workers.new.items }
+    ensures last { IsFinal S.state workers.old.items log.new.catalog log.new.journals.list workers.new.items }
 {
     if log.journals.reserve(MOST_GROUPS).is_err() {
         return Status::Memory;
     }
-    let mut serving = Serving {
-        coordinator: Coordinator {
-            catalog: Catalog::new(),
-            groups: Vec::new(alloc),
-            workers: mem::replace(workers, Vec::new(alloc)),
-        },
-        answers: AnsweredList::new(alloc),
-    };
+    let mut serving = Serving::new(alloc, mem::replace(workers, Vec::new(alloc)));
     let status = serve(alloc, gate, &mut serving, source, sink);
     close(serving, workers, log);
     status
@@ -105,12 +93,12 @@ fn run_words<S: Store, I: Source, K: Sink, G: Gate>(
     ensures end { IsRunEnd result }
     ensures usage { (result ≡ Status.Usage) ↔ IsMisused (length words.now) (length workers.old.items) }
     ensures whole { IsWhole log.new }
-    ensures stand { Stand log.new }
+    ensures stand { Stand (whole_at workers.old.items) log.new }
     ensures served { (bytes : List ℕ) → (I.told source.old).left ≡ Some bytes → Serves result bytes (I.told source.new).left log.new.answers }
     ensures shown { (before : List ℕ) → (K.shown sink.old).written ≡ Some before → IsShownBy result before (K.shown sink.new) log.new.answers }
     ensures source { BlamesSource result (I.told source.old) (I.told source.new) }
     ensures sink { BlamesSink result (K.shown sink.old) (K.shown sink.new) }
-    ensures last { IsFinal S.state workers.old.items (shape_of log.new.catalog) (journals_of log.new) workers.new.items }
+    ensures last { IsFinal S.state workers.old.items log.new.catalog log.new.journals.list workers.new.items }
 {
     if !words.is_empty() || workers.len() < 2 {
         return Status::Usage;
@@ -131,11 +119,11 @@ pub fn run_over<R: Threads + Wait + Sync, S: Store, I: Source, K: Sink, G: Gate>
 ) -> Status
     requires idle { AreIdle S.state workers.old.items }
     requires fresh { IsEmptyLog log.old }
-    ensures stand { Stand log.new }
+    ensures stand { Stand (whole_at workers.old.items) log.new }
     ensures whole { IsWhole log.new }
     ensures serves { (bytes : List ℕ) → (I.told source.old).left ≡ Some bytes → Serves result bytes (I.told source.new).left log.new.answers }
     ensures writes { (before : List ℕ) → (K.shown sink.old).written ≡ Some before → Writes result log.new.answers before (K.shown sink.new).written }
-    ensures last { IsFinal S.state workers.old.items (shape_of log.new.catalog) (journals_of log.new) workers.new.items }
+    ensures last { IsFinal S.state workers.old.items log.new.catalog log.new.journals.list workers.new.items }
     ensures cause { HasCause result (length words.now) (length workers.old.items) (I.told source.old) (I.told source.new) (K.shown sink.old) (K.shown sink.new) }
 {
     let status = run_words(alloc, words, source, sink, gate, workers, log);
@@ -144,7 +132,7 @@ pub fn run_over<R: Threads + Wait + Sync, S: Store, I: Source, K: Sink, G: Gate>
 
 /// Runs the script of the source over the first two workers, and writes the answers to the sink.
 ///
-/// Takes no words. Each worker holds 128 or more spare, steady stores of its own node: 1, 2 and so on. The log is new, and
+/// Takes no words. Each worker holds spare, steady stores of its own node: 1, 2 and so on; the shards of distributed tables take them. The log is new, and
 /// keeps the answers, the catalog and each group's journal. Gives the status that the process ends with.
 pub fn run<R: Threads + Wait + Sync, S: Source, K: Sink, G: Gate>(
     rt: &R,
@@ -158,11 +146,11 @@ pub fn run<R: Threads + Wait + Sync, S: Source, K: Sink, G: Gate>(
 ) -> Status
     requires idle { AreIdle ⟦<Box<dyn Store + Send> as Store>⟧.state workers.old.items }
     requires fresh { IsEmptyLog log.old }
-    ensures stand { Stand log.new }
+    ensures stand { Stand (whole_at workers.old.items) log.new }
     ensures whole { IsWhole log.new }
     ensures serves { (bytes : List ℕ) → (S.told source.old).left ≡ Some bytes → Serves result bytes (S.told source.new).left log.new.answers }
     ensures writes { (before : List ℕ) → (K.shown sink.old).written ≡ Some before → Writes result log.new.answers before (K.shown sink.new).written }
-    ensures last { IsFinal ⟦<Box<dyn Store + Send> as Store>⟧.state workers.old.items (shape_of log.new.catalog) (journals_of log.new) workers.new.items }
+    ensures last { IsFinal ⟦<Box<dyn Store + Send> as Store>⟧.state workers.old.items log.new.catalog log.new.journals.list workers.new.items }
     ensures cause { HasCause result (length words.now) (length workers.old.items) (S.told source.old) (S.told source.new) (K.shown sink.old) (K.shown sink.new) }
 {
     run_over(rt, alloc, words, source, sink, gate, workers, log)

@@ -2,14 +2,13 @@ ghost use Rattle.std.specs.Prelude.{◌≡◌, ◌<◌, ◌+◌, ◌≤◌, ◌^
 ghost use Rattle.cq_script.specs.Scripts.{whole_statements, statement_of};
 ghost use Rattle.cq_script.specs.Streams.{Rose};
 ghost use Rattle.cq_script.specs.Texts.{text_of};
-ghost use Rattle.cq_coordinator.specs.Coordination.{KeepsStores};
 ghost use Rattle.cq_top.specs.Scripts.{AnswersTo, AnswersFirst};
-ghost use Rattle.cq_top.specs.Serving.{IsServing, AnswersNext, AnswersMaybe, AnswersAny, AnswersAnyMaybe, IsAnsweredUpTo, ShowsMore, ShowsPart};
+ghost use Rattle.cq_top.specs.Serving.{IsServing, KeepsServing, AnswersNext, AnswersMaybe, AnswersAny, AnswersAnyMaybe, IsAnsweredUpTo, ShowsMore, ShowsPart};
 
 use crate::serving::Serving;
 use crate::stop::Stop;
+use cq_answer::AnsweredList;
 use cq_group::{Gate, Point};
-use cq_point::AnsweredList;
 use cq_script::{Cutter, Sink, SinkError, emit, render, statement_in};
 use cq_store::Store;
 use cq_value::NoMemory;
@@ -46,7 +45,7 @@ fn answer_one<S: Store, K: Sink, G: Gate>(
     ensures steady { IfErr result (λ e. IsTrue (K.shown sink.old).steady → e ≡ Stop.Memory) }
     ensures faults { (K.shown sink.old).faults ≤ (K.shown sink.new).faults }
     ensures same { (K.shown sink.new).steady ≡ (K.shown sink.old).steady }
-    ensures stores { KeepsStores S.state serving.old.coordinator serving.new.coordinator }
+    ensures keeps { KeepsServing S.state serving.old serving.new }
 {
     let place = serving.answers.len();
     let Ok(()) = serving.answer(alloc, text) else {
@@ -86,7 +85,7 @@ pub fn answer_piece<S: Store, K: Sink, G: Gate>(
     ensures steady { IfErr result (λ e. IsTrue (K.shown sink.old).steady → e ≡ Stop.Memory) }
     ensures faults { (K.shown sink.old).faults ≤ (K.shown sink.new).faults }
     ensures same { (K.shown sink.new).steady ≡ (K.shown sink.old).steady }
-    ensures stores { KeepsStores S.state serving.old.coordinator serving.new.coordinator }
+    ensures keeps { KeepsServing S.state serving.old serving.new }
 {
     let text = statement_in(piece);
     if text.is_empty() {
@@ -118,7 +117,7 @@ pub fn feed<S: Store, K: Sink, G: Gate>(
     ensures steady { IfErr result (λ e. IsTrue (K.shown sink.old).steady → e ≡ Stop.Memory) }
     ensures faults { (K.shown sink.old).faults ≤ (K.shown sink.new).faults }
     ensures same { (K.shown sink.new).steady ≡ (K.shown sink.old).steady }
-    ensures stores { KeepsStores S.state serving.old.coordinator serving.new.coordinator }
+    ensures keeps { KeepsServing S.state serving.old serving.new }
 {
     let mut left = bytes;
     loop {

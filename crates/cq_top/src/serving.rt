@@ -1,11 +1,14 @@
 ghost use Rattle.std.specs.Prelude.{◌≡◌, ◌<◌, ◌+◌, ◌≤◌, ◌^◌, ◌⊎◌, [], ◌∷◌, ◌++◌, length, IfOk, OnOk, OnErr};
-ghost use Rattle.cq_coordinator.specs.Coordination.{KeepsStores};
-ghost use Rattle.cq_top.specs.Serving.{IsServing, AnswersNext};
+ghost use Rattle.cq_history.specs.Room.{nodes};
+ghost use Rattle.cq_cluster.specs.Cluster.{AreIdle};
+ghost use Rattle.cq_top.specs.Serving.{IsServing, IsServingOver, KeepsServing, AnswersNext};
 
+use cq_answer::{Answer, Answered, AnsweredList, Fault, Settings};
+use cq_cluster::Cluster;
 use cq_coordinator::Coordinator;
-use cq_point::{Answered, AnsweredList};
-use cq_store::Store;
-use cq_tree::{Answer, Fault, Settings, Who};
+use cq_session::{Response, respond};
+use cq_store::{Store, Worker};
+use cq_tree::Who;
 use cq_value::NoMemory;
 use std::alloc::Global;
 
@@ -25,19 +28,35 @@ pub struct Serving<S> {
 }
 
 /// The answer that stands for a statement's until there is one, so that its room is taken before the statement runs.
-fn pending(number: u64) -> Answered
+fn pending(number: u64, settings: Settings) -> Answered
     ensures { result.statement ≡ number }
 {
     Answered {
         session: 0,
         statement: number,
-        settings: FIRST_SETTINGS,
+        settings,
         bound: None,
         answer: Answer::Failed(Fault::Memory),
     }
 }
 
 impl<S: Store> Serving<S> {
+    /// Before the first statement: no table, the first settings and no answer, over these workers. Takes no memory.
+    pub fn new(alloc: Global, workers: Vec<Worker<S>>) -> Serving<S>
+        requires idle { AreIdle S.state workers.items }
+        requires both { nodes ≤ length workers.items }
+        ensures serving { IsServingOver S.state workers.items result }
+        ensures fresh { result.answers ≡ [] }
+    {
+        Serving {
+            coordinator: Coordinator {
+                cluster: Cluster::new(alloc, workers),
+                settings: FIRST_SETTINGS,
+            },
+            answers: AnsweredList::new(alloc),
+        }
+    }
+
     /// Answers a statement's text. The answer is the last then.
     ///
     /// Errors: there is no memory for the answer; nothing is done then.
@@ -45,25 +64,26 @@ impl<S: Store> Serving<S> {
         requires room { length self.old.answers < 2 ^ 62 }
         requires serving { IsServing S.state self.old }
         ensures serving { IsServing S.state self.new }
+        ensures keeps { KeepsServing S.state self.old self.new }
         ensures next { OnOk result (AnswersNext self.old.answers self.new.answers text.now) }
         ensures err { OnErr result (self.new.answers ≡ self.old.answers) }
-        ensures stores { KeepsStores S.state self.old.coordinator self.new.coordinator }
     {
         let number = self.answers.len() + 1;
-        self.answers.put(pending(number))?;
+        let settings = self.coordinator.settings;
+        self.answers.put(pending(number, settings))?;
         let who = Who {
             session: 0,
             statement: number,
         };
-        let response = self.coordinator.respond(alloc, who, text);
+        let Response { bound, answer } = respond(alloc, &mut self.coordinator, who, text);
         self.answers.set(
             number - 1,
             Answered {
                 session: 0,
                 statement: number,
-                settings: FIRST_SETTINGS,
-                bound: response.bound,
-                answer: response.answer,
+                settings,
+                bound,
+                answer,
             },
         );
         Ok(())

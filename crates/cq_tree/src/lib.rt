@@ -1,20 +1,22 @@
-//! What the layers hand to each other: the trees of bound statements (expressions, conditions, queries, writes), plans, entries
-//! of journals, and answers.
+//! What the layers hand to each other: the trees of bound statements (expressions, conditions, queries, writes), plans, and
+//! entries of journals.
 #![tactic(auto)]
 
-mod answer;
 mod copies;
 mod expression;
 mod journal;
+mod limit;
 mod plan;
 mod query;
 mod statement;
+mod wave;
 mod write;
 
-pub use answer::{Answer, Fault, Settings, Tag, Wave, Waves, What};
 pub use expression::{Arm, Arms, Cond, Expr, Exprs, Op};
 pub use journal::{Entries, Entry, EntryKind, Who};
+pub use limit::What;
 pub use plan::{Combine, Plan, Planner, Plans, Step, Steps, Task, Tasks};
 pub use query::{Agg, Aggs, FromTree, Key, Keys, Queries, Query, QueryError};
 pub use statement::Statement;
+pub use wave::{Wave, Waves};
 pub use write::{Reply, Set, Sets, ShardOp};

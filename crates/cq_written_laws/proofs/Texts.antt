@@ -14,12 +14,14 @@ use Rattle.cq_meaning.specs.Widths.{table_bits, IsBoundWrite}
 use Rattle.cq_reading.specs.declared.bound.Found.{Found}
 use Rattle.cq_reading.specs.declared.error.BindError.{BindError}
 use Rattle.cq_reading.specs.Steps.{follow, give}
-use Rattle.cq_reading.specs.Statements.{query_of, outcome, ctes_in, reading}
+use Rattle.cq_reading.specs.Statements.{query_of, outcome, reading}
 use Rattle.cq_reading_laws.specs.WriteLaws.{TablesFit, table_of}
 use Rattle.cq_reading_laws.proofs.FineWrites.{updates_bound, deletions_bound}
+use Rattle.cq_reading_laws.specs.StepLaws.{start_of}
 use Rattle.cq_reading_laws.proofs.FineQueries.{queries_bound}
+use Rattle.cq_reading_laws.proofs.StepQueries.{statements_bound, widths_are_there}
 use Rattle.cq_written_laws.specs.Laws.{IsWritten, IsWrittenQuery}
-use Rattle.cq_written_laws.specs.TextLaws.{Spells, result_count_in, result_count, TextWritesBound, IsBoundWhole, TextQueriesBound, TextsExplainedBound}
+use Rattle.cq_written_laws.specs.TextLaws.{Spells, result_count_in, result_count, TextWritesBound, IsBoundWhole, TextQueriesBound, TextsExplainedBound, IsBoundOver, TextStatementsBound, TextsExplainedWhole}
 use Rattle.cq_written_laws.proofs.Statements.{texts_written}
 use Rattle.cq_written_laws.proofs.Endings.{IsInsert, IsKindOf, kind_of}
 
@@ -54,9 +56,17 @@ module _ (cs : Columns) (tables : List TableInfo) (fit : TablesFit cs tables) wh
   asked make same (Ok p) q is = let e : make p.0 ≡ make q = cc is in (p.1, ap (λ (b : Query). Ok (b, p.1)) (same p.0 q e), refl)
   asked make same (Err e) q is = absurd (cc is)
 
-  of_asked : (make : Query → Statement) (x : written.Query) (found : Found) (q : Query) → IsWrittenQuery x → Asked (query_of tables x found) make q
-      → IsBoundWhole cs (result_count_in (follow (query_of tables x found) (λ bound. give (make bound)))) q
-  of_asked make x found q w h have few = queries_bound cs tables x found h.0 q fit w.0 w.1 h.1 have (subst (λ n. n ≤ length cs.results) h.2 few)
+  -- with its CTEs, and with all its steps
+  abbrev Both : ℕ → Query → Type 0
+  Both n q = IsBoundWhole cs n q × IsBoundOver cs.tables q
+
+  of_asked : (make : Query → Statement) (x : written.Query) (q : Query) → IsWrittenQuery x → Asked (query_of tables x (start_of x)) make q
+      → Both (result_count_in (follow (query_of tables x (start_of x)) (λ bound. give (make bound)))) q
+  of_asked make x q w h =
+      let r = widths_are_there cs.tables tables x h.0 q w.0 w.1 h.1 in (
+        (λ have few. queries_bound cs tables x (start_of x) h.0 q fit w.0 w.1 h.1 have (subst (λ n. n ≤ length cs.results) h.2 few)),
+        (r.0, statements_bound (record { tables = cs.tables; results = r.0 }) tables x h.0 q fit w.0 w.1 h.1 r.1),
+      )
 
   same_select : (p q : Query) → statement.Select p ≡ statement.Select q → p ≡ q
   same_select p q e = cc e
@@ -64,12 +74,8 @@ module _ (cs : Columns) (tables : List TableInfo) (fit : TablesFit cs tables) wh
   same_explain : (p q : Query) → statement.Explain p ≡ statement.Explain q → p ≡ q
   same_explain p q e = cc e
 
-  start : Ast → Found
-  start a = record { results = ctes_in a; blocks = 0; subs = []; aggs = [] }
-
-  select_bound : (a : Ast) (q : Query) → IsWritten a → IsKindOf a (statement.Select q) → reading tables a ≡ Ok (statement.Select q) → IsBoundWhole cs (result_count tables a) q
-  unfolding start
-  select_bound (ast.Query x) q w k is = let found = start (ast.Query x) in of_asked statement.Select x found q w (asked statement.Select same_select (query_of tables x found) q is)
+  select_bound : (a : Ast) (q : Query) → IsWritten a → IsKindOf a (statement.Select q) → reading tables a ≡ Ok (statement.Select q) → Both (result_count tables a) q
+  select_bound (ast.Query x) q w k is = of_asked statement.Select x q w (asked statement.Select same_select (query_of tables x (start_of x)) q is)
   select_bound (ast.Create name columns key at) q w k is = absurd k
   select_bound (ast.Insert table columns rows at) q w k is = absurd k
   select_bound (ast.Update table sets filter at) q w k is = absurd k
@@ -79,9 +85,8 @@ module _ (cs : Columns) (tables : List TableInfo) (fit : TablesFit cs tables) wh
   select_bound (ast.Explain x at) q w k is = absurd k
   select_bound (ast.Call function arguments at) q w k is = absurd k
 
-  explained_bound : (a : Ast) (q : Query) → IsWritten a → IsKindOf a (statement.Explain q) → reading tables a ≡ Ok (statement.Explain q) → IsBoundWhole cs (result_count tables a) q
-  unfolding start
-  explained_bound (ast.Explain x at) q w k is = let found = start (ast.Explain x at) in of_asked statement.Explain x found q w (asked statement.Explain same_explain (query_of tables x found) q is)
+  explained_bound : (a : Ast) (q : Query) → IsWritten a → IsKindOf a (statement.Explain q) → reading tables a ≡ Ok (statement.Explain q) → Both (result_count tables a) q
+  explained_bound (ast.Explain x at) q w k is = of_asked statement.Explain x q w (asked statement.Explain same_explain (query_of tables x (start_of x)) q is)
   explained_bound (ast.Create name columns key at) q w k is = absurd k
   explained_bound (ast.Insert table columns rows at) q w k is = absurd k
   explained_bound (ast.Update table sets filter at) q w k is = absurd k
@@ -95,7 +100,13 @@ pub text_writes_bound : TextWritesBound
 text_writes_bound cs tables text a op s fit is = write_bound cs tables fit a op (spelled_written text a s) (kind_of tables a (statement.Write op) is) is
 
 pub text_queries_bound : TextQueriesBound
-text_queries_bound cs tables text a q s fit is = select_bound cs tables fit a q (spelled_written text a s) (kind_of tables a (statement.Select q) is) is
+text_queries_bound cs tables text a q s fit is = (select_bound cs tables fit a q (spelled_written text a s) (kind_of tables a (statement.Select q) is) is).0
 
 pub texts_explained_bound : TextsExplainedBound
-texts_explained_bound cs tables text a q s fit is = explained_bound cs tables fit a q (spelled_written text a s) (kind_of tables a (statement.Explain q) is) is
+texts_explained_bound cs tables text a q s fit is = (explained_bound cs tables fit a q (spelled_written text a s) (kind_of tables a (statement.Explain q) is) is).0
+
+pub text_statements_bound : TextStatementsBound
+text_statements_bound columns tables text a q s fit is = (select_bound (record { tables = columns; results = [] }) tables fit a q (spelled_written text a s) (kind_of tables a (statement.Select q) is) is).1
+
+pub texts_explained_whole : TextsExplainedWhole
+texts_explained_whole columns tables text a q s fit is = (explained_bound (record { tables = columns; results = [] }) tables fit a q (spelled_written text a s) (kind_of tables a (statement.Explain q) is) is).1

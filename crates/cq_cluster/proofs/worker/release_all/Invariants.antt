@@ -1,6 +1,6 @@
 use Rattle.std.proofs.Common.{◌≡◌, ◌+◌, ◌≤◌, length, All}
 use Rattle.cq_store.specs.Workers.{room}
-use Rattle.cq_cluster.specs.Moving.{IsSteadyOn, AllWait}
+use Rattle.cq_cluster.specs.Steps.{IsSteadyOn, AllWait}
 use Rattle.cq_cluster.proofs.worker.release_all.Given as goal
 
 abbrev pub invariant-loop-store : goal.invariant-loop-store

@@ -1,5 +1,5 @@
 use Rattle.std.proofs.Common.{◌≡◌, ◌∙◌, ◌+◌, ◌-◌, ◌≤◌, List, ℕ, [], subst, sym, ap, refl, arith, length, take, min, append-nil, Some}
-use Rattle.cq_point.specs.declared.answered.Answered.{Answered}
+use Rattle.cq_answer.specs.declared.answered.Answered.{Answered}
 use Rattle.cq_script.specs.Streams.{Took}
 use Rattle.cq_top.specs.Serving.{IsTaken, IsAnsweredUpTo, IsShown}
 use Rattle.cq_top.proofs.Answering.{taken_first, taken_end, taken_piece, taken_piece_first, answered_whole, answered_stop, shown_stop, length-take_le}
@@ -18,7 +18,7 @@ loop-cutter-init g c = record {
   source_steady = refl;
   sink_faults = omega arith;
   sink_steady = refl;
-  stores = λ entry h. h;
+  keeps = λ entry h. h;
 }
 
 pub returns-in-Err-clause-served : goal.returns-in-Err-clause-served
@@ -92,5 +92,5 @@ loop-cutter-preserved g c = record {
   source_steady = c.in-Ok.ensures.ok.steady ∙ c.loop-cutter.invariant.source_steady;
   sink_faults = omega (arith, c.loop-cutter.invariant.sink_faults, c.feed.ensures.faults);
   sink_steady = c.feed.ensures.same ∙ c.loop-cutter.invariant.sink_steady;
-  stores = λ entry h. c.feed.ensures.stores entry (c.loop-cutter.invariant.stores entry h);
+  keeps = λ entry h. c.feed.ensures.keeps entry (c.loop-cutter.invariant.keeps entry h);
 }

@@ -1,6 +1,5 @@
 use Rattle.std.proofs.Common.{◌≡◌, ◌≤◌, ◌-◌, [], length}
-use Rattle.cq_coordinator.specs.Coordination.{KeepsStores}
-use Rattle.cq_top.specs.Serving.{IsServing, IsTaken, ShowsMore}
+use Rattle.cq_top.specs.Serving.{IsServing, KeepsServing, IsTaken, ShowsMore}
 use Rattle.cq_top.proofs.reading.serve.Given as goal
 
 abbrev pub invariant-loop-cutter : goal.invariant-loop-cutter
@@ -14,7 +13,7 @@ invariant-loop-cutter g l = record {
   source_steady : (g.I.Source.told l.source).steady ≡ (g.I.Source.told l.fn.source).steady;
   sink_faults : (g.K.Sink.shown l.fn.sink).faults ≤ (g.K.Sink.shown l.sink).faults;
   sink_steady : (g.K.Sink.shown l.sink).steady ≡ (g.K.Sink.shown l.fn.sink).steady;
-  stores : KeepsStores g.S.Store.state l.fn.serving.coordinator l.serving.coordinator;
+  keeps : KeepsServing g.S.Store.state l.fn.serving l.serving;
 }
 
 abbrev pub decreases-loop-cutter : goal.decreases-loop-cutter

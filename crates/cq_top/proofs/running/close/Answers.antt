@@ -1,17 +1,26 @@
-use Rattle.std.proofs.Common.{sym, subst}
-use Rattle.cq_single.specs.Tables.{shape_of}
-use Rattle.cq_cluster.specs.Ending.{IsFinal}
-use Rattle.cq_coordinator.specs.Coordination.{histories}
+use Rattle.std.proofs.Common.{◌≤◌, length, arith, sym, subst}
+use Rattle.cq_catalog.specs.Contents.{Contents}
+use Rattle.cq_cluster.specs.Cluster.{whole_at}
+use Rattle.cq_cluster.specs.Ending.{AreJournals, IsFinal}
+use Rattle.cq_coordinator.specs.Coordination.{environment, journals}
 use Rattle.cq_top.proofs.RunLaws.{whole_of, stand_of}
 use Rattle.cq_top.proofs.running.close.Goals as goal
 
+pub close-catalog-requires-clause-sound : goal.close-catalog-requires-clause-sound
+close-catalog-requires-clause-sound g c = c.requires.serving.1.sound
+
+pub close-catalog-requires-clause-room : goal.close-catalog-requires-clause-room
+close-catalog-requires-clause-room g c = (let s = c.requires.serving.1.sound in omega (arith, s.groups.count, s.whole.few_groups, c.requires.room))
+
 pub returns-clause-whole : goal.returns-clause-whole
-returns-clause-whole g c = whole_of _ (histories c.args.serving.coordinator) c.requires.serving.consistent c.close_groups.ensures.journals c.close_groups.ensures.numbered c.requires.fresh.retired c.requires.fresh.waves
+returns-clause-whole g c =
+    whole_of _ (whole_at c.requires.serving.0) (environment c.args.serving.coordinator) (journals c.args.serving.coordinator) c.requires.serving.1.consistent c.close-catalog.ensures.catalog c.close-catalog.ensures.entries
+    (subst (λ (v : Contents). AreJournals v c.close-catalog.new.journals.list) (sym c.close-catalog.ensures.catalog) c.close-catalog.ensures.journals) c.requires.fresh.retired c.requires.fresh.waves
 
 pub returns-clause-stand : goal.returns-clause-stand
-returns-clause-stand g c = stand_of c.args.serving.coordinator.catalog c.args.serving.answers _ (histories c.args.serving.coordinator) c.requires.serving.consistent c.close_groups.ensures.journals
+returns-clause-stand g c = λ entry s.
+    stand_of c.args.serving.answers _ (journals c.args.serving.coordinator) (whole_at entry) (environment c.args.serving.coordinator) s.consistent c.close-catalog.ensures.entries
 
 pub returns-clause-last : goal.returns-clause-last
-returns-clause-last g c = λ entry stores.
-    subst (λ v. IsFinal g.S.Store.state entry (shape_of c.args.serving.coordinator.catalog) v c.close_groups.new.workers.items) (sym c.close_groups.ensures.journals)
-    (c.close_groups.ensures.workers (shape_of c.args.serving.coordinator.catalog) entry c.requires.serving.sound.groups stores)
+returns-clause-last g c = λ entry s.
+    subst (λ (v : Contents). IsFinal g.S.Store.state entry v c.close-catalog.new.journals.list c.close-catalog.result.workers.items) (sym c.close-catalog.ensures.catalog) (c.close-catalog.ensures.stores entry s.workers)

@@ -1,5 +1,5 @@
 use Rattle.std.proofs.Common.{subst, sym, List, ℕ, refl}
-use Rattle.cq_point.specs.declared.answered.Answered.{Answered}
+use Rattle.cq_answer.specs.declared.answered.Answered.{Answered}
 use Rattle.cq_script.specs.Streams.{Wrote, WrotePart}
 use Rattle.cq_top.specs.Serving.{ShowsPart}
 use Rattle.cq_top.proofs.Showing.{shows_whole_part, shows_unshown, shows_answer, shows_answer_part}

@@ -13,7 +13,7 @@ loop-step-init g c = record {
   shows = shows_nothing (g.K.Sink.shown c.args.sink.now) c.args.serving.now.answers;
   faults = omega arith;
   steady = refl;
-  stores = λ entry h. h;
+  keeps = λ entry h. h;
 }
 
 pub returns-in-Err-clause-first : goal.returns-in-Err-clause-first
@@ -54,5 +54,5 @@ loop-step-preserved g c =
           c.loop-step.invariant.shows c.in_ok-answer_piece-in-Ok-Some.ensures.shows;
       faults = omega (arith, c.loop-step.invariant.faults, c.answer_piece.ensures.faults);
       steady = c.answer_piece.ensures.same ∙ c.loop-step.invariant.steady;
-      stores = λ entry h. c.answer_piece.ensures.stores entry (c.loop-step.invariant.stores entry h);
+      keeps = λ entry h. c.answer_piece.ensures.keeps entry (c.loop-step.invariant.keeps entry h);
     }

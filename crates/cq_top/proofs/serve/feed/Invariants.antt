@@ -1,6 +1,5 @@
 use Rattle.std.proofs.Common.{◌≡◌, ◌≤◌, ◌+◌, ◌++◌, List, ℕ, length}
-use Rattle.cq_coordinator.specs.Coordination.{KeepsStores}
-use Rattle.cq_top.specs.Serving.{IsServing, IsAnsweredUpTo, IsAnswering, ShowsMore}
+use Rattle.cq_top.specs.Serving.{IsServing, KeepsServing, IsAnsweredUpTo, IsAnswering, ShowsMore}
 use Rattle.cq_top.proofs.serve.feed.Given as goal
 
 abbrev pub invariant-loop-step : goal.invariant-loop-step
@@ -11,7 +10,7 @@ invariant-loop-step g l = record {
   shows : ShowsMore (g.K.Sink.shown l.fn.sink) (g.K.Sink.shown l.sink) l.fn.serving.answers l.serving.answers;
   faults : (g.K.Sink.shown l.fn.sink).faults ≤ (g.K.Sink.shown l.sink).faults;
   steady : (g.K.Sink.shown l.sink).steady ≡ (g.K.Sink.shown l.fn.sink).steady;
-  stores : KeepsStores g.S.Store.state l.fn.serving.coordinator l.serving.coordinator;
+  keeps : KeepsServing g.S.Store.state l.fn.serving l.serving;
 }
 
 abbrev pub decreases-loop-step : goal.decreases-loop-step

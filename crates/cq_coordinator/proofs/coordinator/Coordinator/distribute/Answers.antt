@@ -1,23 +1,19 @@
-use Rattle.std.proofs.Common.{sym, subst, Some}
-use Rattle.cq_point.specs.declared.statement.Statement.TheVariants as statement
-use Rattle.cq_tree.specs.declared.answer.Answer.TheVariants as answer
-use Rattle.cq_single.specs.declared.catalog.Catalog.{Catalog}
-use Rattle.cq_history.specs.Between.{Responds}
-use Rattle.cq_history.proofs.Steps.{responds_memory}
-use Rattle.cq_history.proofs.Ddl.{responds_distribute}
-use Rattle.cq_coordinator.specs.Coordination.{histories}
-use Rattle.cq_coordinator.proofs.Answering.{responds_at}
+use Rattle.cq_tree.specs.declared.statement.Statement.TheVariants as statement
+use Rattle.cq_history.proofs.Responses.{responds_memory}
+use Rattle.cq_cluster.specs.Cluster.{whole_at}
+use Rattle.cq_coordinator.specs.Coordination.{environment, journals}
+use Rattle.cq_coordinator.proofs.DefinitionAnswers.{distributed_in, not_distributed_in}
 use Rattle.cq_coordinator.proofs.coordinator.Coordinator.distribute.Goals as goal
 
 pub returns-in_default-clause-responds : goal.returns-in_default-clause-responds
-returns-in_default-clause-responds g c = responds_memory c.args.self.now.catalog c.args.who (histories c.args.self.now) (Some (statement.Distribute c.args.table.now c.args.column.now (Some c.args.shards) c.args.with.now)) (λ z. tt)
+returns-in_default-clause-responds g c = λ entry are. responds_memory (whole_at entry) (environment c.args.self.now) c.args.who (journals c.args.self.now) (statement.Distribute c.args.table.now c.args.column.now c.args.count c.args.with.now)
 
-pub returns-in-Ok-open_shards-clause-responds : goal.returns-in-Ok-open_shards-clause-responds
-returns-in-Ok-open_shards-clause-responds g c =
-    subst (λ (v : Catalog). Responds c.args.self.now.catalog v c.args.who (histories c.args.self.now) (histories c.open_shards.new.self) (Some (statement.Distribute c.args.table.now c.args.column.now (Some c.args.shards) c.args.with.now)) (answer.Table c.in-Ok.told.names c.in-Ok.told.rows)) (sym c.in-Ok-open_shards.ensures.catalog)
-    (responds_distribute c.args.self.now.catalog c.args.who (histories c.args.self.now) (histories c.open_shards.new.self) c.requires.table.0 c.args.table.now c.args.column.now c.args.shards c.args.with.now c.in-Ok.told.names c.in-Ok.told.rows
-    c.requires.table.1 c.requires.table.2 c.requires.some c.requires.few c.in-Ok-open_shards.ensures.count c.in-Ok-open_shards.ensures.empty c.in-Ok.ensures)
+pub returns-in-Ok-distribute-clause-responds : goal.returns-in-Ok-distribute-clause-responds
+returns-in-Ok-distribute-clause-responds g c = λ entry are.
+    distributed_in (whole_at entry) c.args.self.now.settings c.args.self.now.cluster c.distribute.new.self c.args.who c.args.table.now c.args.column.now c.args.count c.args.with.now
+    c.in-Ok.told.names c.in-Ok.told.rows c.requires.sound.whole (c.in-Ok-distribute.ensures.allowed entry are) c.in-Ok.ensures c.in-Ok-distribute.ensures.catalog c.in-Ok-distribute.ensures.opened
 
 pub returns-in-Err-clause-responds : goal.returns-in-Err-clause-responds
-returns-in-Err-clause-responds g c = responds_at c.args.self.now.catalog _ c.args.who (histories c.args.self.now) (histories c.args.self.now) _ _ _ c.in-Err.ensures.err c.in-Err.ensures.none
-    (responds_memory c.args.self.now.catalog c.args.who (histories c.args.self.now) (Some (statement.Distribute c.args.table.now c.args.column.now (Some c.args.shards) c.args.with.now)) (λ z. tt))
+returns-in-Err-clause-responds g c = λ entry are.
+    not_distributed_in (whole_at entry) c.args.self.now.settings c.args.self.now.cluster c.distribute.new.self c.args.who c.args.table.now c.args.column.now c.args.count c.args.with.now
+    c.in-Err.fault (c.in-Err.ensures.cause entry are) c.in-Err.ensures.unchanged c.in-Err.ensures.same

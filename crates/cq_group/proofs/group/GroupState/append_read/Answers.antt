@@ -1,5 +1,5 @@
 use Rattle.std.proofs.Common.{◌∙◌, [], ◌∷◌, ◌++◌, refl, ap}
-use Rattle.cq_point.specs.declared.journal.EntryKind.TheVariants.{Read}
+use Rattle.cq_tree.specs.declared.journal.EntryKind.TheVariants.{Read}
 use Rattle.cq_group.proofs.GroupLaws.{kept_read}
 use Rattle.cq_group.proofs.group.GroupState.append_read.Goals as goal
 

@@ -1,5 +1,5 @@
 use Rattle.std.proofs.Common.{◌≡◌, ◌∙◌, get_or, ap, refl, rules}
-use Rattle.cq_point_meaning.specs.Effects.{table_of}
+use Rattle.cq_meaning.specs.Effects.{table_of}
 use Rattle.cq_group.proofs.CommitLaws.{counted, made_kept, made_quiet, made_goes_on}
 use Rattle.cq_group.proofs.group.GroupState.commit_write.Goals as goal
 

@@ -1,6 +1,6 @@
 use Rattle.std.proofs.Common.{◌≡◌, ◌∙◌, ◌+◌, ◌<◌, ◌↔◌, IsTrue, get_or, length, ap, subst, rules}
-use Rattle.cq_point_meaning.specs.Effects.{table_of, inserts}
-use Rattle.cq_history.specs.Standing.{most_ids}
+use Rattle.cq_meaning.specs.Effects.{table_of, inserts}
+use Rattle.cq_journal.specs.Journals.{most_ids}
 use Rattle.cq_group.proofs.WriteLaws.{next_found}
 use Rattle.cq_group.proofs.group.GroupState.lacks_ids.Goals as goal
 

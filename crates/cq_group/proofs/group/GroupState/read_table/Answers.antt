@@ -1,32 +1,25 @@
-use Rattle.std.proofs.Common.{◌≡◌, ◌<◌, ◌∙◌, get_or, refl, sym, ap, subst, zero-add, rules}
+use Rattle.std.proofs.Common.{◌≡◌, ◌∙◌, get_or, refl, ap, rules}
 use Rattle.std.specs.List.{HoldsAt}
 use Rattle.std.proofs.lemmas.Result.{IfOk-weaker, IfErr-weaker}
 use Rattle.cq_value.specs.Tables.{rows_of}
-use Rattle.cq_history.specs.Journals.{replay}
-use Rattle.cq_group.specs.Groups.{entries_of, copies_of, or_no_shape, node_at, IsTableKept}
 use Rattle.cq_group.specs.Calls.{Rests, Lifted, Blames, IsOn, IsRestingTable}
 use Rattle.cq_group.proofs.Zips.{zip_set}
 use Rattle.cq_group.proofs.Turns.{rests}
 use Rattle.cq_group.proofs.TableLaws.{rested_go_on}
-use Rattle.cq_group.proofs.PlaceLaws.{all_at, found_shape, replica_rows, replica_node, table_refl, blames_group}
+use Rattle.cq_group.proofs.PlaceLaws.{table_refl, blames_group}
+use Rattle.cq_group.proofs.ReadLaws.{rows_found, node_found}
 use Rattle.cq_group.proofs.group.GroupState.read_table.Goals as goal
 
 pub returns-clause-rows : goal.returns-clause-rows
 returns-clause-rows g c =
     let state = g.S.Store.state in
-    let group = c.args.self.now in
-    let ts = group.tables.items in
+    let ts = c.args.self.now.tables.items in
     let place = c.place_of-place.result in
     let t = c.index_mut.result.now in
     let is : t ≡ get_or ts place t = search rules in
-    let number : t.table ≡ c.args.table = ap (λ x. x.table) is ∙ c.place_of-place.ensures.found t in
-    let found = found_shape ts place c.args.table t c.requires.kept.distinct c.place_of-place.ensures.within is number in
-    let kept = all_at (IsTableKept state group.node (copies_of group) (entries_of group)) ts place t c.requires.kept.tables c.place_of-place.ensures.within is in
     IfOk-weaker c.read.result (λ rows. HoldsAt (λ x. rows ≡ rows_of (state x).rows) t.stores.items c.args.copy) _
-    (λ rows h.
-    let here = replica_rows state 0 group.node (entries_of group) t.table t.shape t.shard t.stores.items c.args.copy rows kept.replicas (subst (λ n. c.args.copy < n) (sym kept.complete) c.requires.copy) h in
-    subst (λ shape. rows ≡ rows_of (replay c.args.table shape (entries_of group))) (ap or_no_shape (sym found))
-    (subst (λ n. rows ≡ rows_of (replay n t.shape (entries_of group))) number here))
+    (λ rows h. rows_found state rows_of c.args.self.now place c.args.table c.args.copy t rows c.requires.kept c.place_of-place.ensures.within is
+    (ap (λ x. x.table) is ∙ c.place_of-place.ensures.found t) c.requires.copy h)
     c.read.ensures.rows
 
 pub returns-clause-same : goal.returns-clause-same
@@ -55,12 +48,9 @@ pub returns-clause-here : goal.returns-clause-here
 returns-clause-here g c =
     let state = g.S.Store.state in
     let group = c.args.self.now in
-    let ts = group.tables.items in
     let place = c.place_of-place.result in
     let t = c.index_mut.result.now in
-    let is : t ≡ get_or ts place t = search rules in
-    let kept = all_at (IsTableKept state group.node (copies_of group) (entries_of group)) ts place t c.requires.kept.tables c.place_of-place.ensures.within is in
+    let is : t ≡ get_or group.tables.items place t = search rules in
     IfErr-weaker c.read.result (λ e. HoldsAt (λ x. IsOn (state x).node e) t.stores.items c.args.copy) _
-    (λ e h. subst (λ n. IsOn (node_at group.node n) e) (zero-add c.args.copy)
-    (replica_node state 0 group.node (entries_of group) t.table t.shape t.shard t.stores.items c.args.copy e kept.replicas (subst (λ n. c.args.copy < n) (sym kept.complete) c.requires.copy) h))
+    (λ e h. node_found state group place c.args.copy t e c.requires.kept c.place_of-place.ensures.within is c.requires.copy h)
     c.read.ensures.here

@@ -1,8 +1,8 @@
 use Rattle.std.proofs.Common.{◌≡◌, ◌∙◌, get_or, ap, refl, sym, subst, ◌+◌, ◌<◌, ◌≤◌, length, true, rules, arith}
 use Rattle.std.proofs.lemmas.Result.{IfErr-weaker}
-use Rattle.cq_point_meaning.specs.Effects.{table_of, inserts, reply_of}
+use Rattle.cq_meaning.specs.Effects.{table_of, inserts, reply_of, IsSafeWrite}
 use Rattle.std.specs.List.{AllByRecursion}
-use Rattle.cq_value.specs.Tables.{rows_of}
+use Rattle.cq_value.specs.Tables.{Table}
 use Rattle.cq_group.specs.Groups.{IsTableQuiet, IsStagedIn, entries_of, copies_of}
 use Rattle.cq_group.specs.Calls.{Rests, KeepsRows, GoesOn, Lifted, Blames, IsRestingTable, first_rows}
 use Rattle.cq_group.proofs.Zips.{zip_weaker, all_set, on_err, if_ok_both}
@@ -10,7 +10,7 @@ use Rattle.cq_group.proofs.Turns.{keeps_go_on}
 use Rattle.cq_group.proofs.TableLaws.{quiet_rested}
 use Rattle.cq_group.proofs.PlaceLaws.{all_at, blames_group}
 use Rattle.cq_group.proofs.GroupLaws.{kept_along, goes_on_but}
-use Rattle.cq_group.proofs.WriteLaws.{keeps_none, alike, kept_at, next_found, keeps_set, ready}
+use Rattle.cq_group.proofs.WriteLaws.{keeps_none, alike, kept_at, next_found, rows_found, keeps_set, ready}
 use Rattle.cq_group.proofs.group.GroupState.stage_at.Goals as goal
 
 pub returns-then-is_err-clause-kept : goal.returns-then-is_err-clause-kept
@@ -40,6 +40,16 @@ stage-requires-clause-ids g c =
     let next = next_found state group c.requires.kept c.args.place (table_of c.args.op.now) t c.requires.within is named in
     subst (λ n. n + length (inserts c.args.op.now) ≤ 4294967296) (sym next) c.requires.ids
 
+pub stage-requires-clause-safe : goal.stage-requires-clause-safe
+stage-requires-clause-safe g c =
+    let state = g.S.Store.state in
+    let group = c.args.self.now in
+    let t = c.index_mut.result.now in
+    let is : t ≡ get_or group.tables.items c.args.place t = search rules in
+    let named : t.table ≡ table_of c.args.op.now = ap (λ x. x.table) is ∙ c.requires.found t in
+    subst (λ (held : Table). IsSafeWrite c.args.op.now held.pairs)
+    (sym (rows_found state group c.requires.kept c.args.place (table_of c.args.op.now) t c.requires.within is named)) c.requires.safe
+
 pub returns-clause-ready : goal.returns-clause-ready
 returns-clause-ready g c =
     let state = g.S.Store.state in
@@ -50,7 +60,7 @@ returns-clause-ready g c =
     let keeps = keeps_set state group c.requires.kept c.args.place (table_of c.args.op.now) t c.requires.within is named c.stage.new.self c.stage.ensures.same in
     let one : 1 ≤ c.reserve.new.self.room = search rules in
     let room : 0 < c.reserve.new.self.room = omega (arith, one) in
-    if_ok_both c.stage.result (λ reply. reply ≡ reply_of c.args.op.now (rows_of (first_rows state t.stores.items)) t.shape)
+    if_ok_both c.stage.result (λ reply. reply ≡ reply_of c.args.op.now (first_rows state t.stores.items) t.shape)
     (AllByRecursion (λ x. IsStagedIn true c.args.op.now t.shape (state x)) c.stage.new.self.stores.items) _
     (λ reply replied staged.
     ready state group c.requires.kept c.args.place (table_of c.args.op.now) t c.requires.within is named _ c.args.op.now c.stage.new.self reply refl c.requires.quiet c.stage.ensures.same staged replied

@@ -1,6 +1,6 @@
 use Rattle.std.proofs.Common.{rules}
 use Rattle.cq_group.specs.Calls.{Rests, Stages, KeepsRows, Lifted, IsRestingTable}
-use Rattle.cq_group.proofs.TableLaws.{table_trans, table_weaker, takes_all, staged_all, quiet_staged, blames_later, rested_go_on}
+use Rattle.cq_group.proofs.TableLaws.{table_trans, table_weaker, takes_all, staged_all, quiet_staged, refused_changes, blames_later, rested_go_on}
 use Rattle.cq_group.proofs.Turns.{rests_keep, stages_keep, rests_more, stages_after}
 use Rattle.cq_group.proofs.group.GroupTable.stage.Goals as goal
 
@@ -46,8 +46,13 @@ returns-clause-staged g c =
     c.args.self.now c.effect_of.new.self c.stage_effect.new.self c.effect_of.ensures.same c.in_ok-stage_effect.ensures.ok)
 
 pub returns-clause-refused : goal.returns-clause-refused
-returns-clause-refused g c = λ duplicate.
-    quiet_staged g.S.Store.state c.in_ok-effect.effect.changes c.effect_of.new.self c.stage_effect.new.self (c.in_ok-effect.ensures.effect.refused duplicate) c.in_ok-stage_effect.ensures.ok
+returns-clause-refused g c = λ refusal.
+    quiet_staged g.S.Store.state c.in_ok-effect.effect.changes c.effect_of.new.self c.stage_effect.new.self
+    (refused_changes c.args.op.now _ c.args.self.now.shape c.in_ok-effect.effect c.in_ok-effect.ensures.effect refusal) c.in_ok-stage_effect.ensures.ok
+
+pub stage_effect-requires-clause-refused : goal.stage_effect-requires-clause-refused
+stage_effect-requires-clause-refused g c = λ refusal.
+    refused_changes c.args.op.now _ c.args.self.now.shape c.in_ok-effect.effect c.in_ok-effect.ensures.effect refusal
 
 pub returns-clause-same : goal.returns-clause-same
 returns-clause-same g c =

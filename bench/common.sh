@@ -1,0 +1,95 @@
+# What the comparisons with sqlite3 and psql share. A script sets `top` to the root of the repository and reads this file; then it
+# names its table and compares. All programs run the same statements in one run of the script, over rows in memory. Each SELECT
+# must answer one row, and the rows must be those of sqlite3. Times are printed as ratios to sqlite3's time only.
+
+work=$(mktemp -d)
+trap 'rm -rf "$work"' EXIT
+trap 'exit 1' INT TERM HUP
+: >"$work/nothing"
+
+fail() {
+    echo "$0: $1"
+    exit 1
+}
+
+# The table of all statements. Words: its name and columns, as they stand after CREATE TABLE, and the call that distributes it.
+on_table() {
+    echo "CREATE TABLE $1;" >"$work/sqlite3.head"
+    echo "CREATE TEMPORARY TABLE $1;" >"$work/psql.head"
+    { cat "$work/sqlite3.head"; echo "$2;"; } >"$work/citus_run.head"
+}
+
+run_sqlite3() { sqlite3 -bail -nullvalue '\N'; }
+run_citus_run() { "$top/crates/citus_run/out/citus_run"; }
+run_psql() { psql -X -q -A -t -P 'null=\N' -v ON_ERROR_STOP=1 -h "$work" -U postgres; }
+
+# Starts a server in the work folder, as the user postgres where this is run as root. It ends with the script.
+start_server() {
+    bin=$(ls -d /usr/lib/postgresql/*/bin 2>/dev/null | tail -n 1)
+    command -v psql >/dev/null && [ -n "$bin" ] || return 1
+    as_owner=
+    if [ "$(id -u)" -eq 0 ]; then
+        as_owner='runuser -u postgres --'
+        chown postgres "$work" || return 1
+    fi
+    $as_owner "$bin/initdb" -D "$work/data" -U postgres -A trust || return 1
+    trap '$as_owner "$bin/pg_ctl" -D "$work/data" -m immediate stop >/dev/null 2>&1; rm -rf "$work"' EXIT
+    $as_owner "$bin/pg_ctl" -D "$work/data" -w -l "$work/server.log" -o "-k $work -h ''" start
+}
+
+# Builds the program, and finds out which of the others are there. sqlite3 comes first: its time is the unit.
+prepare() {
+    command -v sqlite3 >/dev/null || fail 'sqlite3 is not installed, so there is no ratio'
+    (cd "$top/crates/citus_run" && rt run <stdin >"$work/log" 2>&1) || { cat "$work/log"; exit 1; }
+    programs='sqlite3 citus_run'
+    if start_server >"$work/log" 2>&1; then
+        programs="$programs psql"
+    else
+        echo 'psql is left out: PostgreSQL is not installed'
+    fi
+}
+
+# The best time of three runs in microseconds. Words: a program, and the files of statements that follow its table.
+best_of_three() {
+    program=$1
+    shift
+    cat "$work/$program.head" "$@" >"$work/script"
+    best=
+    for _ in 1 2 3; do
+        start=$(date +%s%N)
+        "run_$program" <"$work/script" >"$work/$program.out"
+        took=$((($(date +%s%N) - start) / 1000))
+        if [ -z "$best" ] || [ "$took" -lt "$best" ]; then
+            best=$took
+        fi
+    done
+    echo "$best"
+}
+
+# The rows that a program answered in its last run. citus_run writes each row before `(1 row)`, and first that of the distribution.
+rows_of() {
+    case $1 in
+        citus_run) awk '$0 == "(1 row)" && tables++ { print row } { row = $0 }' "$work/$1.out" ;;
+        *) cat "$work/$1.out" ;;
+    esac
+}
+
+# Prints the programs' times for a file of statements as ratios to sqlite3's. A file of statements runs before them, and its time
+# is taken off. Words: a title, the file before, the file that is compared.
+compare() {
+    line="$1: "
+    unit=
+    for program in $programs; do
+        before=$(best_of_three "$program" "$2")
+        both=$(best_of_three "$program" "$2" "$3")
+        took=$((both - before))
+        [ "$took" -gt 0 ] || fail "$1: too short to be measured, take more rows"
+        rows_of "$program" >"$work/$program.rows"
+        ! grep -m 1 '^ERROR' "$work/$program.out" || fail "$1: $program answers an error"
+        cmp -s "$work/sqlite3.rows" "$work/$program.rows" || fail "$1: $program answers other rows than sqlite3"
+        [ -z "$unit" ] || line="$line, "
+        unit=${unit:-$took}
+        line="$line$program $(awk -v a="$took" -v b="$unit" 'BEGIN { printf "%.2f", a / b }')"
+    done
+    echo "$line"
+}

@@ -1,0 +1,10 @@
+pub mod Counting
+pub mod CountingParts
+pub mod CountingFrom
+pub mod CountingSelects
+pub mod CountingSelect
+pub mod CountingWalk
+pub mod Yields
+pub mod Rows
+pub mod Statements
+pub mod Points

@@ -1,0 +1,219 @@
+-- What a statement that is read is: a query only of a query, and an INSERT only of rows that fit.
+use Rattle.std.proofs.Common.{◌≡◌, ℕ, ◌≤◌, Bool, true, false, not, ◌&&◌, List, [], refl, Option, Ok, arith}
+use Rattle.std.specs.Prelude.{⊤, nat_le, nat_lt, length, slice_get, bytes_eq, codes}
+use Rattle.std.specs.List.{AllByRecursion, list_any}
+use Rattle.cq_value.specs.declared.schema.Column as schema
+use Rattle.cq_value.specs.declared.schema.With.{With}
+use Rattle.cq_catalog.specs.declared.info.TableInfo.{TableInfo}
+use Rattle.cq_catalog.specs.Contents.{number_of, shape_of}
+use Rattle.cq_grammar.specs.declared.name.Name.{Name}
+use Rattle.cq_grammar.specs.declared.query.Query as grammar
+use Rattle.cq_grammar.specs.declared.expr.Expr as grammar_expr
+use Rattle.cq_grammar.specs.declared.statement.ColumnDef.{ColumnDef}
+use Rattle.cq_grammar.specs.declared.statement.SetClause.{SetClause}
+use Rattle.cq_grammar.specs.declared.statement.CopyOption.{CopyOption}
+use Rattle.cq_grammar.specs.declared.statement.RowValues.{RowValues}
+use Rattle.cq_grammar.specs.declared.statement.Ast.{Ast}
+use Rattle.cq_grammar.specs.declared.statement.Ast.TheVariants as ast
+use Rattle.cq_grammar.specs.declared.statement.Argument.{Argument}
+use Rattle.cq_grammar.specs.declared.statement.SettingValue.{SettingValue}
+use Rattle.cq_grammar.specs.declared.statement.SettingValue.TheVariants as settings
+use Rattle.cq_tree.specs.declared.expression.Cond.{Cond}
+use Rattle.cq_tree.specs.declared.query.Query.{Query}
+use Rattle.cq_tree.specs.declared.write.Set.{Set}
+use Rattle.cq_tree.specs.declared.write.ShardOp.{ShardOp}
+use Rattle.cq_tree.specs.declared.write.ShardOp.TheVariants.{Insert, Update, Remove}
+use Rattle.cq_tree.specs.declared.statement.Statement.{Statement}
+use Rattle.cq_tree.specs.declared.statement.Statement.TheVariants as statement
+use Rattle.cq_journal.specs.Fitting.{Fits}
+use Rattle.cq_reading.specs.declared.error.BindError.TheVariants as error
+use Rattle.cq_reading.specs.declared.error.Limited.TheVariants as limited
+use Rattle.cq_reading.specs.Widths.{is_some}
+use Rattle.cq_reading.specs.Scopes.{table_sources}
+use Rattle.cq_reading.specs.Steps.{give, through}
+use Rattle.cq_reading.specs.Statements as st
+use Rattle.cq_bound_laws.specs.Laws.{RowsFit, SelectsAreQueries, SettingsFit}
+use Rattle.cq_bound_laws.proofs.Yields.{Yields, yields_give, yields_refuse, yields_then, yields_behind, yields_provided, yields_if, yields_outcome}
+use Rattle.cq_bound_laws.proofs.Rows.{insertion_fits}
+
+-- what is known of what a syntax tree is read as
+unfoldable Known : List TableInfo → Ast → Statement → Type 0
+Known tables a (statement.Select q) = (x : grammar.Query) × (a ≡ ast.Query x)
+Known tables a (statement.Write (Insert table rows)) = AllByRecursion (Fits (shape_of (slice_get tables table))) rows
+Known tables a (statement.Setting which n) = n ≤ 128
+Known tables a _ = ⊤
+
+both_true : (a b : Bool) → (a && b) ≡ true → b ≡ true
+both_true true b h = h
+both_true false b h = cc
+
+at_most : (m n : ℕ) → nat_le m n ≡ true → m ≤ n
+at_most m n h = grind (arith, h)
+
+module _ (tables : List TableInfo) (a : Ast) where
+  abbrev K : Statement → Type 0
+  K = Known tables a
+
+  -- statements that are neither a query nor an INSERT
+
+  known_table : (name : List ℕ) (columns : List schema.Column) (key : List ℕ) → Yields K (give (statement.CreateTable name columns key))
+  unfolding Known
+  known_table name columns key = yields_give K (statement.CreateTable name columns key) tt
+
+  known_setting : (which n : ℕ) → n ≤ 128 → Yields K (give (statement.Setting which n))
+  unfolding Known
+  known_setting which n h = yields_give K (statement.Setting which n) h
+
+  known_explanation : (q : Query) → Yields K (give (statement.Explain q))
+  unfolding Known
+  known_explanation q = yields_give K (statement.Explain q) tt
+
+  known_copy : (table : ℕ) (columns : List ℕ) (csv header : Bool) → Yields K (give (statement.Copy table columns csv header))
+  unfolding Known
+  known_copy table columns csv header = yields_give K (statement.Copy table columns csv header) tt
+
+  known_update : (table : ℕ) (filter : Cond) (sets : List Set) → Yields K (give (statement.Write (Update table filter sets)))
+  unfolding Known
+  known_update table filter sets = yields_give K (statement.Write (Update table filter sets)) tt
+
+  known_deletion : (table : ℕ) (filter : Cond) → Yields K (give (statement.Write (Remove table filter)))
+  unfolding Known
+  known_deletion table filter = yields_give K (statement.Write (Remove table filter)) tt
+
+  known_distribution : (table column : List ℕ) (count : Option ℕ) (with : With) → Yields K (give (statement.Distribute table column count with))
+  unfolding Known
+  known_distribution table column count with = yields_give K (statement.Distribute table column count with) tt
+
+  known_reference : (table : List ℕ) → Yields K (give (statement.Reference table))
+  unfolding Known
+  known_reference table = yields_give K (statement.Reference table) tt
+
+  known_move : (shard from to : ℕ) → Yields K (give (statement.Move shard from to))
+  unfolding Known
+  known_move shard from to = yields_give K (statement.Move shard from to) tt
+
+  known_rebalance : (by_size : Bool) → Yields K (give (statement.Rebalance by_size))
+  unfolding Known
+  known_rebalance by_size = yields_give K (statement.Rebalance by_size) tt
+
+  known_plan : (by_size : Bool) → Yields K (give (statement.RebalancePlan by_size))
+  unfolding Known
+  known_plan by_size = yields_give K (statement.RebalancePlan by_size) tt
+
+  creations : (name : Name) (columns : List ColumnDef) (key : List Name) → Yields K (st.creation tables name columns key)
+  creations name columns key =
+      yields_provided K (not (is_some (number_of tables name.text))) (error.NameTaken name.text) _ (λ free.
+      yields_behind K (through st.with_created columns []) _ (λ cs.
+      yields_behind K (st.key_of cs columns key) _ (λ places.
+      yields_provided K (nat_lt (length tables) 64) (error.Limit limited.Tables 64) (give (statement.CreateTable name.text cs places)) (λ few. known_table name.text cs places))))
+
+  updates : (table : Name) (sets : List SetClause) (filter : Option grammar_expr.Expr) → Yields K (st.update tables table sets filter)
+  updates table sets filter =
+      yields_behind K (st.target_of tables table) _ (λ p.
+      yields_then IsUpdate K (st.update_of (st.among tables []) p.0 p.1 sets filter) (λ op. give (statement.Write op)) (op_of p.0 p.1) of_update)
+    where
+      IsUpdate : ShardOp → Type 0
+      IsUpdate (Insert table rows) = ⊥
+      IsUpdate _ = ⊤
+
+      op_of : (i : ℕ) (t : TableInfo) → Yields IsUpdate (st.update_of (st.among tables []) i t sets filter)
+      op_of i t =
+          let cx = st.write_context (st.among tables []) (table_sources t.name t) in
+          yields_behind IsUpdate (through (st.with_set cx t) sets []) _ (λ bound. yields_behind IsUpdate (st.filter_in cx filter) _ (λ c. yields_give IsUpdate (Update i c bound) tt))
+
+      of_update : (op : ShardOp) → IsUpdate op → Yields K (give (statement.Write op))
+      of_update (Insert table rows) h = absurd h
+      of_update (Update table filter sets) h = known_update table filter sets
+      of_update (Remove table filter) h = known_deletion table filter
+
+  deletions : (table : Name) (filter : Option grammar_expr.Expr) → Yields K (st.deletion tables table filter)
+  deletions table filter =
+      yields_behind K (st.target_of tables table) _ (λ p.
+      yields_then IsDeletion K (st.deletion_of (st.among tables []) p.0 p.1 filter) (λ op. give (statement.Write op)) (op_of p.0 p.1) of_deletion)
+    where
+      IsDeletion : ShardOp → Type 0
+      IsDeletion (Insert table rows) = ⊥
+      IsDeletion _ = ⊤
+
+      op_of : (i : ℕ) (t : TableInfo) → Yields IsDeletion (st.deletion_of (st.among tables []) i t filter)
+      op_of i t = yields_behind IsDeletion (st.filter_in (st.write_context (st.among tables []) (table_sources t.name t)) filter) _ (λ c. yields_give IsDeletion (Remove i c) tt)
+
+      of_deletion : (op : ShardOp) → IsDeletion op → Yields K (give (statement.Write op))
+      of_deletion (Insert table rows) h = absurd h
+      of_deletion (Update table filter sets) h = known_update table filter sets
+      of_deletion (Remove table filter) h = known_deletion table filter
+
+  copies : (table : Name) (columns : List Name) (opts : List CopyOption) → Yields K (st.copying tables table columns opts)
+  copies table columns opts =
+      yields_behind K (st.target_of tables table) _ (λ p. yields_behind K (st.columns_of p.1.columns columns) _ (λ is. known_copy p.0 is (list_any st.is_csv opts) (list_any st.is_header opts)))
+
+  switches : (which : ℕ) (v : SettingValue) → Yields K (st.switch_setting which v)
+  switches which (settings.Number n at) = yields_refuse K _
+  switches which (settings.On at) = known_setting which 1 (omega arith)
+  switches which (settings.Off at) = known_setting which 0 (omega arith)
+
+  numbers : (which greatest : ℕ) (v : SettingValue) → greatest ≤ 128 → Yields K (st.number_setting which greatest v)
+  numbers which greatest (settings.Number n at) few =
+      yields_provided K (nat_le 1 n && nat_le n greatest) _ (give (statement.Setting which n)) (λ may. let low = at_most n greatest (both_true (nat_le 1 n) (nat_le n greatest) may) in known_setting which n (omega (arith, low, few)))
+  numbers which greatest (settings.On at) few = yields_refuse K _
+  numbers which greatest (settings.Off at) few = yields_refuse K _
+
+  set : (space name : Name) (v : SettingValue) → Yields K (st.setting space name v)
+  set space name v =
+      yields_if K (not (bytes_eq space.text (codes "citus"))) _ _ (yields_refuse K _)
+      (yields_if K (bytes_eq name.text (codes "enable_repartition_joins")) _ _ (switches 0 v)
+      (yields_if K (bytes_eq name.text (codes "shard_count")) _ _ (numbers 1 128 v (omega arith))
+      (yields_if K (bytes_eq name.text (codes "max_adaptive_executor_pool_size")) _ _ (numbers 2 64 v (omega arith)) (yields_refuse K _))))
+
+  explanations : (q : grammar.Query) → Yields K (st.explanation tables q)
+  explanations q = yields_behind K (st.query_of tables q) _ known_explanation
+
+  distributions : (arguments : List Argument) → Yields K (st.distribution arguments)
+  distributions arguments = yields_behind K (through st.with_argument arguments _) _ (λ o. known_distribution _ _ o.count o.with)
+
+  moves : (arguments : List Argument) → Yields K (st.moving arguments)
+  moves arguments = yields_behind K (st.small_number (st.argument_at arguments 1)) _ (λ from. yields_behind K (st.small_number (st.argument_at arguments 2)) _ (λ to. known_move _ from to))
+
+  calls : (function : Name) (arguments : List Argument) → Yields K (st.call function arguments)
+  calls function arguments =
+      yields_if K (bytes_eq function.text (codes "create_distributed_table")) _ _ (distributions arguments)
+      (yields_if K (bytes_eq function.text (codes "create_reference_table")) _ _ (known_reference _)
+      (yields_if K (bytes_eq function.text (codes "citus_move_shard_placement")) _ _ (moves arguments)
+      (yields_if K (bytes_eq function.text (codes "rebalance_table_shards")) _ _ (yields_behind K (through st.with_strategy arguments false) _ known_rebalance)
+      (yields_behind K (through st.with_strategy arguments false) _ known_plan))))
+
+-- ---- queries and INSERT
+
+queries : (tables : List TableInfo) (x : grammar.Query) → Yields (Known tables (ast.Query x)) (st.selection tables x)
+unfolding Known
+queries tables x = yields_behind (Known tables (ast.Query x)) (st.query_of tables x) _ (λ q. yields_give (Known tables (ast.Query x)) (statement.Select q) (x, refl))
+
+insertions : (tables : List TableInfo) (a : Ast) (table : Name) (columns : List Name) (rows : List RowValues) → Yields (Known tables a) (st.insertion tables table columns rows)
+unfolding Known
+insertions tables a table columns rows = insertion_fits (Known tables a) tables table columns rows (λ i values h. h)
+
+known : (tables : List TableInfo) (a : Ast) → Yields (Known tables a) (st.statement_of tables a)
+known tables (ast.Create name columns key at) = creations tables (ast.Create name columns key at) name columns key
+known tables (ast.Insert table columns rows at) = insertions tables (ast.Insert table columns rows at) table columns rows
+known tables (ast.Update table sets filter at) = updates tables (ast.Update table sets filter at) table sets filter
+known tables (ast.Delete table filter at) = deletions tables (ast.Delete table filter at) table filter
+known tables (ast.Copy table columns spelled opts at) = copies tables (ast.Copy table columns spelled opts at) table columns opts
+known tables (ast.Set space name spelled v at) = set tables (ast.Set space name spelled v at) space name v
+known tables (ast.Explain q at) = explanations tables (ast.Explain q at) q
+known tables (ast.Call function arguments at) = calls tables (ast.Call function arguments at) function arguments
+known tables (ast.Query q) = queries tables q
+
+statement_known : (tables : List TableInfo) (a : Ast) (s : Statement) → st.reading tables a ≡ Ok s → Known tables a s
+statement_known tables a s is = yields_outcome (Known tables a) (st.statement_of tables a) _ s (known tables a) is
+
+pub rows_of_insertions_fit : RowsFit
+unfolding Known
+rows_of_insertions_fit tables a table rows is = statement_known tables a (statement.Write (Insert table rows)) is
+
+pub selects_are_queries : SelectsAreQueries
+unfolding Known
+selects_are_queries tables a q is = statement_known tables a (statement.Select q) is
+
+pub settings_fit : SettingsFit
+unfolding Known
+settings_fit tables a which n is = statement_known tables a (statement.Setting which n) is

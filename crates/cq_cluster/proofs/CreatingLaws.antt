@@ -1,0 +1,138 @@
+-- A local table more changes no shard group.
+use Rattle.std.proofs.Common.{◌≡◌, ◌⊎◌, inl, inr, ℕ, ◌+◌, ◌<◌, ◌≤◌, Bool, true, false, List, [], ◌∷◌, ◌++◌, length, refl, sym, ap, subst, ◌∙◌, arith, Some, None, Option, slice_get}
+use Rattle.std.specs.Prelude.{option_map, nat_lt, is_some, take}
+use Rattle.std.proofs.lemmas.Bool.Decides.{nat_tests}
+use Rattle.cq_value.specs.declared.schema.Column.{Column}
+use Rattle.cq_value.specs.declared.schema.Shape.{Shape}
+use Rattle.cq_answer.specs.declared.fault.Fault.{Fault}
+use Rattle.cq_answer.specs.declared.fault.Fault.TheVariants as fault
+use Rattle.cq_answer.specs.Faults.{fault_of_catalog}
+use Rattle.cq_catalog.proofs.WholeLaws.{whole_created}
+use Rattle.cq_catalog.specs.Contents.{Contents, place_in, shape_of, number_of}
+use Rattle.cq_catalog.specs.Creation.{creation_refusal, with_table, refusal_if, repeated_after}
+use Rattle.cq_catalog.specs.Placement.{place_at}
+use Rattle.cq_catalog.specs.Refusals.{first_of, IsCause}
+use Rattle.cq_catalog.specs.Whole.{IsWhole}
+use Rattle.cq_catalog.specs.declared.error.CatalogError.{CatalogError}
+use Rattle.cq_catalog.specs.declared.error.CatalogError.TheVariants.{NameTaken, Limit}
+use Rattle.cq_catalog.specs.declared.error.Limited.TheVariants.{Columns, Tables}
+use Rattle.cq_catalog.specs.declared.info.Colocation.{Colocation}
+use Rattle.cq_catalog.specs.declared.info.Place.TheVariants.{Local, Distributed}
+use Rattle.cq_catalog.specs.declared.info.TableInfo.{TableInfo}
+use Rattle.cq_history.specs.Environment.{shape_in}
+use Rattle.cq_history.specs.Room.{taken_in}
+use Rattle.cq_store.specs.Stores.{StoreState}
+use Rattle.cq_group.specs.declared.group.GroupState.{GroupState}
+use Rattle.cq_group.specs.Groups.{Outline, outlines}
+use Rattle.cq_cluster.specs.declared.cluster.Cluster.{Cluster}
+use Rattle.cq_cluster.specs.Cluster.{IsShardOf, AreGroups, IsSound}
+use Rattle.cq_cluster.proofs.CatalogLaws.{got_more, still_there, all_weaker}
+use Rattle.cq_cluster.proofs.DistributeLaws.{memory_is}
+
+-- ---- what the catalogue doesn't refuse
+
+first_none : {X : Type 0} (o : Option X) (rest : List (Option X)) → first_of (o ∷ rest) ≡ None → (o ≡ None) × (first_of rest ≡ None)
+first_none None rest h = (refl, h)
+first_none (Some x) rest h = cc
+
+refused_not : (b : Bool) (x : CatalogError) → refusal_if b x ≡ None → b ≡ false
+refused_not true x h = cc
+refused_not false x h = refl
+
+whole_more : (c : Contents) (name : List ℕ) (columns : List Column) (key : List ℕ) → IsWhole c → creation_refusal c name columns ≡ None → IsWhole (with_table c name columns key)
+whole_more c name columns key whole h =
+    let taken : Option CatalogError = refusal_if (is_some (number_of c.tables name)) (NameTaken name) in
+    let twice : Option CatalogError = option_map NameTaken (repeated_after [] (take 64 columns)) in
+    let long : Option CatalogError = refusal_if (nat_lt 64 (length columns)) (Limit Columns 64) in
+    let many : Option CatalogError = refusal_if (nat_lt 63 (length c.tables)) (Limit Tables 64) in
+    let one = first_none taken (twice ∷ long ∷ many ∷ []) h in
+    let two = first_none twice (long ∷ many ∷ []) one.1 in
+    let three = first_none long (many ∷ []) two.1 in
+    let four = first_none many [] three.1 in
+    let no_more = refused_not (nat_lt 64 (length columns)) (Limit Columns 64) three.0 in
+    let no_others = refused_not (nat_lt 63 (length c.tables)) (Limit Tables 64) four.0 in
+    let few : length columns ≤ 64 = grind (arith, nat_tests, no_more) in
+    let room : length c.tables < 64 = grind (arith, nat_tests, no_others) in
+    whole_created c name columns key whole few room
+
+-- an error of the catalogue is its cause
+pub creation_cause : (e : CatalogError) (o : Option CatalogError) (f : Fault) → f ≡ fault_of_catalog e → IsCause e o → (f ≡ fault.Memory) ⊎ (option_map fault_of_catalog o ≡ Some f)
+creation_cause e o f is cause = elim cause [
+  | inl m ↦ inl (is ∙ ap fault_of_catalog m ∙ memory_is)
+  | inr h ↦ inr (ap (option_map fault_of_catalog) h ∙ ap Some (sym is))
+]
+
+-- ---- the tables that there were
+
+module _ (c : Contents) (name : List ℕ) (columns : List Column) (key : List ℕ) where
+  abbrev more : TableInfo
+  more = record { name = name; columns = columns; key = key; place = Local }
+
+  place_kept : (table at colocation first_shard : ℕ) → place_at c table ≡ Distributed at colocation first_shard → place_at (with_table c name columns key) table ≡ Distributed at colocation first_shard
+  place_kept table at colocation first_shard p = by_item (slice_get c.tables table) refl p
+    where
+      by_item : (o : Option TableInfo) → slice_get c.tables table ≡ o → place_in o ≡ Distributed at colocation first_shard → place_at (with_table c name columns key) table ≡ Distributed at colocation first_shard
+      by_item None e q = cc
+      by_item (Some t) e q = ap place_in (still_there c.tables (more ∷ []) table t e) ∙ q
+
+  shape_kept : (table at colocation first_shard : ℕ) → place_at c table ≡ Distributed at colocation first_shard → shape_in (with_table c name columns key) table ≡ shape_in c table
+  shape_kept table at colocation first_shard p = by_item (slice_get c.tables table) refl p
+    where
+      by_item : (o : Option TableInfo) → slice_get c.tables table ≡ o → place_in o ≡ Distributed at colocation first_shard → shape_in (with_table c name columns key) table ≡ shape_in c table
+      by_item None e q = cc
+      by_item (Some t) e q = ap shape_of (still_there c.tables (more ∷ []) table t e) ∙ sym (ap shape_of e)
+
+  place_before : (table at colocation first_shard : ℕ) → place_at (with_table c name columns key) table ≡ Distributed at colocation first_shard → place_at c table ≡ Distributed at colocation first_shard
+  place_before table at colocation first_shard p = by_item (slice_get (c.tables ++ more ∷ []) table) refl p
+    where
+      local_or : Local ≡ Distributed at colocation first_shard → ⊥
+      local_or e = cc
+
+      by_item : (o : Option TableInfo) → slice_get (c.tables ++ more ∷ []) table ≡ o → place_in o ≡ Distributed at colocation first_shard → place_at c table ≡ Distributed at colocation first_shard
+      by_item None e q = cc
+      by_item (Some t) e q = elim (got_more c.tables more table t e) [
+        | inl old ↦ ap place_in old ∙ q
+        | inr new ↦ absurd (local_or (ap (λ (u : TableInfo). u.place) new.1 ∙ q))
+      ]
+
+  taken_more : (cs : List Colocation) (place : ℕ) (ts : List TableInfo) → taken_in cs place (ts ++ more ∷ []) ≡ taken_in cs place ts
+  taken_more cs place [] = refl
+  taken_more cs place (t ∷ ts) = let further = taken_more cs place ts in omega (arith, further)
+
+  shard_kept : (colocation i : ℕ) (o : Outline) → IsShardOf c colocation i o → IsShardOf (with_table c name columns key) colocation i o
+  shard_kept colocation i o h =
+      (h.0, h.1, place_kept o.0 h.0 colocation h.1 h.2, h.3 ∙ ap (λ (v : Shape). (o.0, v, h.1 + i, 1)) (sym (shape_kept o.0 h.0 colocation h.1 h.2)))
+
+  module _ {X : Type 0} (state : X → StoreState) where
+    groups_created : (groups : List (GroupState X)) → AreGroups state c groups → AreGroups state (with_table c name columns key) groups
+    groups_created groups all = record {
+      count = all.count;
+      each = λ colocation i co g there within s.
+          let at = all.each colocation i co g there within s in
+          record {
+            kept = at.kept;
+            quiet = at.quiet;
+            steady = at.steady;
+            number = at.number;
+            opening = at.opening;
+            node = at.node;
+            shards = all_weaker (IsShardOf c colocation i) (IsShardOf (with_table c name columns key) colocation i) (shard_kept colocation i) (outlines g) at.shards;
+            complete = λ table a first_shard p. at.complete table a first_shard (place_before table a colocation first_shard p);
+          };
+      covered = λ group h. let was = all.covered group h in record { colocation = was.colocation; i = was.i; co = was.co; there = was.there; within = was.within; is = was.is };
+      apart = all.apart;
+      held = λ place h. all.held place h ∙ sym (taken_more c.colocations place c.tables);
+    }
+
+-- a cluster stays sound
+pub sound_created : {X : Type 0} (state : X → StoreState) (old new : Cluster X) (name : List ℕ) (columns : List Column) (key : List ℕ) → IsSound state old → creation_refusal old.catalog name columns ≡ None →
+    new.catalog ≡ with_table old.catalog name columns key → new.groups ≡ old.groups → new.workers ≡ old.workers → IsSound state new
+sound_created state old new name columns key s allowed made groups workers =
+    let c = old.catalog in
+    record {
+      groups = subst (λ (v : Contents). AreGroups state v new.groups.items) (sym made) (rw groups (groups_created c name columns key state old.groups.items s.groups));
+      whole = subst IsWhole (sym made) (whole_more c name columns key s.whole allowed);
+      ids = subst (λ (v : Contents). 0 < v.next_shard) (sym made) s.ids;
+      both = rw workers s.both;
+      workers = (s.workers.0, rw (groups, workers) s.workers.1);
+    }

@@ -1,0 +1,81 @@
+-- What a distribution leaves: the table distributed, or all as it was.
+use Rattle.std.proofs.Common.{◌≡◌, ℕ, ◌<◌, List, [], ◌++◌, sym, ap, subst, ◌∙◌, None, Option}
+use Rattle.std.specs.Prelude.{replicate}
+use Rattle.cq_value.specs.declared.schema.With.{With}
+use Rattle.cq_answer.specs.declared.fault.Fault.{Fault}
+use Rattle.cq_answer.specs.declared.fault.Fault.TheVariants as fault
+use Rattle.cq_answer.specs.Faults.{fault_of_catalog}
+use Rattle.cq_catalog.specs.Contents.{Contents}
+use Rattle.cq_catalog.specs.Distribution.{decision_of, distribution_refusal, opened_at, distributed_by}
+use Rattle.cq_catalog.specs.Refusals.{IsCause}
+use Rattle.cq_catalog.specs.Whole.{IsWhole}
+use Rattle.cq_catalog.specs.declared.error.CatalogError.{CatalogError}
+use Rattle.cq_catalog.specs.declared.info.Opened.{Opened}
+use Rattle.cq_history.specs.Environment.{shape_in}
+use Rattle.cq_history.specs.Room.{opened_groups}
+use Rattle.cq_history.specs.Standing.{distribution_fault}
+use Rattle.cq_store.specs.Stores.{StoreState}
+use Rattle.cq_store.specs.declared.worker.Worker.{Worker}
+use Rattle.cq_cluster.specs.declared.cluster.Cluster.{Cluster}
+use Rattle.cq_cluster.specs.Cluster.{AreGroups, AreWorkers, whole_at, histories, IsSound, KeepsStores}
+use Rattle.cq_cluster.specs.Steps.{IsOpen, IsUndone, IsPlanned}
+use Rattle.cq_cluster.proofs.GoneLaws.{gone_entries}
+use Rattle.cq_cluster.proofs.TargetLaws.{can_distribute}
+use Rattle.cq_cluster.proofs.SoundLaws.{done_at, undone_stores}
+use Rattle.cq_cluster.proofs.DistributeLaws.{whole_distributed, ids_distributed, memory_alone, sound_of, sound_again}
+use Rattle.cq_cluster.proofs.PlanLaws.{table_at, by_shortage}
+
+-- ---- the second look of the catalogue, which is as it was
+
+module _ (c again : Contents) (table column : List ℕ) (count : Option ℕ) (beside : With) (default : ℕ) (same : again ≡ c) where
+  -- it refuses for want of memory alone
+  pub memory_after : (e : CatalogError) (f : Fault) → distribution_refusal c table column count beside default ≡ None → IsCause e (distribution_refusal again table column count beside default) → f ≡ fault_of_catalog e → f ≡ fault.Memory
+  memory_after e f allowed cause is =
+      is ∙ memory_alone e (distribution_refusal c table column count beside default) allowed (subst (λ (v : Contents). IsCause e (distribution_refusal v table column count beside default)) same cause)
+
+  pub made_after : (next : Contents) → next ≡ distributed_by again (decision_of again table column count beside default) → next ≡ distributed_by c (decision_of c table column count beside default)
+  made_after next made = subst (λ (v : Contents). next ≡ distributed_by v (decision_of v table column count beside default)) same made
+
+module _ {X : Type 0} (state : X → StoreState) where
+  -- ---- all is as it was
+
+  pub record IsAsItWas (old new : Cluster X) : Type 0 where
+    pub sound : IsSound state new
+    pub same : histories new ≡ histories old
+    pub stores : KeepsStores state old new
+
+  pub as_it_was : (old new : Cluster X) → IsSound state old → new.catalog ≡ old.catalog → IsUndone state old.groups.items old.workers.items new.groups.items new.workers.items → IsAsItWas old new
+  as_it_was old new s same undone = record {
+    sound = sound_again state old new s same undone;
+    same = gone_entries state _ old.groups.items new.groups.items undone.gone;
+    stores = undone_stores state old.groups.items new.groups.items old.workers.items new.workers.items s.both undone;
+  }
+
+  -- ---- the table is distributed
+
+  module _ (old new : Cluster X) (table column : List ℕ) (count : Option ℕ) (beside : With) (default : ℕ) where
+    pub record IsDistributed : Type 0 where
+      pub sound : IsSound state new
+      pub opened : histories new ≡ histories old ++ replicate (opened_groups (decision_of old.catalog table column count beside default).target) []
+      pub allowed : (entry : List (Worker X)) → AreWorkers state entry old.groups.items old.workers.items → distribution_fault old.catalog default (whole_at entry) table column count beside ≡ None
+      pub stores : KeepsStores state old new
+
+    pub distributed : (o : Opened) → IsSound state old → IsPlanned old.catalog old.workers.items table column count beside default o →
+        IsOpen state o (shape_in old.catalog o.table) old.groups.items old.workers.items new.groups.items new.workers.items →
+        new.catalog ≡ distributed_by old.catalog (decision_of old.catalog table column count beside default) → IsDistributed
+    distributed o s p is made =
+        let c = old.catalog in
+        let d = decision_of c table column count beside default in
+        let can = can_distribute c table column count beside default p.allowed in
+        let exact : IsOpen state (opened_at c d.table d.target) (shape_in c (opened_at c d.table d.target).table) old.groups.items old.workers.items new.groups.items new.workers.items =
+        subst (λ (v : Opened). IsOpen state v (shape_in c v.table) old.groups.items old.workers.items new.groups.items new.workers.items) p.opened is in
+        let done = done_at state c d.table d.column d.kind d.target (shape_in c (opened_at c d.table d.target).table) can.info old.groups.items new.groups.items old.workers.items new.workers.items s.whole s.groups
+        can.there can.local can.can (ap (shape_in c) (table_at c d.table d.target)) exact in
+        record {
+          sound = sound_of state old new s (subst (λ (v : Contents). AreGroups state v new.groups.items) (sym made) done.after)
+              (subst IsWhole (sym made) (whole_distributed c d.table d.column d.kind d.target s.whole (can.info, can.there, can.local) can.can))
+              (subst (λ (v : Contents). 0 < v.next_shard) (sym made) (ids_distributed c d.table d.column d.kind d.target s.ids)) done.same_length done.stores;
+          opened = done.entries;
+          allowed = by_shortage state old table column count beside default o None s p.allowed p.opened p.room;
+          stores = done.stores;
+        }

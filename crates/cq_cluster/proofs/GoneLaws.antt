@@ -1,0 +1,129 @@
+-- Groups that go on one by one with a table more.
+use Rattle.std.proofs.Common.{◌≡◌, ◌≢◌, ◌⊎◌, inl, inr, ℕ, zero, suc, ◌+◌, Bool, true, false, cond, List, [], ◌∷◌, ◌++◌, length, map, refl, sym, ap, subst, ◌∙◌, arith, Some, slice_get, length-set, length-append, append_assoc, append-nil}
+use Rattle.std.specs.Prelude.{nat_eq, nat_le, nat_lt}
+use Rattle.std.proofs.Math.ListN.{set}
+use Rattle.std.proofs.lemmas.Bool.Decides.{nat_tests}
+use Rattle.cq_tree.specs.declared.journal.Entry.{Entry}
+use Rattle.cq_journal.specs.declared.journal.Journal.{Journal}
+use Rattle.cq_store.specs.Stores.{StoreState}
+use Rattle.cq_group.specs.declared.group.GroupState.{GroupState}
+use Rattle.cq_group.specs.Groups.{IsKept, IsQuiet, IsSteady, Outline, outlines, entries_of, stores_of}
+use Rattle.cq_cluster.specs.Cluster.{held}
+use Rattle.cq_cluster.specs.Steps.{Goes, Loses, AreGone, more_at, nothing_more}
+use Rattle.cq_cluster.proofs.ListLaws.{got_after}
+
+-- ---- one group
+
+module _ {X : Type 0} (state : X → StoreState) where
+  pub goes_same : (g : GroupState X) → IsKept state g → IsQuiet state g → IsSteady state g → Goes state [] g g
+  goes_same g kept quiet steady = record {
+    journal = refl;
+    node = refl;
+    outlined = sym (append-nil (outlines g));
+    count = omega arith;
+    kept = kept;
+    quiet = quiet;
+    steady = steady;
+  }
+
+  pub goes_on : (a b : List Outline) (f g h : GroupState X) → Goes state a f g → Goes state b g h → Goes state (a ++ b) f h
+  goes_on a b f g h p q = record {
+    journal = q.journal ∙ p.journal;
+    node = q.node ∙ p.node;
+    outlined = q.outlined ∙ ap (λ (v : List Outline). v ++ b) p.outlined ∙ append_assoc (outlines f) a b;
+    count = omega (arith, q.count, p.count, length-append a b);
+    kept = q.kept;
+    quiet = q.quiet;
+    steady = q.steady;
+  }
+
+  snoc_same : (xs ys : List Outline) (x y : Outline) → xs ++ x ∷ [] ≡ ys ++ y ∷ [] → xs ≡ ys
+  snoc_same [] [] x y e = refl
+  snoc_same [] (b ∷ []) x y e = cc
+  snoc_same [] (b ∷ d ∷ ys) x y e = cc
+  snoc_same (a ∷ []) [] x y e = cc
+  snoc_same (a ∷ c ∷ xs) [] x y e = cc
+  snoc_same (a ∷ xs) (b ∷ ys) x y e =
+      let head : a ≡ b = cc in
+      let tail : xs ++ x ∷ [] ≡ ys ++ y ∷ [] = cc in
+      ap (λ (o : Outline). o ∷ xs) head ∙ ap (λ (v : List Outline). b ∷ v) (snoc_same xs ys x y tail)
+
+  -- a table is added and taken out again
+  pub goes_back : (o : Outline) (f g h : GroupState X) → Goes state (o ∷ []) f g → Loses state g h → Goes state [] f h
+  goes_back o f g h p q = record {
+    journal = q.journal ∙ p.journal;
+    node = q.node ∙ p.node;
+    outlined = sym (snoc_same (outlines f) (outlines h) o q.last (sym p.outlined ∙ q.outlined)) ∙ sym (append-nil (outlines f));
+    count = omega (arith, p.count, q.count);
+    kept = q.kept;
+    quiet = q.quiet;
+    steady = q.steady;
+  }
+
+  -- ---- all groups
+
+  pub gone_entries : (more : ℕ → List Outline) (old new : List (GroupState X)) → AreGone state more old new → map entries_of new ≡ map entries_of old
+  gone_entries more [] [] p = refl
+  gone_entries more [] (g ∷ gs) p = absurd (let n = p.count in omega (arith, n))
+  gone_entries more (f ∷ fs) [] p = absurd (let n = p.count in omega (arith, n))
+  gone_entries more (f ∷ fs) (g ∷ gs) p =
+      let first = p.each 0 g refl in
+      let same : f ≡ first.0 = some_is first.1 in
+      ap (λ (j : Journal). j.entries.list ∷ map entries_of gs) (first.2.journal ∙ ap (λ (h : GroupState X). h.journal) (sym same))
+      ∙ ap (λ (v : List (List Entry)). entries_of f ∷ v) (gone_entries (λ h. more (suc h)) fs gs (record { count = omega (arith, p.count); each = λ h k s. p.each (suc h) k s }))
+    where
+      some_is : {a b : GroupState X} → Some a ≡ Some b → a ≡ b
+      some_is e = cc
+
+  pub held_gone : (place : ℕ) (old new : List (GroupState X)) → AreGone state nothing_more old new → held place new ≡ held place old
+  held_gone place [] [] p = refl
+  held_gone place [] (g ∷ gs) p = absurd (let n = p.count in omega (arith, n))
+  held_gone place (f ∷ fs) [] p = absurd (let n = p.count in omega (arith, n))
+  held_gone place (f ∷ fs) (g ∷ gs) p =
+      let first = p.each 0 g refl in
+      let same : f ≡ first.0 = some_is first.1 in
+      let node : g.node ≡ f.node = first.2.node ∙ ap (λ (h : GroupState X). h.node) (sym same) in
+      let count : length (stores_of g) ≡ length (stores_of f) = omega (arith, first.2.count, ap (λ (h : GroupState X). length (stores_of h)) same) in
+      rw (node, count) (ap (λ n. cond (nat_eq f.node (place + 1)) (length (stores_of f)) 0 + n) (held_gone place fs gs (record { count = omega (arith, p.count); each = λ h k s. p.each (suc h) k s })))
+    where
+      some_is : {a b : GroupState X} → Some a ≡ Some b → a ≡ b
+      some_is e = cc
+
+  -- one group is exchanged
+  pub gone_set : (more next : ℕ → List Outline) (old now : List (GroupState X)) (k : ℕ) (g new : GroupState X) → AreGone state more old now → slice_get now k ≡ Some g →
+      ((was : GroupState X) → Goes state (more k) was g → Goes state (next k) was new) → ((h : ℕ) → h ≢ k → next h ≡ more h) → AreGone state next old (set now k new)
+  gone_set more next old now k g new p there step same = record {
+    count = length-set now k new ∙ p.count;
+    each = λ h x s. elim (got_after now k new h x s) [
+      | inl e ↦
+          let at = p.each k g there in
+          (at.0, subst (λ n. slice_get old n ≡ Some at.0) (sym e.0) at.1, subst (λ (v : GroupState X). Goes state (next h) at.0 v) (sym e.1) (subst (λ n. Goes state (next n) at.0 new) (sym e.0) (step at.0 at.2)))
+      | inr e ↦
+          let at = p.each h x e.1 in
+          (at.0, at.1, subst (λ (v : List Outline). Goes state v at.0 x) (sym (same h e.0)) at.2)
+    ];
+  }
+
+  -- how many stores are held when one group, on its node, has another number
+  pub held_set : (place : ℕ) (groups : List (GroupState X)) (k : ℕ) (g new : GroupState X) → slice_get groups k ≡ Some g → new.node ≡ g.node →
+      held place (set groups k new) + cond (nat_eq g.node (place + 1)) (length (stores_of g)) 0 ≡ held place groups + cond (nat_eq g.node (place + 1)) (length (stores_of new)) 0
+  held_set place [] k g new s node = cc
+  held_set place (f ∷ fs) zero g new s node =
+      let same : f ≡ g = cc in
+      rw (same, node) (omega arith)
+  held_set place (f ∷ fs) (suc k) g new s node = let further = held_set place fs k g new s node in omega (arith, further)
+
+  -- ---- the tables more that so many groups have
+
+  pub more_none : (first : ℕ) (o : ℕ → Outline) (h : ℕ) → more_at first o 0 h ≡ []
+  more_none first o h = elim (two (nat_le first h)) [
+    | inl t ↦ rw (t, beyond h t) refl
+    | inr f ↦ rw f refl
+  ]
+    where
+      two : (b : Bool) → (b ≡ true) ⊎ (b ≡ false)
+      two true = inl refl
+      two false = inr refl
+
+      beyond : (h : ℕ) → nat_le first h ≡ true → nat_lt h (first + 0) ≡ false
+      beyond h t = grind (arith, nat_tests)

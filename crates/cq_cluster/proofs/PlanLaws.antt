@@ -1,0 +1,167 @@
+-- A distribution that nothing refuses can be carried out, and which error refuses one.
+use Rattle.std.proofs.Common.{◌≡◌, ◌⊎◌, inr, ℕ, zero, suc, ◌+◌, ◌-◌, ◌<◌, ◌≤◌, true, false, List, [], ◌∷◌, length, take, All, refl, sym, ap, subst, ◌∙◌, arith, Some, None, Option, slice_get}
+use Rattle.std.proofs.lemmas.List.Sums.{count_by-le-length}
+use Rattle.std.proofs.lemmas.Option.{slice_get_within}
+use Rattle.std.specs.Prelude.{not}
+use Rattle.cq_value.specs.declared.schema.Shape.{Shape}
+use Rattle.cq_value.specs.declared.schema.With.{With}
+use Rattle.cq_answer.specs.declared.fault.Fault.{Fault}
+use Rattle.cq_answer.specs.declared.fault.Fault.TheVariants as fault
+use Rattle.cq_answer.specs.Faults.{fault_of_catalog}
+use Rattle.cq_catalog.specs.Contents.{Contents, is_local, place_in, count_in}
+use Rattle.cq_catalog.specs.Distribution.{decision_of, distribution_refusal, opened_at, opened_by}
+use Rattle.cq_catalog.specs.Refusals.{IsCause}
+use Rattle.cq_catalog.specs.Whole.{IsWhole, CanOpen}
+use Rattle.cq_catalog.specs.declared.decision.Target.{Target}
+use Rattle.cq_catalog.specs.declared.decision.Target.TheVariants.{Joins, Opens}
+use Rattle.cq_catalog.specs.declared.error.CatalogError.{CatalogError}
+use Rattle.cq_catalog.specs.declared.info.Opened.{Opened}
+use Rattle.cq_catalog.specs.declared.info.Place.TheVariants.{Local}
+use Rattle.cq_catalog.specs.declared.info.TableInfo.{TableInfo}
+use Rattle.cq_history.specs.Environment.{shape_in}
+use Rattle.cq_history.specs.Room.{nodes}
+use Rattle.cq_history.specs.Standing.{distribution_fault}
+use Rattle.cq_store.specs.Stores.{StoreState}
+use Rattle.cq_store.specs.declared.worker.Worker.{Worker}
+use Rattle.cq_group.specs.declared.group.GroupState.{GroupState}
+use Rattle.cq_cluster.specs.declared.cluster.Cluster.{Cluster}
+use Rattle.cq_cluster.specs.declared.shards.Shards.{Shards}
+use Rattle.cq_cluster.specs.Cluster.{IsWaiting, AreWorkers, whole_at, IsSound}
+use Rattle.cq_cluster.specs.Steps.{AllWait, shortage, HasOpened, IsBegun, forgotten, Adding, shards_of, CanBegin, IsOpen, IsUndone, IsPlanned, IsReady}
+use Rattle.cq_cluster.proofs.GoneLaws.{goes_same}
+use Rattle.cq_cluster.proofs.AddingLaws.{spent_none}
+use Rattle.cq_cluster.proofs.TargetLaws.{can_distribute}
+use Rattle.cq_cluster.proofs.SoundLaws.{have_stores, can_begin_at, room_same, undone_of}
+use Rattle.cq_cluster.proofs.DistributeLaws.{by_room, cause_of}
+
+-- ---- what a target opens
+
+pub table_at : (c : Contents) (table : ℕ) (target : Target) → (opened_at c table target).table ≡ table
+table_at c table (Joins colocation) = refl
+table_at c table (Opens count joinable) = refl
+
+pub few_at : (c : Contents) (table : ℕ) (target : Target) → IsWhole c → CanOpen c target → (opened_at c table target).count ≤ 128
+few_at c table (Joins colocation) whole can =
+    let co = got c.colocations colocation can in
+    let cut = whole.cut colocation co.0 co.1 in
+    omega (arith, cut.few, ap count_in co.1)
+  where
+    got : {A : Type 0} (xs : List A) (n : ℕ) → n < length xs → (x : A) × (slice_get xs n ≡ Some x)
+    got [] n h = absurd (omega (arith, h))
+    got (x ∷ xs) zero h = (x, refl)
+    got (x ∷ xs) (suc n) h = got xs n (omega (arith, h))
+few_at c table (Opens count joinable) whole can = can.1
+
+next_at : (c : Contents) (table : ℕ) (target : Target) (n : ℕ) → n ≡ c.groups → CanOpen c target → (opened_at c table target).fresh ≡ true →
+    ((opened_at c table target).first_group ≡ n) × ((opened_at c table target).first_group + (opened_at c table target).count ≤ 512)
+next_at c table (Joins colocation) n e can fresh = cc
+next_at c table (Opens count joinable) n e can fresh = (sym e, can.2)
+
+-- a table's shard ids stay small
+few_ids : (c : Contents) → IsWhole c → c.next_shard < 4294967296
+few_ids c whole = let n = count_by-le-length (λ (t : TableInfo). not (is_local t.place)) c.tables in omega (arith, n, whole.few_tables, whole.ids)
+
+module _ {X : Type 0} (state : X → StoreState) where
+  -- ---- groups that are opened, and closed again
+
+  pub begun_opened : (o : Opened) (old new : List (GroupState X)) → o.fresh ≡ true → HasOpened state o old new → IsBegun state o old new
+  begun_opened o old new fresh has = rw fresh has
+
+  pub begun_kept : (o : Opened) (old new : List (GroupState X)) → o.fresh ≡ false → new ≡ old → IsBegun state o old new
+  begun_kept o old new fresh same = rw fresh same
+
+  pub forgotten_opened : (o : Opened) (groups : List (GroupState X)) → o.fresh ≡ true → forgotten o groups ≡ take (length groups - o.count) groups
+  forgotten_opened o groups fresh = rw fresh refl
+
+  pub forgotten_kept : (o : Opened) (groups : List (GroupState X)) → o.fresh ≡ false → forgotten o groups ≡ groups
+  forgotten_kept o groups fresh = rw fresh refl
+
+  -- where adding a table's shards fails, and the groups that were opened for them are closed, all is as it was
+  pub open_undone : (o : Opened) (shards : Shards) (shape : Shape) (old begun groups closed : List (GroupState X)) (full started workers last : List (Worker X)) → shards ≡ shards_of o → started ≡ full → IsBegun state o old begun →
+      CanBegin state o shape old full → ((a : List (GroupState X)) (b : List (Worker X)) → Adding state shards shape a b 0 begun started → Adding state shards shape a b 0 groups workers) →
+      closed ≡ forgotten o groups → last ≡ workers → IsUndone state old full closed last
+  open_undone o shards shape old begun groups closed full started workers last is same has can step all_closed kept =
+      let first : Adding state shards shape begun full 0 begun started =
+      subst (λ (v : List (Worker X)). Adding state shards shape begun full 0 begun v) (sym same) (subst (λ (v : Shards). Adding state v shape begun full 0 begun full) (sym is) (can begun has)) in
+      let after : Adding state (shards_of o) shape begun full 0 groups workers = subst (λ (v : Shards). Adding state v shape begun full 0 groups workers) is (step begun full first) in
+      subst (λ (v : List (Worker X)). IsUndone state old full closed v) (sym kept)
+      (subst (λ (v : List (GroupState X)). IsUndone state old full v workers) (sym all_closed) (undone_of state o shape old begun groups full workers has after))
+
+  -- taking a table's shards out again, and closing the groups that were opened for them, leaves all as it was
+  pub open_again : (o : Opened) (shards : Shards) (shape : Shape) (old groups left closed : List (GroupState X)) (full workers started last : List (Worker X)) → shards ≡ shards_of o → IsOpen state o shape old full groups workers →
+      ((s : Shape) (a : List (GroupState X)) (b : List (Worker X)) → Adding state shards s a b o.count groups workers → Adding state shards s a b 0 left started) →
+      closed ≡ forgotten o left → last ≡ started → IsUndone state old full closed last
+  open_again o shards shape old groups left closed full workers started last is at step all_closed kept =
+      let first : Adding state shards shape at.begun full o.count groups workers = subst (λ (v : Shards). Adding state v shape at.begun full o.count groups workers) (sym is) at.added in
+      let after : Adding state (shards_of o) shape at.begun full 0 left started = subst (λ (v : Shards). Adding state v shape at.begun full 0 left started) is (step shape at.begun full first) in
+      subst (λ (v : List (Worker X)). IsUndone state old full closed v) (sym kept)
+      (subst (λ (v : List (GroupState X)). IsUndone state old full v started) (sym all_closed) (undone_of state o shape old at.begun left full started at.begins after))
+
+  -- ---- before a distribution
+
+  all_wait : (cl : Cluster X) → IsSound state cl → (place : ℕ) (w : Worker X) → place < nodes → slice_get cl.workers.items place ≡ Some w → AllWait state w
+  all_wait cl s place w h t =
+      let at = s.workers.1.used place w h t in
+      subst (λ n. All (λ (x : X). IsWaiting n (state x)) w.stores.items) (sym at.node) at.stores
+
+  -- a cluster is as it was
+  pub still_sound : (cl : Cluster X) → IsSound state cl → IsUndone state cl.groups.items cl.workers.items cl.groups.items cl.workers.items
+  still_sound cl s = record {
+    gone = record {
+      count = refl;
+      each = λ h g t.
+          let was = s.groups.covered h (let below = slice_get_within cl.groups.items h g t in omega (arith, below, s.groups.count)) in
+          let at = s.groups.each was.colocation was.i was.co g was.there was.within (subst (λ n. slice_get cl.groups.items n ≡ Some g) was.is t) in
+          (g, t, goes_same state g at.kept at.quiet at.steady);
+    };
+    spent = spent_none state cl.workers.items (all_wait cl s);
+  }
+
+  ready_at : (cl : Cluster X) (table : ℕ) (target : Target) (info : TableInfo) → IsSound state cl → slice_get cl.catalog.tables table ≡ Some info → info.place ≡ Local → CanOpen cl.catalog target →
+      shortage (opened_at cl.catalog table target).count cl.workers.items ≡ None → IsReady state cl (opened_at cl.catalog table target)
+  ready_at cl table target info s there local can room =
+      let c = cl.catalog in
+      let o = opened_at c table target in
+      record {
+        there = let below = slice_get_within c.tables table info there in subst (λ n. n < length c.tables) (sym (table_at c table target)) below;
+        next = next_at c table target (length cl.groups.items) s.groups.count can;
+        still = still_sound cl s;
+        begins = can_begin_at state c table target (shape_in c o.table) cl.groups.items cl.workers.items s.whole s.groups (ap place_in there ∙ local) can s.ids (few_ids c s.whole) s.both
+            (have_stores state cl.groups.items s.workers.0 cl.workers.items o.count s.both s.workers.1 room);
+      }
+
+  module _ (cl : Cluster X) (table column : List ℕ) (count : Option ℕ) (beside : With) (default : ℕ) where
+    -- what the catalogue doesn't refuse has few shards
+    pub few_shards : (o : Opened) → IsSound state cl → distribution_refusal cl.catalog table column count beside default ≡ None → o ≡ opened_by cl.catalog (decision_of cl.catalog table column count beside default) → o.count ≤ 128
+    few_shards o s allowed is =
+        let d = decision_of cl.catalog table column count beside default in
+        let can = can_distribute cl.catalog table column count beside default allowed in
+        subst (λ (v : Opened). v.count ≤ 128) (sym is) (few_at cl.catalog d.table d.target s.whole can.can)
+
+    pub ready_of : (o : Opened) → IsSound state cl → IsPlanned cl.catalog cl.workers.items table column count beside default o → IsReady state cl o
+    ready_of o s p =
+        let d = decision_of cl.catalog table column count beside default in
+        let can = can_distribute cl.catalog table column count beside default p.allowed in
+        subst (IsReady state cl) (sym p.opened)
+        (ready_at cl d.table d.target can.info s can.there can.local can.can (subst (λ (v : Opened). shortage v.count cl.workers.items ≡ None) p.opened p.room))
+
+    -- why a distribution is refused for want of stores, or isn't
+    pub by_shortage : (o : Opened) (r : Option Fault) → IsSound state cl → distribution_refusal cl.catalog table column count beside default ≡ None → o ≡ opened_by cl.catalog (decision_of cl.catalog table column count beside default) →
+        shortage o.count cl.workers.items ≡ r → (entry : List (Worker X)) → AreWorkers state entry cl.groups.items cl.workers.items → distribution_fault cl.catalog default (whole_at entry) table column count beside ≡ r
+    by_shortage o r s allowed is short entry at =
+        let d = decision_of cl.catalog table column count beside default in
+        by_room cl.catalog default (whole_at entry) table column count beside r allowed
+        (sym (room_same state cl.catalog entry cl.groups.items cl.workers.items (opened_by cl.catalog d).count s.both s.groups at) ∙ ap (λ (v : Opened). shortage v.count cl.workers.items) (sym is) ∙ short)
+
+    -- the error of the catalogue is the cause
+    pub refused_by : (e : CatalogError) (f : Fault) → f ≡ fault_of_catalog e → IsCause e (distribution_refusal cl.catalog table column count beside default) → (entry : List (Worker X)) →
+        AreWorkers state entry cl.groups.items cl.workers.items → (f ≡ fault.Memory) ⊎ (distribution_fault cl.catalog default (whole_at entry) table column count beside ≡ Some f)
+    refused_by e f is cause entry at =
+        subst (λ (v : Fault). (v ≡ fault.Memory) ⊎ (distribution_fault cl.catalog default (whole_at entry) table column count beside ≡ Some v)) (sym is)
+        (cause_of cl.catalog default (whole_at entry) table column count beside e cause)
+
+    -- want of stores is the cause, where the catalogue refuses nothing
+    pub short_by : (o : Opened) (f : Fault) → IsSound state cl → distribution_refusal cl.catalog table column count beside default ≡ None → o ≡ opened_by cl.catalog (decision_of cl.catalog table column count beside default) →
+        shortage o.count cl.workers.items ≡ Some f → (entry : List (Worker X)) → AreWorkers state entry cl.groups.items cl.workers.items →
+        (f ≡ fault.Memory) ⊎ (distribution_fault cl.catalog default (whole_at entry) table column count beside ≡ Some f)
+    short_by o f s allowed is short entry at = inr (by_shortage o (Some f) s allowed is short entry at)

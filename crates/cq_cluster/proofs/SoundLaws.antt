@@ -1,0 +1,341 @@
+-- What a cluster keeps as a table is distributed, or isn't.
+use Rattle.std.proofs.Common.{◌≡◌, ◌⊎◌, inl, inr, ℕ, zero, suc, ◌+◌, ◌-◌, ◌<◌, ◌≤◌, Bool, true, false, cond, List, [], ◌∷◌, ◌++◌, length, take, get_or, map, refl, sym, ap, subst, ◌∙◌, arith, All, Some, None, Option, IsSome, slice_get, length-append, append-nil}
+use Rattle.std.specs.Prelude.{nat_lt, replicate}
+use Rattle.std.specs.List.{AllByRecursion}
+use Rattle.std.proofs.lemmas.Bool.{cases_lt}
+use Rattle.std.proofs.lemmas.Bool.Decides.{nat_tests}
+use Rattle.std.proofs.lemmas.Option.{slice_get_within}
+use Rattle.std.proofs.lemmas.List.{map-append}
+use Rattle.cq_value.specs.declared.schema.Kind.{Kind}
+use Rattle.cq_value.specs.declared.schema.Shape.{Shape}
+use Rattle.cq_tree.specs.declared.journal.Entry.{Entry}
+use Rattle.cq_tree.specs.declared.journal.EntryKind.{EntryKind}
+use Rattle.cq_tree.specs.declared.journal.EntryKind.TheVariants.{Read, Write, MoveStart, CatchUp, Cutover, MoveStop}
+use Rattle.cq_meaning.specs.Effects.{table_of}
+use Rattle.cq_journal.specs.Laws.{IsNoWriteOf}
+use Rattle.cq_answer.specs.declared.fault.Fault.{Fault}
+use Rattle.cq_catalog.specs.Contents.{Contents, count_in, first_group_in}
+use Rattle.cq_catalog.specs.Distribution.{with_colocation, opened_at, distributed_at}
+use Rattle.cq_catalog.specs.Placement.{place_at}
+use Rattle.cq_catalog.specs.Ranges.{ends}
+use Rattle.cq_catalog.specs.Refusals.{first_of}
+use Rattle.cq_catalog.specs.Whole.{IsWhole, CanOpen}
+use Rattle.cq_catalog.proofs.WholeLaws.{whole_opened}
+use Rattle.cq_catalog.specs.declared.decision.Target.{Target}
+use Rattle.cq_catalog.specs.declared.decision.Target.TheVariants.{Joins, Opens}
+use Rattle.cq_catalog.specs.declared.info.Colocation.{Colocation}
+use Rattle.cq_catalog.specs.declared.info.Opened.{Opened}
+use Rattle.cq_catalog.specs.declared.info.Place.TheVariants.{Local}
+use Rattle.cq_catalog.specs.declared.info.TableInfo.{TableInfo}
+use Rattle.cq_store.specs.Stores.{StoreState}
+use Rattle.cq_store.specs.declared.worker.Worker.{Worker}
+use Rattle.cq_history.specs.Environment.{shape_in}
+use Rattle.cq_history.specs.Room.{nodes, shards_on, taken, short_at, room_fault, opened_groups}
+use Rattle.cq_group.specs.declared.group.GroupState.{GroupState}
+use Rattle.cq_group.specs.Groups.{IsKept, IsNamed, IsQuiet, IsSteady, Outline, outlines, shape_at, entries_of}
+use Rattle.cq_cluster.specs.Cluster.{Either, node_of, IsWaiting, held, AreGroups, whole_at, AreWorkers, stores_in}
+use Rattle.cq_cluster.specs.Steps.{Goes, AreGone, more_at, nothing_more, AreSpent, HaveStores, AreOpened, IsUnwritten, shard_outline, Adding, short_of, shortage, shards_of, HasOpened, IsBegun, forgotten, CanBegin, IsOpen, IsUndone}
+use Rattle.cq_cluster.proofs.ListLaws.{there}
+use Rattle.cq_cluster.proofs.GoneLaws.{goes_same, more_none, gone_entries, held_gone}
+use Rattle.cq_cluster.proofs.AddingLaws.{spent_none}
+use Rattle.cq_cluster.proofs.CatalogLaws.{no_shard, groups_opened, groups_spread, held_empty, before_more, behind_more, last_there}
+
+-- ---- what a group that hasn't a table has no write of
+
+no_write : (os : List Outline) (table : ℕ) (kind : EntryKind) → shape_at os table ≡ None → IsNamed os kind → IsNoWriteOf table kind
+no_write os table (Write op reply) none named = λ e. absurd (both (shape_at os (table_of op)) named (ap (shape_at os) e ∙ none))
+  where
+    both : (o : Option Shape) → IsSome o → o ≡ None → ⊥
+    both None h k = cc
+    both (Some s) h k = cc
+no_write os table Read none named = tt
+no_write os table (MoveStart node) none named = tt
+no_write os table CatchUp none named = tt
+no_write os table Cutover none named = tt
+no_write os table MoveStop none named = tt
+
+no_writes : (os : List Outline) (table : ℕ) (es : List Entry) → shape_at os table ≡ None → AllByRecursion (λ (e : Entry). IsNamed os e.kind) es → IsUnwritten table es
+no_writes os table [] none all = tt
+no_writes os table (e ∷ es) none all = (no_write os table e.kind none all.0, no_writes os table es none all.1)
+
+module _ {X : Type 0} (state : X → StoreState) where
+  -- a group that can get a new table
+  record IsFree (table : ℕ) (g : GroupState X) : Type 0 where
+    kept : IsKept state g
+    quiet : IsQuiet state g
+    steady : IsSteady state g
+    free : shape_at (outlines g) table ≡ None
+
+  free_group : (c : Contents) (table : ℕ) (groups : List (GroupState X)) → AreGroups state c groups → place_at c table ≡ Local → (h : ℕ) (g : GroupState X) → slice_get groups h ≡ Some g → IsFree table g
+  free_group c table groups all local h g s =
+      let was = all.covered h (let below = slice_get_within groups h g s in omega (arith, below, all.count)) in
+      let at = all.each was.colocation was.i was.co g was.there was.within (subst (λ n. slice_get groups n ≡ Some g) was.is s) in
+      record { kept = at.kept; quiet = at.quiet; steady = at.steady; free = no_shard c was.colocation was.i table (outlines g) at.shards local }
+
+  gone_free : (table first : ℕ) (o : ℕ → Outline) (groups : List (GroupState X)) → ((h : ℕ) (g : GroupState X) → slice_get groups h ≡ Some g → IsFree table g) → AreGone state (more_at first o 0) groups groups
+  gone_free table first o groups free = record {
+    count = refl;
+    each = λ h g s. let f = free h g s in (g, s, subst (λ (v : List Outline). Goes state v g g) (sym (more_none state first o h)) (goes_same state g f.kept f.quiet f.steady));
+  }
+
+  unwritten_free : (table : ℕ) (groups : List (GroupState X)) → ((h : ℕ) (g : GroupState X) → slice_get groups h ≡ Some g → IsFree table g) → AllByRecursion (λ (g : GroupState X). IsUnwritten table (entries_of g)) groups
+  unwritten_free table [] free = tt
+  unwritten_free table (g ∷ gs) free = (let f = free 0 g refl in no_writes (outlines g) table (entries_of g) f.free f.kept.named, unwritten_free table gs (λ h k s. free (suc h) k s))
+
+  -- ---- the workers
+
+  short_none : (count place free : ℕ) → short_of count place free ≡ None → shards_on count place ≤ free
+  short_none count place free h = elim (cases_lt free (shards_on count place)) [
+    | inl less ↦ absurd (refused (let yes : nat_lt free (shards_on count place) ≡ true = grind (arith, nat_tests, less) in rw yes at h))
+    | inr enough ↦ omega (arith, enough)
+  ]
+    where
+      refused : {A : Type 0} {a : A} → Some a ≡ None → ⊥
+      refused e = cc
+
+  -- ---- before a table is distributed
+
+  -- where the shards of a table go: its groups are those of a co-location group, or are to be opened
+  begun_joins : (c : Contents) (o : Opened) (shape : Shape) (co : Colocation) (colocation : ℕ) (groups : List (GroupState X)) (workers : List (Worker X)) → IsWhole c → AreGroups state c groups → place_at c o.table ≡ Local →
+      slice_get c.colocations colocation ≡ Some co → o.first_group ≡ co.first_group → o.count ≡ co.count → o.first_shard ≡ c.next_shard → 0 < c.next_shard → c.next_shard < 4294967296 →
+      nodes ≤ length workers → HaveStores state o.count workers → Adding state (shards_of o) shape groups workers 0 groups workers
+  begun_joins c o shape co colocation groups workers whole all local joins first count shard some few both stores =
+      let free = free_group c o.table groups all local in
+      let cut = whole.cut colocation co joins in
+      record {
+        few = omega arith;
+        within = omega (arith, first, count, cut.within, all.count);
+        numbers = omega (arith, first, count, cut.within, whole.few_groups);
+        some_shard = omega (arith, shard, some);
+        ids = omega (arith, shard, few, count, cut.few);
+        both = both;
+        ready = λ h g least most s.
+            let f = free h g s in
+            let i = h - co.first_group in
+            let index : h ≡ co.first_group + i = omega (arith, first, least) in
+            let at = all.each colocation i co g joins (omega (arith, first, count, least, most)) (subst (λ n. slice_get groups n ≡ Some g) index s) in
+            (f.free, at.node ∙ ap node_of (let e : i ≡ h - o.first_group = omega (arith, first) in e));
+        stores = stores;
+        gone = gone_free o.table o.first_group (shard_outline (shards_of o) shape) groups free;
+        held = λ place h. omega (arith, h);
+        unwritten = unwritten_free o.table groups free;
+        spent = spent_none state workers (λ place w h s. (stores place w h s).1);
+      }
+
+  behind_opened : (groups opened : List (GroupState X)) (h : ℕ) (g : GroupState X) → slice_get (groups ++ opened) h ≡ Some g → (slice_get groups h ≡ Some g) ⊎ ((length groups ≤ h) × (slice_get opened (h - length groups) ≡ Some g))
+  behind_opened groups opened h g s = elim (cases_lt h (length groups)) [
+    | inl l ↦ inl (sym (before_more groups opened h l) ∙ s)
+    | inr l ↦ inr (omega (arith, l), sym (behind_more groups opened (h - length groups)) ∙ ap (slice_get (groups ++ opened)) (let e : length groups + (h - length groups) ≡ h = omega (arith, l) in e) ∙ s)
+  ]
+
+  begun_opens : (c : Contents) (o : Opened) (shape : Shape) (groups opened : List (GroupState X)) (workers : List (Worker X)) → AreGroups state c groups → place_at c o.table ≡ Local →
+      o.first_group ≡ c.groups → o.count ≤ 128 → o.first_group + o.count ≤ 512 → o.first_shard ≡ c.next_shard → 0 < c.next_shard → c.next_shard < 4294967296 → length opened ≡ o.count → AreOpened state o.first_group opened →
+      nodes ≤ length workers → HaveStores state o.count workers → Adding state (shards_of o) shape (groups ++ opened) workers 0 (groups ++ opened) workers
+  begun_opens c o shape groups opened workers all local first count numbers shard some few number fresh both stores =
+      let free : (h : ℕ) (g : GroupState X) → slice_get (groups ++ opened) h ≡ Some g → IsFree o.table g =
+      λ h g s. elim (behind_opened groups opened h g s) [
+        | inl p ↦ free_group c o.table groups all local h g p
+        | inr p ↦ (let at = fresh (h - length groups) g p.1 in record { kept = at.kept; quiet = at.quiet; steady = rw at.tables tt; free = rw at.tables refl })
+      ] in
+      record {
+        few = omega arith;
+        within = omega (arith, first, number, all.count, length-append groups opened);
+        numbers = numbers;
+        some_shard = omega (arith, shard, some);
+        ids = omega (arith, shard, few, count);
+        both = both;
+        ready = λ h g least most s.
+            let f = free h g s in
+            elim (behind_opened groups opened h g s) [
+              | inl p ↦ absurd (let below = slice_get_within groups h g p in omega (arith, below, first, least, all.count))
+              | inr p ↦ (let at = fresh (h - length groups) g p.1 in (f.free, at.node ∙ ap node_of (let e : h - length groups ≡ h - o.first_group = omega (arith, first, all.count) in e)))
+            ];
+        stores = stores;
+        gone = gone_free o.table o.first_group (shard_outline (shards_of o) shape) (groups ++ opened) free;
+        held = λ place h. omega (arith, h);
+        unwritten = unwritten_free o.table (groups ++ opened) free;
+        spent = spent_none state workers (λ place w h s. (stores place w h s).1);
+      }
+
+  -- the workers have the stores, where none is short
+  pub have_stores : (groups : List (GroupState X)) (entry workers : List (Worker X)) (count : ℕ) → nodes ≤ length workers → AreWorkers state entry groups workers → shortage count workers ≡ None → HaveStores state count workers
+  have_stores groups entry workers count both all enough place w h s =
+      let at = all.used place w h s in
+      let first = first_none (short_of count 0 (stores_in (slice_get workers 0))) (short_of count 1 (stores_in (slice_get workers 1)) ∷ []) enough in
+      let second = first_none (short_of count 1 (stores_in (slice_get workers 1))) [] first.1 in (
+        at.node,
+        subst (λ n. All (λ (x : X). IsWaiting n (state x)) w.stores.items) (sym at.node) at.stores,
+        by_place place w h s (short_none count 0 _ first.0) (short_none count 1 _ second.0),
+      )
+    where
+      first_none : {A : Type 0} (o : Option A) (rest : List (Option A)) → first_of (o ∷ rest) ≡ None → (o ≡ None) × (first_of rest ≡ None)
+      first_none None rest h = (refl, h)
+      first_none (Some x) rest h = cc
+
+      by_place : (place : ℕ) (w : Worker X) → place < nodes → slice_get workers place ≡ Some w → shards_on count 0 ≤ stores_in (slice_get workers 0) → shards_on count 1 ≤ stores_in (slice_get workers 1) → shards_on count place ≤ length w.stores.items
+      by_place zero w h s p q = let e = ap stores_in s in omega (arith, p, e)
+      by_place (suc zero) w h s p q = let e = ap stores_in s in omega (arith, q, e)
+      by_place (suc (suc n)) w h s p q = absurd (omega (arith, h))
+
+  pub can_begin_at : (c : Contents) (table : ℕ) (target : Target) (shape : Shape) (groups : List (GroupState X)) (workers : List (Worker X)) → IsWhole c → AreGroups state c groups → place_at c table ≡ Local → CanOpen c target →
+      0 < c.next_shard → c.next_shard < 4294967296 → nodes ≤ length workers → HaveStores state (opened_at c table target).count workers → CanBegin state (opened_at c table target) shape groups workers
+  can_begin_at c table (Opens count joinable) shape groups workers whole all local can some few both stores begun has =
+      let opened = has.0 in
+      subst (λ (gs : List (GroupState X)). Adding state (shards_of (opened_at c table (Opens count joinable))) shape gs workers 0 gs workers) (sym has.1)
+      (begun_opens c (opened_at c table (Opens count joinable)) shape groups opened workers all local refl can.1 can.2 refl some few has.2 has.3 both stores)
+  can_begin_at c table (Joins colocation) shape groups workers whole all local can some few both stores begun has =
+      let co = got c.colocations colocation can in
+      subst (λ (gs : List (GroupState X)). Adding state (shards_of (opened_at c table (Joins colocation))) shape gs workers 0 gs workers) (sym has)
+      (begun_joins c (opened_at c table (Joins colocation)) shape co.0 colocation groups workers whole all local co.1 (ap first_group_in co.1) (ap count_in co.1) refl some few both stores)
+    where
+      got : {A : Type 0} (xs : List A) (n : ℕ) → n < length xs → (x : A) × (slice_get xs n ≡ Some x)
+      got [] n h = absurd (omega (arith, h))
+      got (x ∷ xs) zero h = (x, refl)
+      got (x ∷ xs) (suc n) h = got xs n (omega (arith, h))
+
+  -- ---- after a table is distributed
+
+  opened_entries : (first : ℕ) (n : ℕ) (gs : List (GroupState X)) → length gs ≡ n → ((i : ℕ) (g : GroupState X) → slice_get gs i ≡ Some g → entries_of g ≡ []) → map entries_of gs ≡ replicate n []
+  opened_entries first zero [] e empty = refl
+  opened_entries first (suc n) [] e empty = absurd (omega (arith, e))
+  opened_entries first zero (g ∷ gs) e empty = absurd (omega (arith, e))
+  opened_entries first (suc n) (g ∷ gs) e empty = rw (empty 0 g refl) (ap (λ (v : List (List Entry)). [] ∷ v) (opened_entries first n gs (omega (arith, e)) (λ i h s. empty (suc i) h s)))
+
+  -- a table's shards are added, and what the groups, the entries and the workers are then
+  pub record IsDone (c next : Contents) (opened : ℕ) (old groups : List (GroupState X)) (full workers : List (Worker X)) : Type 0 where
+    pub after : AreGroups state next groups
+    pub entries : map entries_of groups ≡ map entries_of old ++ replicate opened []
+    pub stores : (entry : List (Worker X)) → AreWorkers state entry old full → AreWorkers state entry groups workers
+    pub same_length : length workers ≡ length full
+
+  keeps : (old groups : List (GroupState X)) (full workers : List (Worker X)) (n : ℕ) → nodes ≤ length full → AreSpent state n full workers → ((place : ℕ) → place < nodes → held place groups ≡ held place old + shards_on n place) → (entry : List (Worker X)) →
+      AreWorkers state entry old full → AreWorkers state entry groups workers
+  keeps old groups full workers n both spent count entry now = record {
+    same_length = spent.same_length ∙ now.same_length;
+    used = λ place w h s.
+        let before = there full workers place w w spent.same_length s in
+        let lacks = spent.used place (get_or full place w) w h before s in
+        let was = now.used place (get_or full place w) h before in
+        record {
+          node = lacks.0.node ∙ was.node;
+          stores = subst (λ m. All (λ (x : X). IsWaiting m (state x)) w.stores.items) (lacks.0.node ∙ was.node) lacks.1;
+          total = omega (arith, lacks.0.total, was.total, count place h);
+          room = omega (arith, lacks.0.room, was.room, count place h);
+        };
+    unused = λ place h. spent.unused place h ∙ now.unused place h;
+  }
+
+  pub done_at : (c : Contents) (table column : ℕ) (kind : Kind) (target : Target) (shape : Shape) (info : TableInfo) (old groups : List (GroupState X)) (full workers : List (Worker X)) → IsWhole c → AreGroups state c old → slice_get c.tables table ≡ Some info →
+      info.place ≡ Local → CanOpen c target → shape ≡ shape_in c table → IsOpen state (opened_at c table target) shape old full groups workers → IsDone c (distributed_at c table column kind target) (opened_groups target) old groups full workers
+  done_at c table column kind (Joins colocation) shape info old groups full workers whole all there local can is done =
+      let a = done.added in
+      let same : done.begun ≡ old = done.begins in
+      let co = got c.colocations colocation can in
+      let o = opened_at c table (Joins colocation) in
+      let gone = subst (λ (gs : List (GroupState X)). AreGone state (more_at o.first_group (shard_outline (shards_of o) shape) o.count) gs groups) same a.gone in
+      let first : o.first_group ≡ co.0.first_group = ap first_group_in co.1 in
+      let count : o.count ≡ co.0.count = ap count_in co.1 in
+      let exact : AreGone state (more_at co.0.first_group (λ j. (table, shape_in c table, c.next_shard + j, 1)) co.0.count) old groups =
+      subst (λ (s : Shape). AreGone state (more_at co.0.first_group (λ j. (table, s, c.next_shard + j, 1)) co.0.count) old groups) is
+      (subst (λ n. AreGone state (more_at co.0.first_group (λ j. (table, shape, c.next_shard + j, 1)) n) old groups) count
+      (subst (λ n. AreGone state (more_at n (λ j. (table, shape, c.next_shard + j, 1)) o.count) old groups) first gone)) in
+      let number : (place : ℕ) → place < nodes → held place groups ≡ held place old + shards_on o.count place = λ place h. a.held place h ∙ ap (λ (gs : List (GroupState X)). held place gs + shards_on o.count place) same in
+      record {
+        after = groups_spread state c table column colocation (count_in (slice_get c.colocations colocation)) co.0 info old groups whole there local co.1 exact (λ place h. number place h ∙ ap (λ n. held place old + shards_on n place) count) all;
+        entries = gone_entries state _ old groups gone ∙ sym (append-nil (map entries_of old));
+        stores = keeps old groups full workers o.count a.both a.spent number;
+        same_length = a.spent.same_length;
+      }
+    where
+      got : {A : Type 0} (xs : List A) (n : ℕ) → n < length xs → (x : A) × (slice_get xs n ≡ Some x)
+      got [] n h = absurd (omega (arith, h))
+      got (x ∷ xs) zero h = (x, refl)
+      got (x ∷ xs) (suc n) h = got xs n (omega (arith, h))
+  done_at c table column kind (Opens count joinable) shape info old groups full workers whole all there local can is done =
+      let a = done.added in
+      let o = opened_at c table (Opens count joinable) in
+      let opened = done.begins.0 in
+      let next = with_colocation c kind count joinable in
+      let co : Colocation = record { kind = kind; count = count; first_group = c.groups; joinable = joinable; ends = ends count } in
+      let begun_groups : AreGroups state next done.begun = subst (AreGroups state next) (sym done.begins.1) (groups_opened state c kind count joinable old opened whole all done.begins.2 done.begins.3) in
+      let exact : AreGone state (more_at c.groups (λ j. (table, shape_in next table, c.next_shard + j, 1)) count) done.begun groups =
+      subst (λ (s : Shape). AreGone state (more_at c.groups (λ j. (table, s, c.next_shard + j, 1)) count) done.begun groups) is a.gone in
+      let empty : (place : ℕ) → held place done.begun ≡ held place old = λ place. ap (held place) done.begins.1 ∙ held_empty state place c.groups old opened done.begins.3 in
+      record {
+        after = groups_spread state next table column (length c.colocations) count co info done.begun groups (whole_opened c kind count joinable whole can) there local (last_there c.colocations co) exact a.held begun_groups;
+        entries = gone_entries state _ done.begun groups a.gone ∙ ap (map entries_of) done.begins.1 ∙ map-append entries_of old opened
+            ∙ ap (λ (v : List (List Entry)). map entries_of old ++ v) (opened_entries c.groups count opened done.begins.2 (λ i g s. (done.begins.3 i g s).entries));
+        stores = keeps old groups full workers count a.both a.spent (λ place h. a.held place h ∙ ap (λ n. n + shards_on count place) (empty place));
+        same_length = a.spent.same_length;
+      }
+
+  -- ---- nothing happened
+
+  pub undone_stores : (old groups : List (GroupState X)) (full workers : List (Worker X)) → nodes ≤ length full → IsUndone state old full groups workers → (entry : List (Worker X)) → AreWorkers state entry old full → AreWorkers state entry groups workers
+  undone_stores old groups full workers both undone =
+      keeps old groups full workers 0 both undone.spent (λ place h. let same = held_gone state place old groups undone.gone in omega (arith, same, h))
+
+  -- ---- room
+
+  short_same : (c : Contents) (entry : List (Worker X)) (groups : List (GroupState X)) (workers : List (Worker X)) (count place : ℕ) → place < nodes → nodes ≤ length workers → AreGroups state c groups → AreWorkers state entry groups workers →
+      short_of count place (stores_in (slice_get workers place)) ≡ short_at c (whole_at entry) count place
+  short_same c entry groups workers count place h both all now =
+      let w = got workers place (omega (arith, h, both)) in
+      let at = now.used place w.0 h w.1 in
+      let free : stores_in (slice_get workers place) ≡ whole_at entry place - taken c place = ap stores_in w.1 ∙ (let t = at.total in let e = all.held place h in omega (arith, t, e)) in
+      ap (short_of count place) free
+    where
+      got : {A : Type 0} (xs : List A) (n : ℕ) → n < length xs → (x : A) × (slice_get xs n ≡ Some x)
+      got [] n h = absurd (omega (arith, h))
+      got (x ∷ xs) zero h = (x, refl)
+      got (x ∷ xs) (suc n) h = got xs n (omega (arith, h))
+
+  pub room_same : (c : Contents) (entry : List (Worker X)) (groups : List (GroupState X)) (workers : List (Worker X)) (count : ℕ) → nodes ≤ length workers → AreGroups state c groups → AreWorkers state entry groups workers →
+      shortage count workers ≡ room_fault c (whole_at entry) count
+  room_same c entry groups workers count both all now =
+      ap (λ (o : Option Fault). first_of (o ∷ short_of count 1 (stores_in (slice_get workers 1)) ∷ [])) (short_same c entry groups workers count 0 (omega arith) both all now)
+      ∙ ap (λ (o : Option Fault). first_of (short_at c (whole_at entry) count 0 ∷ o ∷ [])) (short_same c entry groups workers count 1 (omega arith) both all now)
+
+  -- ---- undone
+
+  took : {A : Type 0} (n : ℕ) (xs : List A) (h : ℕ) (x : A) → slice_get (take n xs) h ≡ Some x → (slice_get xs h ≡ Some x) × (h < n)
+  took zero xs h x s = cc
+  took (suc n) [] h x s = cc
+  took (suc n) (y ∷ xs) zero x s = (s, omega arith)
+  took (suc n) (y ∷ xs) (suc h) x s = let r = took n xs h x s in (r.0, omega (arith, r.1))
+
+  length_take : {A : Type 0} (n : ℕ) (xs : List A) → n ≤ length xs → length (take n xs) ≡ n
+  length_take zero xs h = refl
+  length_take (suc n) [] h = absurd (omega (arith, h))
+  length_take (suc n) (x ∷ xs) h = ap suc (length_take n xs (omega (arith, h)))
+
+  gone_none : (first : ℕ) (o : ℕ → Outline) (old new : List (GroupState X)) → AreGone state (more_at first o 0) old new → AreGone state nothing_more old new
+  gone_none first o old new gone = record {
+    count = gone.count;
+    each = λ h g s. let was = gone.each h g s in (was.0, was.1, subst (λ (v : List Outline). Goes state v was.0 g) (more_none state first o h) was.2);
+  }
+
+  forgets : (b : Bool) (n : ℕ) (old begun groups : List (GroupState X)) → AreGone state nothing_more begun groups → Either b ((opened : List (GroupState X)) × (begun ≡ old ++ opened) × (length opened ≡ n)) (begun ≡ old) →
+      AreGone state nothing_more old (cond b (take (length groups - n) groups) groups)
+  forgets false n old begun groups gone same = subst (λ (v : List (GroupState X)). AreGone state nothing_more v groups) same gone
+  forgets true n old begun groups gone has =
+      let count : length groups ≡ length old + n = omega (arith, gone.count, ap length has.1, length-append old has.0, has.2) in
+      let kept : length groups - n ≡ length old = omega (arith, count) in
+      record {
+        count = ap (λ m. length (take m groups)) kept ∙ length_take (length old) groups (omega (arith, count));
+        each = λ h g s.
+            let t = took (length groups - n) groups h g s in
+            let was = gone.each h g t.0 in
+            (was.0, sym (before_more old has.0 h (omega (arith, t.1, kept))) ∙ sym (ap (λ (v : List (GroupState X)). slice_get v h) has.1) ∙ was.1, was.2);
+      }
+
+  pub undone_of : (o : Opened) (shape : Shape) (old begun groups : List (GroupState X)) (full workers : List (Worker X)) → IsBegun state o old begun → Adding state (shards_of o) shape begun full 0 groups workers →
+      IsUndone state old full (forgotten o groups) workers
+  undone_of o shape old begun groups full workers has a = record {
+    gone = forgets o.fresh o.count old begun groups (gone_none o.first_group (shard_outline (shards_of o) shape) begun groups a.gone) (weaker o.fresh has);
+    spent = a.spent;
+  }
+    where
+      weaker : (b : Bool) → Either b (HasOpened state o old begun) (begun ≡ old) → Either b ((opened : List (GroupState X)) × (begun ≡ old ++ opened) × (length opened ≡ o.count)) (begun ≡ old)
+      weaker true h = (h.0, h.1, h.2)
+      weaker false h = h

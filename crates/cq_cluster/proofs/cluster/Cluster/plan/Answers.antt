@@ -1,0 +1,20 @@
+use Rattle.cq_cluster.proofs.PlanLaws.{few_shards, refused_by, short_by}
+use Rattle.cq_cluster.proofs.cluster.Cluster.plan.Goals as goal
+
+pub check_room-requires-clause-few : goal.check_room-requires-clause-few
+check_room-requires-clause-few g c =
+    few_shards g.S.Store.state c.args.self.now c.args.table.now c.args.column.now c.args.count c.args.with.now c.args.default c.in-Ok.opened c.requires.sound c.in-Ok.ensures.allowed c.in-Ok.ensures.opened
+
+pub check_room-requires-clause-both : goal.check_room-requires-clause-both
+check_room-requires-clause-both g c = c.requires.sound.both
+
+pub returns-in-Err-clause-err : goal.returns-in-Err-clause-err
+returns-in-Err-clause-err g c entry at =
+    refused_by g.S.Store.state c.args.self.now c.args.table.now c.args.column.now c.args.count c.args.with.now c.args.default c.in-Err.refused c.from.result c.from.ensures c.in-Err.ensures.refused entry at
+
+pub returns-in-Err-check_room-clause-err : goal.returns-in-Err-check_room-clause-err
+returns-in-Err-check_room-clause-err g c entry at =
+    short_by g.S.Store.state c.args.self.now c.args.table.now c.args.column.now c.args.count c.args.with.now c.args.default c.in-Ok.opened c.in-Err-check_room.short c.requires.sound c.in-Ok.ensures.allowed c.in-Ok.ensures.opened c.in-Err-check_room.ensures.err entry at
+
+pub returns-clause-ok : goal.returns-clause-ok
+returns-clause-ok g c = record { allowed = c.in-Ok.ensures.allowed; opened = c.in-Ok.ensures.opened; room = c.in_default.ensures.ok }

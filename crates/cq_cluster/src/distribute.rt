@@ -1,0 +1,174 @@
+ghost use Rattle.std.specs.Prelude.{◌≡◌, ◌+◌, ◌≤◌, ◌⊎◌, ◌++◌, [], List, None, Some, OnOk, OnErr, IfErr, IfOk, ℕ, true, length, replicate};
+ghost use Rattle.cq_catalog.specs.Distribution.{decision_of, distributed_by};
+ghost use Rattle.cq_history.specs.Environment.{shape_in};
+ghost use Rattle.cq_history.specs.Room.{opened_groups};
+ghost use Rattle.cq_history.specs.Standing.{distribution_fault};
+ghost use Rattle.cq_store.specs.declared.worker.Worker.{Worker};
+ghost use Rattle.cq_group.specs.declared.group.GroupState.{GroupState};
+ghost use Rattle.cq_cluster.specs.Cluster.{AreWorkers, whole_at, histories, IsSound, KeepsStores};
+ghost use Rattle.cq_cluster.specs.Steps.{shards_of as all_shards, forgotten, IsBegun, CanBegin, IsOpen, IsUndone, IsPlanned, IsReady};
+ghost use Rattle.cq_value.specs.declared.schema.Shape.{Shape};
+
+use crate::cluster::Cluster;
+use crate::opening::{close_opened, open_empty};
+use crate::shards::{Shards, add_shards, drop_shards};
+use crate::spare::check_room;
+use cq_answer::Fault;
+use cq_catalog::Opened;
+use cq_store::Store;
+use cq_value::{NoMemory, Shape, Text, With};
+use std::alloc::Global;
+
+/// The shards that a distribution adds.
+fn shards_of(opened: &Opened) -> Shards
+    ensures { result ≡ all_shards opened.now }
+{
+    Shards {
+        table: opened.table,
+        first_group: opened.first_group,
+        count: opened.count,
+        first_shard: opened.first_shard,
+    }
+}
+
+impl<S: Store> Cluster<S> {
+    /// Opens the groups of a new co-location group, if the table has one.
+    ///
+    /// Errors: want of memory. The groups are as they were.
+    fn begin(&mut self, alloc: Global, opened: &Opened) -> Result<(), NoMemory>
+        requires next { opened.now.fresh ≡ true → (opened.now.first_group ≡ length self.old.groups.items) × (opened.now.first_group + opened.now.count ≤ 512) }
+        ensures ok { OnOk result (IsBegun S.state opened.now self.old.groups.items self.new.groups.items) }
+        ensures err { OnErr result (self.new.groups.items ≡ self.old.groups.items) }
+        ensures rest { self.new ≡ record self.old { groups = self.new.groups } }
+    {
+        if !opened.fresh {
+            return Ok(());
+        }
+        open_empty(alloc, &mut self.groups, opened.first_group, opened.count)
+    }
+
+    /// Takes away the groups that were opened for a table, if it has such.
+    fn forget(&mut self, opened: &Opened)
+        ensures groups { self.new.groups.items ≡ forgotten opened.now self.old.groups.items }
+        ensures rest { self.new ≡ record self.old { groups = self.new.groups } }
+    {
+        if opened.fresh {
+            close_opened(&mut self.groups, opened.count);
+        }
+    }
+
+    /// Opens the groups of a new co-location group, if the table has one, and adds the table's shards.
+    ///
+    /// Errors: want of memory. The groups and the workers' stores are as they were, but for the order of the spare ones.
+    fn open(&mut self, alloc: Global, opened: &Opened, shape: &Shape) -> Result<(), NoMemory>
+        requires next { opened.now.fresh ≡ true → (opened.now.first_group ≡ length self.old.groups.items) × (opened.now.first_group + opened.now.count ≤ 512) }
+        requires still { IsUndone S.state self.old.groups.items self.old.workers.items self.old.groups.items self.old.workers.items }
+        requires begins { CanBegin S.state opened.now shape.now self.old.groups.items self.old.workers.items }
+        ensures ok { OnOk result (IsOpen S.state opened.now shape.now self.old.groups.items self.old.workers.items self.new.groups.items self.new.workers.items) }
+        ensures err { OnErr result (IsUndone S.state self.old.groups.items self.old.workers.items self.new.groups.items self.new.workers.items) }
+        ensures catalog { self.new.catalog ≡ self.old.catalog }
+    {
+        self.begin(alloc, opened)?;
+        let shards = shards_of(opened);
+        if let Err(refused) = add_shards(
+            alloc,
+            &mut self.workers,
+            &mut self.groups,
+            shards,
+            shape,
+        ) {
+            self.forget(opened);
+            return Err(refused);
+        }
+        Ok(())
+    }
+
+    /// Takes out a table's shards, and the groups that were opened for them.
+    fn undo(&mut self, opened: &Opened)
+        requires open { (shape : Shape) × (old : List (GroupState S)) × (full : List (Worker S)) × IsOpen S.state opened.now shape old full self.old.groups.items self.old.workers.items }
+        ensures undone { (shape : Shape) (old : List (GroupState S)) (full : List (Worker S)) → IsOpen S.state opened.now shape old full self.old.groups.items self.old.workers.items → IsUndone S.state old full self.new.groups.items self.new.workers.items }
+        ensures catalog { self.new.catalog ≡ self.old.catalog }
+    {
+        let shards = shards_of(opened);
+        drop_shards(&mut self.workers, &mut self.groups, shards, opened.count);
+        self.forget(opened);
+    }
+
+    /// What a distribution opens, if neither the catalogue nor the room of the workers refuses it.
+    ///
+    /// Errors: those of the catalogue; else the lowest node that has too few spare stores.
+    fn plan(
+        &self,
+        table: &Text,
+        column: &Text,
+        count: Option<u32>,
+        with: &With,
+        default: u32,
+    ) -> Result<Opened, Fault>
+        requires sound { IsSound S.state self.now }
+        ensures ok { IfOk result (IsPlanned self.now.catalog self.now.workers.items table.now column.now count with.now default) }
+        ensures err { (entry : List (Worker S)) → AreWorkers S.state entry self.now.groups.items self.now.workers.items → IfErr result (λ f. (f ≡ Fault.Memory) ⊎ (distribution_fault self.now.catalog default (whole_at entry) table.now column.now count with.now ≡ Some f)) }
+    {
+        let opened = match self.catalog.preview(table, column, count, with, default) {
+            Ok(opened) => opened,
+            Err(refused) => return Err(Fault::from(refused)),
+        };
+        if let Err(short) = check_room(&self.workers, opened.count) {
+            return Err(short);
+        }
+        Ok(opened)
+    }
+
+    /// Opens what was planned for a table of the catalogue.
+    ///
+    /// Errors: want of memory. The groups and the workers' stores are as they were, but for the order of the spare ones.
+    fn add(&mut self, alloc: Global, opened: &Opened) -> Result<(), NoMemory>
+        requires ready { IsReady S.state self.old opened.now }
+        ensures ok { OnOk result (IsOpen S.state opened.now (shape_in self.old.catalog opened.now.table) self.old.groups.items self.old.workers.items self.new.groups.items self.new.workers.items) }
+        ensures err { OnErr result (IsUndone S.state self.old.groups.items self.old.workers.items self.new.groups.items self.new.workers.items) }
+        ensures catalog { self.new.catalog ≡ self.old.catalog }
+    {
+        let Ok(shape) = self.catalog.shape(opened.table) else {
+            return Err(NoMemory);
+        };
+        self.open(alloc, opened, &shape)
+    }
+
+    /// Makes a local table a distributed table (Citus, `create_distributed_table`), with its shards on spare stores of the workers: `count` and
+    /// `with` are its options `shard_count` and `colocate_with`, and `default` is the setting `citus.shard_count`.
+    ///
+    /// Errors: those of the catalogue; else the lowest node that has too few spare stores; want of memory. The catalogue and the groups are as they
+    /// were, and so are the workers' stores but for the order of the spare ones.
+    pub fn distribute(
+        &mut self,
+        alloc: Global,
+        table: &Text,
+        column: &Text,
+        count: Option<u32>,
+        with: &With,
+        default: u32,
+    ) -> Result<(), Fault>
+        requires sound { IsSound S.state self.old }
+        ensures sound { IsSound S.state self.new }
+        ensures catalog { OnOk result (self.new.catalog ≡ distributed_by self.old.catalog (decision_of self.old.catalog table.now column.now count with.now default)) }
+        ensures opened { OnOk result (histories self.new ≡ histories self.old ++ replicate (opened_groups (decision_of self.old.catalog table.now column.now count with.now default).target) []) }
+        ensures allowed { (entry : List (Worker S)) → AreWorkers S.state entry self.old.groups.items self.old.workers.items → OnOk result (distribution_fault self.old.catalog default (whole_at entry) table.now column.now count with.now ≡ None) }
+        ensures cause { (entry : List (Worker S)) → AreWorkers S.state entry self.old.groups.items self.old.workers.items → IfErr result (λ f. (f ≡ Fault.Memory) ⊎ (distribution_fault self.old.catalog default (whole_at entry) table.now column.now count with.now ≡ Some f)) }
+        ensures unchanged { OnErr result (self.new.catalog ≡ self.old.catalog) }
+        ensures same { OnErr result (histories self.new ≡ histories self.old) }
+        ensures stores { KeepsStores S.state self.old self.new }
+    {
+        let opened = match self.plan(table, column, count, with, default) {
+            Ok(opened) => opened,
+            Err(refused) => return Err(refused),
+        };
+        let Ok(()) = self.add(alloc, &opened) else {
+            return Err(Fault::Memory);
+        };
+        if let Err(refused) = self.catalog.distribute(table, column, count, with, default) {
+            self.undo(&opened);
+            return Err(Fault::from(refused));
+        }
+        Ok(())
+    }
+}

@@ -1,5 +1,0 @@
-pub mod Finding
-pub mod Forms
-pub mod Layers
-pub mod Reading
-pub mod Meanings

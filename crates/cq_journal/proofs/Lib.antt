@@ -1,0 +1,5 @@
+pub mod Lists
+pub mod Replays
+pub mod Replies
+pub mod Ids
+pub mod Fitting

@@ -1,0 +1,4 @@
+pub mod Journals
+pub mod Replies
+pub mod Fitting
+pub mod Laws

@@ -1,0 +1,5 @@
+pub mod Lists
+pub mod Own
+pub mod Points
+pub mod Said
+pub mod Routes

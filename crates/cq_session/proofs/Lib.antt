@@ -1,0 +1,2 @@
+pub mod Computable
+pub mod ReadingLaws

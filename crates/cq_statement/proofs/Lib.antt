@@ -1,0 +1,3 @@
+pub mod LexingLaws
+pub mod MeaningLaws
+pub mod ParsingLaws

@@ -1,0 +1,80 @@
+ghost use Rattle.std.specs.Prelude.{◌≡◌, List, length, Ok, Err, IfOk, IfErr};
+ghost use Rattle.cq_token.specs.Tokens as lexed;
+ghost use Rattle.cq_catalog.specs.declared.info.TableInfo.{TableInfo};
+ghost use Rattle.cq_grammar.specs.Verdicts.{verdict};
+ghost use Rattle.cq_reading.specs.Statements as statements;
+ghost use Rattle.cq_statement.specs.Finding.{Reads};
+ghost use Rattle.cq_statement.specs.Meanings.{Means};
+ghost use Rattle.cq_statement.specs.Reading.{fault_of_parsing as parsing_fault, of_reading, reading_of};
+
+use cq_answer::{Fault, What};
+use cq_bind::bind;
+use cq_catalog::Catalog;
+use cq_grammar::Ast;
+use cq_parse::{ParseError, parse};
+use cq_token::{Tokens, tokens};
+use cq_tree::Statement;
+use std::alloc::Global;
+
+/// The fault of tokens that the parser refuses.
+fn fault_of_parsing(error: ParseError) -> Fault
+    ensures { result ≡ parsing_fault error }
+{
+    match error {
+        ParseError::Syntax { at } => Fault::Syntax { at },
+        ParseError::Limit { what, number } => Fault::Limit {
+            what: What::from(what),
+            number,
+        },
+        ParseError::Memory => Fault::Memory,
+    }
+}
+
+/// The tokens of a text, or the text's fault.
+fn lex(alloc: Global, text: &[u8]) -> Result<Tokens, Fault>
+    ensures ok { IfOk result (λ found. lexed.tokens text.now ≡ Ok found) }
+    ensures err { IfErr result (λ f. (tables : List TableInfo) → Reads (reading_of text.now tables) (Err f)) }
+{
+    match tokens(alloc, text) {
+        Ok(found) => Ok(found),
+        Err(error) => Err(Fault::from(error)),
+    }
+}
+
+/// The tree of a text's tokens, or the text's fault.
+fn parse_all(alloc: Global, tokens: &Tokens, text: &[u8]) -> Result<Ast, Fault>
+    ensures ok { IfOk result (λ tree. verdict tokens.now (length text.now) ≡ Ok tree) }
+    ensures err { IfErr result (λ f. (tables : List TableInfo) → lexed.tokens text.now ≡ Ok tokens.now → Reads (reading_of text.now tables) (Err f)) }
+{
+    match parse(alloc, tokens, text) {
+        Ok(tree) => Ok(tree),
+        Err(error) => Err(fault_of_parsing(error)),
+    }
+}
+
+/// The bound statement that a tree stands for, or its fault.
+fn bind_all(alloc: Global, tree: &Ast, catalog: &Catalog) -> Result<Statement, Fault>
+    ensures { Reads (of_reading (statements.reading catalog.now.tables tree.now)) result }
+{
+    match bind(alloc, tree, catalog) {
+        Ok(statement) => Ok(statement),
+        Err(refusal) => Err(Fault::from(refusal)),
+    }
+}
+
+/// The bound statement that a text stands for over the tables of a catalogue. Each place counts bytes from the text's start.
+///
+/// Errors: the fault of the text's tokens (`OpenQuote`, `BadCharacter`, `NumberTooLarge`); else that they spell no statement of the
+/// grammar (`Syntax`), or are nested too deep (`Limit` of the depth); else the first refusal of the walk over its tree (5, 6, 7, 10, 12 to
+/// 19, 28 and 33 of `Fault`); and want of memory.
+#[tactic(auto, using(crate::proofs::MeaningLaws::reading_means))]
+pub fn read_statement(alloc: Global, text: &[u8], catalog: &Catalog) -> Result<Statement, Fault>
+    // The answer is the definition's, unless memory fails.
+    ensures reading { Reads (reading_of text.now catalog.now.tables) result }
+    // What the definition says is so of the text by the grammar alone.
+    ensures means { Means text.now catalog.now.tables (reading_of text.now catalog.now.tables) }
+{
+    let tokens = lex(alloc, text)?;
+    let tree = parse_all(alloc, &tokens, text)?;
+    bind_all(alloc, &tree, catalog)
+}

@@ -1,0 +1,4 @@
+pub mod Typing
+pub mod Queries
+pub mod Reach
+pub mod Laws

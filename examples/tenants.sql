@@ -1,0 +1,50 @@
+-- A platform for shops. Each store is a tenant: its rows lie together, in one shard group.
+SET citus.shard_count TO 4;
+CREATE TABLE stores (id bigint PRIMARY KEY, name text, city text);
+SELECT create_distributed_table('stores', 'id');
+
+-- The orders of a store lie where the store lies.
+CREATE TABLE orders (store bigint, id bigint, customer text, amount integer, PRIMARY KEY (store, id));
+SELECT create_distributed_table('orders', 'store', colocate_with => 'stores');
+
+-- Visits go by the name of a host, into shards of their own.
+SET citus.shard_count TO 2;
+CREATE TABLE visits (host text, page text, hits integer, PRIMARY KEY (host, page));
+SELECT create_distributed_table('visits', 'host', colocate_with => 'stores'); -- a text beside a bigint
+SELECT create_distributed_table('visits', 'host');
+
+-- Stores 1 and 6 share a shard. Store 2 has no city.
+INSERT INTO stores VALUES (1, 'Anchor', 'Bremen');
+INSERT INTO stores (id, name) VALUES (2, 'Buoy');
+INSERT INTO stores VALUES (3, 'C|D Books', 'Kiel');
+INSERT INTO stores VALUES (6, 'Dune', 'Emden');
+
+-- A guest has no name, and an open order no amount.
+INSERT INTO orders VALUES (1, 1, 'ada', 40);
+INSERT INTO orders VALUES (1, 2, 'bob', 15);
+INSERT INTO orders VALUES (1, 3, 'ada', 25);
+INSERT INTO orders VALUES (1, 4, NULL, 7);
+INSERT INTO orders VALUES (3, 1, 'eve', 90);
+INSERT INTO orders VALUES (3, 2, 'eve', NULL);
+INSERT INTO orders VALUES (6, 1, 'ada', 12);
+INSERT INTO orders VALUES (1, 2, 'eve', 99); -- store 1 has an order 2
+
+INSERT INTO visits VALUES ('anchor.example', '/', 120);
+INSERT INTO visits VALUES ('anchor.example', '/sale', 30);
+INSERT INTO visits VALUES ('dune.example', '/', 8);
+
+-- Each query names its tenant, and so its shard.
+SELECT * FROM stores WHERE id = 2;
+SELECT name, city FROM stores WHERE id = 3;
+SELECT id, customer, amount FROM orders WHERE store = 1 ORDER BY customer DESC, amount DESC LIMIT 3;
+SELECT customer, count(*) AS placed, sum(amount) AS total FROM orders WHERE store = 1
+    GROUP BY customer HAVING sum(amount) >= 10 ORDER BY total DESC;
+SELECT DISTINCT COALESCE(customer, 'guest') AS buyer FROM orders WHERE store = 1 AND amount < 40 ORDER BY buyer;
+SELECT id, CASE WHEN amount IS NULL THEN 'open' WHEN amount < 50 THEN 'small' ELSE 'large' END AS size FROM orders
+    WHERE store = 3 ORDER BY id;
+SELECT count(*), count(amount), sum(amount), max(amount) FROM orders WHERE store = 3;
+SELECT count(*), sum(amount) FROM orders WHERE store = 2;
+SELECT page, hits FROM visits WHERE host = 'anchor.example' ORDER BY hits DESC LIMIT 1;
+
+-- This one names none. Queries over several shards don't run yet.
+SELECT count(*) FROM orders;
