@@ -85,11 +85,11 @@ module _ {X : Type 0} (state : X → StoreState) (cl : Cluster X) (table group :
   same_set h same = map-set_same (λ (h : GroupState X). entries_of h) cl.groups.items group h g (same ∙ ap (λ (v : GroupState X). entries_of v) is)
 
   -- the rows that were read of the table
-  pub picked_over : (at : ℕ) (v : Value) (rows : List Row) (es : List Entry) → rows ≡ rows_with at v (rows_of (replay table (shapes g table) (entries_of g))) → slice_get (histories cl) group ≡ Some es →
-      rows ≡ rows_with at v (rows_of (replay table (shape_in cl.catalog table) es))
-  picked_over at v rows es a h =
-      a ∙ ap (λ (shape : Shape). rows_with at v (rows_of (replay table shape (entries_of g)))) shape_is
-      ∙ ap (λ (w : List Entry). rows_with at v (rows_of (replay table (shape_in cl.catalog table) w))) (its_entries es h)
+  pub picked_over : (wanted : List (ℕ × Value)) (rows : List Row) (es : List Entry) → rows ≡ rows_with wanted (rows_of (replay table (shapes g table) (entries_of g))) → slice_get (histories cl) group ≡ Some es →
+      rows ≡ rows_with wanted (rows_of (replay table (shape_in cl.catalog table) es))
+  picked_over wanted rows es a h =
+      a ∙ ap (λ (shape : Shape). rows_with wanted (rows_of (replay table shape (entries_of g)))) shape_is
+      ∙ ap (λ (w : List Entry). rows_with wanted (rows_of (replay table (shape_in cl.catalog table) w))) (its_entries es h)
 
   -- a write's reply, and its next id
   pub reply_at : (op : ShardOp) (reply : Reply) (es : List Entry) → table_of op ≡ table → reply_over g op ≡ reply → slice_get (histories cl) group ≡ Some es →

@@ -2,6 +2,7 @@
 use Rattle.std.proofs.Common.{◌≡◌, ℕ, ◌<◌, Bool, true, false, List, [], ◌∷◌, length, refl, sym, ap, ◌∙◌, subst, arith, Some, None, Option, slice_get}
 use Rattle.std.specs.Prelude.{◌&&◌, if◌then◌else◌}
 use Rattle.cq_value.specs.Tables.{rows_of}
+use Rattle.cq_value.specs.declared.value.Value.{Value}
 use Rattle.cq_tree.specs.declared.journal.Who.{Who}
 use Rattle.cq_tree.specs.declared.journal.Entry.{Entry}
 use Rattle.cq_tree.specs.declared.journal.EntryKind.TheVariants.{Read}
@@ -11,7 +12,7 @@ use Rattle.cq_tree.specs.declared.query.FromTree as tree
 use Rattle.cq_tree.specs.declared.query.Query.{Query, out-Query}
 use Rattle.cq_tree.specs.declared.statement.Statement.{Statement}
 use Rattle.cq_tree.specs.declared.statement.Statement.TheVariants as statement
-use Rattle.cq_meaning.specs.Values.{Row, Tables, column, same_value}
+use Rattle.cq_meaning.specs.Values.{Row, Tables}
 use Rattle.cq_meaning.specs.Queries.{AnswersWith}
 use Rattle.cq_meaning.specs.Limits.{is_large}
 use Rattle.cq_meaning.specs.Safety.{IsSafeQuery}
@@ -26,11 +27,11 @@ use Rattle.cq_history.specs.Environment.{Environment, shape_in}
 use Rattle.cq_history.specs.Places.{EachJournal}
 use Rattle.cq_history.specs.Legality.{IsLegal}
 use Rattle.cq_history.specs.Routing.{point_of, refusal_of, none_in, group_in_from}
-use Rattle.cq_history.specs.ValueSets.{rows_with}
+use Rattle.cq_history.specs.ValueSets.{demands, has_all, rows_with}
 use Rattle.cq_history.specs.Between.{Responds, Grows, table_of_query, table_in}
 use Rattle.cq_history.proofs.Lists.{all_filtered}
 use Rattle.cq_history.proofs.QueryLaws.{KeepAlike, answers_alike, large_in_both}
-use Rattle.cq_history.proofs.Keys.{alike_of_key}
+use Rattle.cq_history.proofs.Keys.{alike_of_demands}
 use Rattle.cq_history.proofs.Within.{legal_within}
 use Rattle.cq_history.proofs.Responses.{responds_select, responds_large, responds_read_memory}
 use Rattle.cq_store.specs.Stores.{StoreState}
@@ -82,34 +83,37 @@ reads_table c q group h =
     }
 
 -- the rows that were read, under the table of the query
-module _ (c : Contents) (q : Query) (p : Point) (at : IsPoint c q p) (old : List (List Entry)) (db : Tables) (rows : List Row) (is : db ≡ (p.table, rows) ∷ []) (picked : ArePicked c old p rows) where
+module _ (c : Contents) (q : Query) (p : Point) (at : IsPoint c q p) (old : List (List Entry)) (wanted : List (ℕ × Value)) (asked : wanted ≡ demands (out-Query q).filter) (db : Tables) (rows : List Row) (is : db ≡ (p.table, rows) ∷ [])
+    (picked : ArePicked c old p wanted rows) where
   abbrev pub all_rows : List Entry → List Row
   all_rows es = rows_of (replay (table_of_query q) (shape_in c (table_of_query q)) es)
 
-  pub picked_as : (es : List Entry) → slice_get old p.group ≡ Some es → db ≡ (table_of_query q, rows_with p.column p.value.now (all_rows es)) ∷ []
+  pub picked_as : (es : List Entry) → slice_get old p.group ≡ Some es → db ≡ (table_of_query q, rows_with wanted (all_rows es)) ∷ []
   picked_as es there =
-      subst (λ (t : ℕ). db ≡ (t, rows_with p.column p.value.now (rows_of (replay t (shape_in c t) es))) ∷ []) at.table
+      subst (λ (t : ℕ). db ≡ (t, rows_with wanted (rows_of (replay t (shape_in c t) es))) ∷ []) at.table
       (is ∙ ap (λ (v : List Row). (p.table, v) ∷ []) (picked es there))
 
   -- WHERE keeps the same of them as of all rows of the table
-  pub alike_all : (es : List Entry) → KeepAlike q ((table_of_query q, rows_with p.column p.value.now (all_rows es)) ∷ []) ((table_of_query q, all_rows es) ∷ [])
-  alike_all es = let t = reads_table c q p.group at.only in alike_of_key q t.n p.column p.value.now (all_rows es) t.from at.key
+  pub alike_all : (es : List Entry) → KeepAlike q ((table_of_query q, rows_with wanted (all_rows es)) ∷ []) ((table_of_query q, all_rows es) ∷ [])
+  alike_all es =
+      let t = reads_table c q p.group at.only in
+      subst (λ (w : List (ℕ × Value)). KeepAlike q ((table_of_query q, rows_with w (all_rows es)) ∷ []) ((table_of_query q, all_rows es) ∷ [])) (sym asked) (alike_of_demands q t.n (all_rows es) t.from)
 
   -- the engine can compute it over them
   safe_over : (es : List Entry) → IsComputable c (statement.Select q) → EachJournal (IsLegal c) old → slice_get old p.group ≡ Some es → IsSafeQuery q db []
   safe_over es can legal there =
       let t = reads_table c q p.group at.only in
       subst (λ (d : Tables). IsSafeQuery q d []) (sym (picked_as es there))
-      (can (table_of_query q) t.n (rows_with p.column p.value.now (all_rows es)) t.ctes t.subs t.from
-      (all_filtered (Within (column_bits c (table_of_query q))) (λ (row : Row). same_value (column row p.column) p.value.now) (all_rows es) (legal_within c p.group (table_of_query q) es (legal p.group es there))))
+      (can (table_of_query q) t.n (rows_with wanted (all_rows es)) t.ctes t.subs t.from
+      (all_filtered (Within (column_bits c (table_of_query q))) (has_all wanted) (all_rows es) (legal_within c p.group (table_of_query q) es (legal p.group es there))))
 
-pub can_compute : {X : Type 0} (state : X → StoreState) (cl : Cluster X) (q : Query) (p : Point) (db : Tables) (rows : List Row) → IsSound state cl → IsPoint cl.catalog q p → IsComputable cl.catalog (statement.Select q) →
-    EachJournal (IsLegal cl.catalog) (histories cl) → db ≡ (p.table, rows) ∷ [] → ArePicked cl.catalog (histories cl) p rows → IsSafeQuery q db []
-can_compute {X} state cl q p db rows s at can legal is picked =
+pub can_compute : {X : Type 0} (state : X → StoreState) (cl : Cluster X) (q : Query) (p : Point) (wanted : List (ℕ × Value)) → wanted ≡ demands (out-Query q).filter → (db : Tables) (rows : List Row) → IsSound state cl → IsPoint cl.catalog q p → IsComputable cl.catalog (statement.Select q) →
+    EachJournal (IsLegal cl.catalog) (histories cl) → db ≡ (p.table, rows) ∷ [] → ArePicked cl.catalog (histories cl) p wanted rows → IsSafeQuery q db []
+can_compute {X} state cl q p wanted asked db rows s at can legal is picked =
     let below : p.group < length cl.groups.items = is_there state cl (table_of_query q) p.group s at.own in
     let same : length (histories cl) ≡ length cl.groups.items = length_map (λ (g : GroupState X). entries_of g) cl.groups.items in
     let es = item_at (histories cl) p.group (omega (arith, below, same)) in
-    safe_over cl.catalog q p at (histories cl) db rows is picked es.0 can legal es.1
+    safe_over cl.catalog q p at (histories cl) wanted asked db rows is picked es.0 can legal es.1
 
 -- ---- its answer
 
@@ -119,17 +123,17 @@ module _ (stores : ℕ → ℕ) (e : Environment) (who : Who) (old new : List (L
   pub read_memory : Responds stores e e who old new (Some (statement.Select q)) (answer.Failed fault.Memory)
   read_memory = responds_read_memory stores e who old new q p.group r at.only at.own.2 g
 
-  pub selected : (db : Tables) (rows : List Row) → db ≡ (p.table, rows) ∷ [] → ArePicked e.catalog old p rows → (names : List (List ℕ)) → names ≡ (out-Query q).names → (a : Answer) → Computes q db names a →
+  pub selected : (wanted : List (ℕ × Value)) → wanted ≡ demands (out-Query q).filter → (db : Tables) (rows : List Row) → db ≡ (p.table, rows) ∷ [] → ArePicked e.catalog old p wanted rows → (names : List (List ℕ)) → names ≡ (out-Query q).names → (a : Answer) → Computes q db names a →
       Responds stores e e who old new (Some (statement.Select q)) a
-  selected db rows is picked names named (answer.Table ns found) h =
+  selected wanted asked db rows is picked names named (answer.Table ns found) h =
       responds_select stores e who old new q p.group ns found r at.only at.own.2 g (h.0 ∙ named)
-      (λ es s. answers_alike q _ _ found (alike_all e.catalog q p at old db rows is picked es) (subst (λ (d : Tables). AnswersWith q d [] found) (picked_as e.catalog q p at old db rows is picked es s) h.1))
-  selected db rows is picked names named (answer.Failed (fault.Limit what.Rows n)) h =
+      (λ es s. answers_alike q _ _ found (alike_all e.catalog q p at old wanted asked db rows is picked es) (subst (λ (d : Tables). AnswersWith q d [] found) (picked_as e.catalog q p at old wanted asked db rows is picked es s) h.1))
+  selected wanted asked db rows is picked names named (answer.Failed (fault.Limit what.Rows n)) h =
       subst (λ m. Responds stores e e who old new (Some (statement.Select q)) (answer.Failed (fault.Limit what.Rows m))) (sym h.0)
       (responds_large stores e who old new q p.group r at.only at.own.2 g
-      (λ es s. sym (large_in_both q _ _ (alike_all e.catalog q p at old db rows is picked es)) ∙ subst (λ (d : Tables). is_large q d [] ≡ true) (picked_as e.catalog q p at old db rows is picked es s) h.1))
-  selected db rows is picked names named (answer.Failed fault.Memory) h = read_memory
-  selected db rows is picked names named a h = absurd h
+      (λ es s. sym (large_in_both q _ _ (alike_all e.catalog q p at old wanted asked db rows is picked es)) ∙ subst (λ (d : Tables). is_large q d [] ≡ true) (picked_as e.catalog q p at old wanted asked db rows is picked es s) h.1))
+  selected wanted asked db rows is picked names named (answer.Failed fault.Memory) h = read_memory
+  selected wanted asked db rows is picked names named a h = absurd h
 
 -- the catalogue and the settings, or what is equal to them
 pub responds_at : (stores : ℕ → ℕ) (e next : Environment) (who : Who) (old new : List (List Entry)) (bound : Option Statement) (a : Answer) → next ≡ e → Responds stores e e who old new bound a → Responds stores e next who old new bound a

@@ -13,6 +13,7 @@ use Rattle.cq_tree.specs.declared.write.Reply.TheVariants.{Count, Duplicate, Out
 use Rattle.cq_tree.specs.declared.write.ShardOp.{ShardOp}
 use Rattle.cq_tree.specs.declared.write.ShardOp.TheVariants.{Insert}
 use Rattle.cq_value.specs.Tables.{rows_of}
+use Rattle.cq_value.specs.declared.value.Value.{Value}
 use Rattle.cq_meaning.specs.Values.{Row, Tables}
 use Rattle.cq_meaning.specs.Queries.{AnswersWith}
 use Rattle.cq_meaning.specs.Limits.{is_large}
@@ -74,9 +75,9 @@ IsReading (Reads p) = ⊤
 IsReading (Group group) = ⊥
 IsReading Catalog = ⊥
 
--- the rows that a point has in its shard group
-abbrev pub ArePicked : Contents → List (List Entry) → Point → List Row → Type 0
-ArePicked c old p rows = (es : List Entry) → slice_get old p.group ≡ Some es → rows ≡ rows_with p.column p.value.now (rows_of (replay p.table (shape_in c p.table) es))
+-- the rows with these values that a point has in its shard group
+abbrev pub ArePicked : Contents → List (List Entry) → Point → List (ℕ × Value) → List Row → Type 0
+ArePicked c old p wanted rows = (es : List Entry) → slice_get old p.group ≡ Some es → rows ≡ rows_with wanted (rows_of (replay p.table (shape_in c p.table) es))
 
 -- the reply of a write over what the group holds
 abbrev pub reply_over : {X : Type 0} → GroupState X → ShardOp → Reply

@@ -15,20 +15,20 @@ use cq_tree::{Statement, Who};
 use std::alloc::Global;
 
 /// The shard group that a way leads to.
-fn group_in(route: &Route<'_>) -> u32
-    requires { IsGroup route.now }
-    ensures { route.now ≡ Route.Group result }
+fn group_in(route: Route) -> u32
+    requires { IsGroup route }
+    ensures { route ≡ Route.Group result }
 {
     match route {
-        Route::Group(group) => *group,
+        Route::Group(group) => group,
         Route::Catalog | Route::Reads(_) => unreachable!(),
     }
 }
 
 /// The point that a way leads to.
-fn point_in<'a, 'b>(route: &'b Route<'a>) -> &'b Point<'a>
-    requires { IsReading route.now }
-    ensures { route.now ≡ Route.Reads result.now }
+fn point_in(route: Route) -> Point
+    requires { IsReading route }
+    ensures { route ≡ Route.Reads result }
 {
     match route {
         Route::Reads(point) => point,
@@ -43,11 +43,11 @@ impl<S: Store> Coordinator<S> {
         alloc: Global,
         who: Who,
         statement: &Statement,
-        route: &Route<'_>,
+        route: Route,
     ) -> Answer
         requires sound { IsSound S.state self.old.cluster }
         requires legal { EachJournal (IsLegal self.old.cluster.catalog) (journals self.old) }
-        requires route { IsRoute self.old.cluster.catalog statement.now (Ok route.now) }
+        requires route { IsRoute self.old.cluster.catalog statement.now (Ok route) }
         requires computable { IsComputable self.old.cluster.catalog statement.now }
         ensures responds { (entry : List (Worker S)) → AreWorkers S.state entry self.old.cluster.groups.items self.old.cluster.workers.items → Responds (whole_at entry) (environment self.old) (environment self.new) who (journals self.old) (journals self.new) (Some statement.now) result }
         ensures sound { IsSound S.state self.new.cluster }
@@ -88,7 +88,7 @@ impl<S: Store> Coordinator<S> {
         ensures stores { KeepsStores S.state self.old.cluster self.new.cluster }
     {
         match route_of(&self.cluster.catalog, statement) {
-            Ok(route) => self.follow(alloc, who, statement, &route),
+            Ok(route) => self.follow(alloc, who, statement, route),
             Err(fault) => Answer::Failed(fault),
         }
     }

@@ -14,30 +14,31 @@ use crate::outcome::WriteError;
 use cq_cluster::Cluster;
 use cq_group::{GroupState, Staged};
 use cq_routing::Point;
-use cq_store::Store;
+use cq_store::{ColumnValues, Store};
 use cq_tree::{Reply, ShardOp, Who};
 use cq_value::{NoMemory, Rows};
 use std::alloc::Global;
 
-/// The rows that a point has in its shard group, of which the group's journal has a Read then.
+/// The rows with each of these values that a point has in its shard group, of which the group's journal has a Read then.
 ///
 /// Errors: want of memory; nothing is entered.
 pub fn read_in<S: Store>(
     cluster: &mut Cluster<S>,
-    point: &Point<'_>,
+    point: Point,
+    wanted: &ColumnValues,
     who: Who,
 ) -> Result<Rows, NoMemory>
     requires sound { IsSound S.state cluster.old }
-    requires own { IsOwn cluster.old.catalog point.now.table point.now.group }
-    ensures rows { IfOk result (ArePicked cluster.old.catalog (histories cluster.old) point.now) }
-    ensures entry { OnOk result (Grows (histories cluster.old) (histories cluster.new) point.now.group (record { who = who; kind = entry_kind.Read })) }
+    requires own { IsOwn cluster.old.catalog point.table point.group }
+    ensures rows { IfOk result (ArePicked cluster.old.catalog (histories cluster.old) point wanted.now) }
+    ensures entry { OnOk result (Grows (histories cluster.old) (histories cluster.new) point.group (record { who = who; kind = entry_kind.Read })) }
     ensures err { OnErr result (histories cluster.new ≡ histories cluster.old) }
     ensures sound { IsSound S.state cluster.new }
     ensures stores { KeepsStores S.state cluster.old cluster.new }
     ensures catalog { cluster.new.catalog ≡ cluster.old.catalog }
 {
     let shard_group = &mut cluster.groups[point.group as usize];
-    match shard_group.pick(who, 0, point.table, point.column, point.value) {
+    match shard_group.pick(who, 0, point.table, wanted) {
         Ok(rows) => Ok(rows),
         Err(_) => Err(NoMemory),
     }

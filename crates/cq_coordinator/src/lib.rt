@@ -9,8 +9,10 @@ mod inserts;
 mod notice;
 mod outcome;
 mod queries;
+mod wanted;
 
 pub use coordinator::Coordinator;
 pub use groups::{insert_in, read_in};
 pub use notice::{Notice, distributed_notice};
 pub use outcome::WriteError;
+pub use wanted::wanted_by;

@@ -11,6 +11,7 @@ ghost use Rattle.cq_coordinator.specs.Coordination.{environment, journals, IsCom
 
 use crate::coordinator::Coordinator;
 use crate::groups::read_in;
+use crate::wanted::wanted_by;
 use cq_answer::{Answer, Fault, What};
 use cq_group::Tables;
 use cq_queries::run_query;
@@ -50,11 +51,11 @@ fn compute(alloc: Global, query: &Query, names: Names, tables: &Tables) -> Answe
 
 impl<S: Store> Coordinator<S> {
     /// The answer of a query that reads this point alone.
-    pub fn select(&mut self, alloc: Global, who: Who, query: &Query, point: &Point<'_>) -> Answer
+    pub fn select(&mut self, alloc: Global, who: Who, query: &Query, point: Point) -> Answer
         requires sound { IsSound S.state self.old.cluster }
         requires legal { EachJournal (IsLegal self.old.cluster.catalog) (journals self.old) }
         requires runs { refusal_of self.old.cluster.catalog (statement.Select query.now) ≡ None }
-        requires point { IsPoint self.old.cluster.catalog query.now point.now }
+        requires point { IsPoint self.old.cluster.catalog query.now point }
         requires computable { IsComputable self.old.cluster.catalog (statement.Select query.now) }
         ensures responds { (stores : ℕ → ℕ) → Responds stores (environment self.old) (environment self.new) who (journals self.old) (journals self.new) (Some (statement.Select query.now)) result }
         ensures sound { IsSound S.state self.new.cluster }
@@ -63,7 +64,10 @@ impl<S: Store> Coordinator<S> {
         let Ok(names) = query.names.copy(alloc) else {
             return Answer::Failed(Fault::Memory);
         };
-        let Ok(rows) = read_in(&mut self.cluster, point, who) else {
+        let Ok(wanted) = wanted_by(alloc, &query.filter) else {
+            return Answer::Failed(Fault::Memory);
+        };
+        let Ok(rows) = read_in(&mut self.cluster, point, &wanted, who) else {
             return Answer::Failed(Fault::Memory);
         };
         let Ok(tables) = one_table(alloc, point.table, rows) else {

@@ -2,15 +2,15 @@ ghost use Rattle.std.specs.Prelude.{◌≡◌, ◌+◌, ◌<◌, ◌≤◌, [], 
 ghost use Rattle.std.specs.List.{AllByRecursion};
 ghost use Rattle.cq_value.specs.Tables.{rows_of};
 ghost use Rattle.cq_journal.specs.Journals.{replay};
-ghost use Rattle.cq_store.specs.Stores.{has_value};
+ghost use Rattle.cq_store.specs.Stores.{has_values};
 ghost use Rattle.cq_group.specs.Groups.{IsKept, IsQuiet, IsSteady, HasTable, entries_of, stores_of, shapes, copies_of, node_at};
 ghost use Rattle.cq_group.specs.Calls.{Rests, Lifted, Blames, IsOn, IsSameBut, GroupGoesOn, node_read, captured};
 
 use crate::group::{Capture, GroupError, GroupState, Tables};
 use crate::place::place_of;
-use cq_store::Store;
+use cq_store::{ColumnValues, Store};
 use cq_tree::{Entry, EntryKind, Who};
-use cq_value::{NoMemory, Positions, Rows, Value};
+use cq_value::{NoMemory, Positions, Rows};
 use std::alloc::Global;
 
 impl<S: Store> GroupState<S> {
@@ -29,25 +29,24 @@ impl<S: Store> GroupState<S> {
         self.tables[place].read(alloc, copy)
     }
 
-    /// The rows of one table that have this value in a column, from the store in a place of its list.
+    /// The rows of one table that have these values, from the store in a place of its list.
     fn pick_table(
         &mut self,
         table: u32,
         copy: usize,
-        column: u32,
-        value: &Value,
+        wanted: &ColumnValues,
     ) -> Result<Rows, GroupError>
         requires kept { IsKept S.state self.old }
         requires there { HasTable self.old table }
         requires copy { copy < copies_of self.old }
-        ensures rows { IfOk result (λ rows. rows ≡ filter (has_value column value.now) (rows_of (replay table (shapes self.old table) (entries_of self.old)))) }
+        ensures rows { IfOk result (λ rows. rows ≡ filter (has_values wanted.now) (rows_of (replay table (shapes self.old table) (entries_of self.old)))) }
         ensures journal { self.new.journal ≡ self.old.journal }
         ensures same { IsSameBut (Lifted S.state Rests) self.old self.new }
         ensures blame { IfErr result (λ e. Blames S.state e (stores_of self.old) (stores_of self.new)) }
         ensures here { IfErr result (IsOn (node_at self.old.node copy)) }
     {
         let place = place_of(&self.tables, table);
-        self.tables[place].pick(copy, column, value)
+        self.tables[place].pick(copy, wanted)
     }
 
     /// The named tables' rows, in order, from the stores in a place of their lists.
@@ -147,8 +146,8 @@ impl<S: Store> GroupState<S> {
         })
     }
 
-    /// The rows of a table that have this value in a column, in order, and one Read in the journal; in a reference group they
-    /// are read on the near node, which is one of its nodes. Nothing is staged before or afterwards.
+    /// The rows of a table that have each of these values, in order, and one Read in the journal; in a reference group they are
+    /// read on the near node, which is one of its nodes. Nothing is staged before or afterwards.
     ///
     /// Errors: a store of that node failed, or want of memory. The journal is then as it was.
     pub fn pick(
@@ -156,14 +155,13 @@ impl<S: Store> GroupState<S> {
         who: Who,
         near: u32,
         table: u32,
-        column: u32,
-        value: &Value,
+        wanted: &ColumnValues,
     ) -> Result<Rows, GroupError>
         requires kept { IsKept S.state self.old }
         requires quiet { IsQuiet S.state self.old }
         requires there { HasTable self.old table }
         requires near { self.old.node ≡ 0 → (0 < near) × (near ≤ self.old.nodes) }
-        ensures rows { IfOk result (λ rows. rows ≡ filter (has_value column value.now) (rows_of (replay table (shapes self.old table) (entries_of self.old)))) }
+        ensures rows { IfOk result (λ rows. rows ≡ filter (has_values wanted.now) (rows_of (replay table (shapes self.old table) (entries_of self.old)))) }
         ensures entry { OnOk result (entries_of self.new ≡ entries_of self.old ++ record { who = who; kind = EntryKind.Read } ∷ []) }
         ensures err { OnErr result (entries_of self.new ≡ entries_of self.old) }
         ensures kept { IsKept S.state self.new }
@@ -174,7 +172,7 @@ impl<S: Store> GroupState<S> {
         ensures steady { IfErr result (λ e. IsSteady S.state self.old → e ≡ GroupError.Memory) }
     {
         let copy = self.copy_near(near);
-        let rows = self.pick_table(table, copy, column, value)?;
+        let rows = self.pick_table(table, copy, wanted)?;
         self.append_read(who)?;
         Ok(rows)
     }

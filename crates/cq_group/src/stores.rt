@@ -2,12 +2,12 @@ ghost use Rattle.std.specs.Prelude.{◌≡◌, ◌<◌, [], ◌∷◌, filter, O
 ghost use Rattle.std.specs.List.{AllZip, AllByRecursion};
 ghost use Rattle.cq_value.specs.Changes.{Fit};
 ghost use Rattle.cq_value.specs.Tables.{rows_of};
-ghost use Rattle.cq_store.specs.Stores.{has_value};
+ghost use Rattle.cq_store.specs.Stores.{has_values};
 ghost use Rattle.cq_group.specs.Calls.{Rests, Discards, Commits, Releases, Stages, Lifted, Blames, Takes, error_told};
 
 use crate::group::GroupError;
-use cq_store::{Store, StoreError};
-use cq_value::{Changes, Numbered, Rows, Value};
+use cq_store::{ColumnValues, Store, StoreError};
+use cq_value::{Changes, Numbered, Rows};
 
 /// What an error of a call on a store tells, where the store had counted `before` faults ahead of the call.
 fn told<S: Store>(before: u64, store: &S, error: StoreError) -> GroupError
@@ -37,18 +37,17 @@ pub(crate) fn scan_store<S: Store>(store: &mut S) -> Result<Numbered, GroupError
     }
 }
 
-/// The rows of a store that have this value in a column.
+/// The rows of a store that have these values.
 pub(crate) fn pick_store<S: Store>(
     store: &mut S,
-    column: u32,
-    value: &Value,
+    wanted: &ColumnValues,
 ) -> Result<Rows, GroupError>
-    ensures rows { IfOk result (λ rows. rows ≡ filter (has_value column value.now) (rows_of (S.state store.old).rows)) }
+    ensures rows { IfOk result (λ rows. rows ≡ filter (has_values wanted.now) (rows_of (S.state store.old).rows)) }
     ensures same { Lifted S.state Rests store.old store.new }
     ensures blame { IfErr result (λ e. Blames S.state e (store.old ∷ []) (store.new ∷ [])) }
 {
     let before = store.faults();
-    match store.pick(column, value) {
+    match store.pick(wanted) {
         Ok(rows) => Ok(rows),
         Err(error) => Err(told(before, store, error)),
     }

@@ -5,16 +5,16 @@ ghost use Rattle.cq_meaning.specs.Effects.{reply_of, inserts, IsSafeWrite};
 ghost use Rattle.cq_journal.specs.Journals.{most_ids};
 ghost use Rattle.cq_journal.specs.Replies.{IsRefusal};
 ghost use Rattle.cq_engine.specs.WriteEffects.{IsEffect};
-ghost use Rattle.cq_store.specs.Stores.{has_value};
+ghost use Rattle.cq_store.specs.Stores.{has_values};
 ghost use Rattle.cq_group.specs.Groups.{IsStagedIn, IsTableQuiet};
 ghost use Rattle.cq_group.specs.Calls.{Rests, Discards, Commits, Stages, KeepsRows, Lifted, Blames, IsOn, Takes, IsSameTable, IsRestingTable, AreAlike, first_rows, ids_taken};
 
 use crate::group::{GroupError, GroupTable};
 use crate::stores::{commit_stores, discard_stores, pick_store, scan_store, stage_stores};
 use cq_engine::{Effect, changes_of};
-use cq_store::Store;
+use cq_store::{ColumnValues, Store};
 use cq_tree::{Reply, ShardOp};
-use cq_value::{NoMemory, Numbered, Rows, Value};
+use cq_value::{NoMemory, Numbered, Rows};
 use std::alloc::Global;
 
 /// The most row ids of one table in one shard group.
@@ -78,20 +78,19 @@ impl<S: Store> GroupTable<S> {
         }
     }
 
-    /// The rows with this value in a column that the store in a place of the list holds.
+    /// The rows with these values that the store in a place of the list holds.
     pub(crate) fn pick(
         &mut self,
         place: usize,
-        column: u32,
-        value: &Value,
+        wanted: &ColumnValues,
     ) -> Result<Rows, GroupError>
         requires { place < length self.old.stores.items }
-        ensures rows { IfOk result (λ rows. HoldsAt (λ x. rows ≡ filter (has_value column value.now) (rows_of (S.state x).rows)) self.old.stores.items place) }
+        ensures rows { IfOk result (λ rows. HoldsAt (λ x. rows ≡ filter (has_values wanted.now) (rows_of (S.state x).rows)) self.old.stores.items place) }
         ensures same { IsRestingTable (Lifted S.state Rests) self.old self.new }
         ensures blame { IfErr result (λ e. Blames S.state e self.old.stores.items self.new.stores.items) }
         ensures here { IfErr result (λ e. HoldsAt (λ x. IsOn (S.state x).node e) self.old.stores.items place) }
     {
-        pick_store(&mut self.stores[place], column, value)
+        pick_store(&mut self.stores[place], wanted)
     }
 
     /// Whether the row ids that are left are fewer than the rows of a write.

@@ -11,7 +11,7 @@ ghost use Rattle.cq_store.specs.Faults.{held};
 ghost use Rattle.cq_group.specs.Opening.{IsFresh, AreFresh};
 
 use crate::group::{GroupError, GroupState, Staged};
-use cq_store::{FaultStore, MemStore, Store};
+use cq_store::{ColumnValues, FaultStore, MemStore, Store};
 use cq_tree::{Cond, Expr, Reply, Set, Sets, ShardOp, Who};
 use cq_value::{Kind, Kinds, NoMemory, Positions, Row, Rows, Shape, Value};
 use std::alloc::Global;
@@ -330,6 +330,13 @@ fn take_out<S: Store>(
     Ok((seen.tables.len(), stores, staged))
 }
 
+/// A value of the key.
+fn wanted(alloc: Global, key: i128) -> Result<ColumnValues, NoMemory> {
+    let mut wanted = ColumnValues::new(alloc);
+    wanted.put((0, Value::Int(key)))?;
+    Ok(wanted)
+}
+
 /// The rows with a key that a pick sees, and how many entries there are then, where the table has the rows of the keys 5
 /// and 6.
 fn pick_by_key<S: Store>(
@@ -347,7 +354,10 @@ fn pick_by_key<S: Store>(
         return Err(GroupError::Memory);
     };
     let _ = write(alloc, &mut group, 2, op)?;
-    let rows = group.pick(who(3), 1, TABLE, 0, &Value::Int(key))?;
+    let Ok(wanted) = wanted(alloc, key) else {
+        return Err(GroupError::Memory);
+    };
+    let rows = group.pick(who(3), 1, TABLE, &wanted)?;
     Ok((rows, group.journal.entries.len()))
 }
 

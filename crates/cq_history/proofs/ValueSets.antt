@@ -18,7 +18,7 @@ use Rattle.cq_history.specs.ValueSets.{equal_to, either_values, values_in, IsOne
 use Rattle.cq_history.proofs.Lists.{all_append}
 use Rattle.cq_history.proofs.Values.{equal_is}
 
-yes_both : (a b : Truth) → is_yes (and_of a b) ≡ true → (is_yes a ≡ true) × (is_yes b ≡ true)
+pub yes_both : (a b : Truth) → is_yes (and_of a b) ≡ true → (is_yes a ≡ true) × (is_yes b ≡ true)
 yes_both Yes b h = (refl, h)
 yes_both No b h = cc
 yes_both Unknown Yes h = cc

@@ -23,13 +23,10 @@ pub enum Said<'a> {
     Other,
 }
 
-/// What a query of one shard group reads: the rows of a table with this value in its distribution column, all of which are in
-/// this group.
+/// What a query of one shard group reads: rows of a table that are all in this group.
 #[derive(Clone, Copy, Debug)]
-pub struct Point<'a> {
+pub struct Point {
     pub table: u32,
-    pub column: u32,
-    pub value: &'a Value,
     pub group: u32,
 }
 
@@ -132,7 +129,7 @@ fn value_in(at: u32, filter: &Cond) -> Option<&Value>
 
 /// What a query reads, if it reads one shard group alone: it has no CTE and no subquery, its FROM is one distributed table, and
 /// its WHERE gives the distribution column one value (Citus, "Router executor").
-pub fn point_of<'a>(catalog: &Catalog, query: &'a Query) -> Option<Point<'a>>
+pub fn point_of(catalog: &Catalog, query: &Query) -> Option<Point>
     ensures group { option_map (λ p. p.group) result ≡ point_in_catalog catalog.now query.now }
     ensures point { IfSome result (IsPoint catalog.now query.now) }
 {
@@ -148,8 +145,6 @@ pub fn point_of<'a>(catalog: &Catalog, query: &'a Query) -> Option<Point<'a>>
     let value = value_in(column, &query.filter)?;
     Some(Point {
         table: *table,
-        column,
-        value,
         group: own_group(catalog, *table, value),
     })
 }

@@ -10,17 +10,17 @@ use cq_value::Rows;
 
 /// Where a statement goes.
 #[derive(Clone, Copy, Debug)]
-pub enum Route<'a> {
+pub enum Route {
     /// To the catalogue, or to the settings.
     Catalog,
     /// To this point, to read it.
-    Reads(Point<'a>),
+    Reads(Point),
     /// To this shard group, to write there.
     Group(u32),
 }
 
 /// The way of a query.
-fn route_query<'a>(catalog: &Catalog, query: &'a Query) -> Result<Route<'a>, Fault>
+fn route_query(catalog: &Catalog, query: &Query) -> Result<Route, Fault>
     ensures { IsRoute catalog.now (Statement.Select query.now) result }
 {
     match point_of(catalog, query) {
@@ -30,7 +30,7 @@ fn route_query<'a>(catalog: &Catalog, query: &'a Query) -> Result<Route<'a>, Fau
 }
 
 /// The way of an INSERT: to the group of its row.
-fn route_insert<'a>(catalog: &Catalog, table: u32, rows: &'a Rows) -> Result<Route<'a>, Fault>
+fn route_insert(catalog: &Catalog, table: u32, rows: &Rows) -> Result<Route, Fault>
     ensures { IsRoute catalog.now (Statement.Write (ShardOp.Insert table rows.now)) result }
 {
     let Place::Distributed { column, .. } = place_of(catalog, table) else {
@@ -49,7 +49,7 @@ fn route_insert<'a>(catalog: &Catalog, table: u32, rows: &'a Rows) -> Result<Rou
 ///
 /// Errors: an INSERT with NULL or no value in the distribution column (`Unsupported`, Citus, "Modifying data"); else a statement that isn't
 /// built (`NotBuilt`). Takes no memory.
-pub fn route_of<'a>(catalog: &Catalog, statement: &'a Statement) -> Result<Route<'a>, Fault>
+pub fn route_of(catalog: &Catalog, statement: &Statement) -> Result<Route, Fault>
     ensures { IsRoute catalog.now statement.now result }
 {
     match statement {

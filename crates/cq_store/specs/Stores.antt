@@ -1,5 +1,6 @@
 -- What a store holds: the rows of one shard, on one node, and the changes staged for them.
 use Rattle.std.specs.Prelude.{◌≡◌, ◌<◌, ◌≤◌, ◌⊎◌, ℕ, Bool, true, IsTrue, List, [], slice_index_or}
+use Rattle.std.specs.List.{list_all}
 use Rattle.std.specs.Ordering.{is_eq}
 use Rattle.cq_value.specs.declared.change.Change.{Change}
 use Rattle.cq_value.specs.declared.value.Value.{Value}
@@ -36,6 +37,10 @@ pub record Becomes (old want new : StoreState) : Type 0 where
 -- whether a row has this value in a column, NULL being itself; past the row's end stands NULL
 abbrev pub has_value : ℕ → Value → List Value → Bool
 has_value column value row = is_eq (value_cmp (slice_index_or row column Null) value)
+
+-- whether a row has each of these values in its column
+abbrev pub has_values : List (ℕ × Value) → List Value → Bool
+has_values values row = list_all (λ (p : ℕ × Value). has_value p.0 p.1 row) values
 
 -- a spare store of a node that never fails
 abbrev pub steady_spare : ℕ → StoreState

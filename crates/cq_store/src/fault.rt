@@ -2,11 +2,11 @@ ghost use Rattle.std.specs.Prelude.{◌≡◌, ◌<◌, [], false, filter, OnOk,
 ghost use Rattle.cq_value.specs.Changes.{Fit};
 ghost use Rattle.cq_value.specs.Tables.{empty_table, rows_of};
 ghost use Rattle.cq_store.specs.Faults.{FaultState, held, fails_next, counted, RefusesCall};
-ghost use Rattle.cq_store.specs.Stores.{has_value};
+ghost use Rattle.cq_store.specs.Stores.{has_values};
 
 use crate::mem::MemStore;
-use crate::store::{Store, StoreError};
-use cq_value::{Changes, Numbered, Rows, Value};
+use crate::store::{ColumnValues, Store, StoreError};
+use cq_value::{Changes, Numbered, Rows};
 use std::alloc::Global;
 use std::marker::Model;
 
@@ -66,13 +66,13 @@ impl FaultStore {
 
     /// What `pick` does, with the exact calls that fail: those whose numbers are listed. Others give copies of the rows, but
     /// for want of memory.
-    pub fn counted_pick(&mut self, column: u32, value: &Value) -> Result<Rows, StoreError>
-        ensures ok { IfOk result (λ rows. (fails_next self.old ≡ false) × (rows ≡ filter (has_value column value.now) (rows_of self.old.rows)) × (self.new ≡ counted self.old)) }
+    pub fn counted_pick(&mut self, wanted: &ColumnValues) -> Result<Rows, StoreError>
+        ensures ok { IfOk result (λ rows. (fails_next self.old ≡ false) × (rows ≡ filter (has_values wanted.now) (rows_of self.old.rows)) × (self.new ≡ counted self.old)) }
         ensures err { IfErr result (λ e. RefusesCall e self.old self.new) }
     {
         self.count_call()?;
         self.inner
-            .read_matches(column, value)
+            .read_matches(wanted)
             .map_err(|_| StoreError::Memory)
     }
 
@@ -115,8 +115,8 @@ impl Store for FaultStore {
         self.counted_scan()
     }
 
-    fn pick(&mut self, column: u32, value: &Value) -> Result<Rows, StoreError> {
-        self.counted_pick(column, value)
+    fn pick(&mut self, wanted: &ColumnValues) -> Result<Rows, StoreError> {
+        self.counted_pick(wanted)
     }
 
     fn stage(&mut self, changes: &Changes) -> Result<(), StoreError> {

@@ -10,5 +10,5 @@ mod worker;
 
 pub use fault::FaultStore;
 pub use mem::MemStore;
-pub use store::{BoxedStore, Store, StoreError};
+pub use store::{BoxedStore, ColumnValues, Store, StoreError};
 pub use worker::{TakeError, Worker};

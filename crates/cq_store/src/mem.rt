@@ -1,9 +1,9 @@
 ghost use Rattle.std.specs.Prelude.{◌≡◌, [], filter, map, IfOk, OnOk, OnErr};
 ghost use Rattle.cq_value.specs.Changes.{Fit, adds_in};
 ghost use Rattle.cq_value.specs.Tables.{rows_of};
-ghost use Rattle.cq_store.specs.Stores.{has_value, steady_spare};
+ghost use Rattle.cq_store.specs.Stores.{has_value, has_values, steady_spare};
 
-use crate::store::{Store, StoreError};
+use crate::store::{ColumnValues, Store, StoreError};
 use cq_value::{
     Change, Changes, Duplicate, NoMemory, Numbered, ReservedTable, Row, Rows, Value, order,
 };
@@ -55,18 +55,26 @@ fn is_value_in(row: &Row, column: u32, value: &Value) -> bool
     }
 }
 
-/// Copies of the rows that have this value in a column, in order.
+/// Whether a row has each of these values.
+fn has_wanted(row: &Row, wanted: &[(u32, Value)]) -> bool
+    ensures { result ≡ has_values wanted.now row.now }
+{
+    wanted
+        .iter()
+        .all(|(column, value)| is_value_in(row, *column, value))
+}
+
+/// Copies of the rows that have each of these values, in order.
 fn copy_matches(
     alloc: Global,
     pairs: &[(u64, Row)],
-    column: u32,
-    value: &Value,
+    wanted: &ColumnValues,
 ) -> Result<Rows, NoMemory>
-    ensures { IfOk result (λ rows. rows ≡ filter (has_value column value.now) (map (λ p. p.1) pairs.now)) }
+    ensures { IfOk result (λ rows. rows ≡ filter (has_values wanted.now) (map (λ p. p.1) pairs.now)) }
 {
     let mut rows = Rows::new(alloc);
     for pair in pairs {
-        if is_value_in(&pair.1, column, value) {
+        if has_wanted(&pair.1, wanted.as_slice()) {
             rows.put(pair.1.copy(alloc)?)?;
         }
     }
@@ -94,11 +102,11 @@ impl MemStore {
         self.rows.copy(self.alloc)
     }
 
-    /// Copies of the rows that have this value in a column, in order, without the changes staged.
-    pub(crate) fn read_matches(&self, column: u32, value: &Value) -> Result<Rows, NoMemory>
-        ensures { IfOk result (λ rows. rows ≡ filter (has_value column value.now) (rows_of self.now.rows)) }
+    /// Copies of the rows that have each of these values, in order, without the changes staged.
+    pub(crate) fn read_matches(&self, wanted: &ColumnValues) -> Result<Rows, NoMemory>
+        ensures { IfOk result (λ rows. rows ≡ filter (has_values wanted.now) (rows_of self.now.rows)) }
     {
-        copy_matches(self.alloc, self.rows.pairs(), column, value)
+        copy_matches(self.alloc, self.rows.pairs(), wanted)
     }
 
     /// Stages a copy of changes, and makes room for the rows that they add.
@@ -140,9 +148,8 @@ impl Store for MemStore {
         self.read().map_err(|_| StoreError::Memory)
     }
 
-    fn pick(&mut self, column: u32, value: &Value) -> Result<Rows, StoreError> {
-        self.read_matches(column, value)
-            .map_err(|_| StoreError::Memory)
+    fn pick(&mut self, wanted: &ColumnValues) -> Result<Rows, StoreError> {
+        self.read_matches(wanted).map_err(|_| StoreError::Memory)
     }
 
     fn stage(&mut self, changes: &Changes) -> Result<(), StoreError> {

@@ -1,9 +1,9 @@
 ghost use Rattle.std.specs.Prelude.{◌≡◌, ◌<◌, [], filter, OnOk, OnErr, IfOk, IfErr, IsTrue};
 ghost use Rattle.cq_value.specs.Changes.{Fit, applied};
 ghost use Rattle.cq_value.specs.Tables.{empty_table, rows_of};
-ghost use Rattle.cq_store.specs.Stores.{StoreState, IsSpare, Becomes, Rose, has_value};
+ghost use Rattle.cq_store.specs.Stores.{StoreState, IsSpare, Becomes, Rose, has_values};
 
-use cq_value::{Changes, Numbered, Rows, Value};
+use cq_value::{Changes, Items, Numbered, Rows, Value};
 use thiserror::Error;
 
 /// Why a store did not answer: the call failed, or there was no memory for it.
@@ -14,6 +14,9 @@ pub enum StoreError {
     #[error("out of memory")]
     Memory,
 }
+
+/// Values that a row must have, each with the place of its column.
+pub type ColumnValues = Items<(u32, Value)>;
 
 /// The rows of one shard, on one node. A call that fails raises the count of faults, and a steady store never fails.
 pub trait Store: Drop {
@@ -45,10 +48,10 @@ pub trait Store: Drop {
         ensures failed { IfErr result (λ e. e ≡ StoreError.Failed → Rose (state self.old).faults (state self.new).faults) }
         ensures steady { IfErr result (λ e. IsTrue (state self.old).steady → e ≡ StoreError.Memory) };
 
-    /// Copies of the rows that have this value in a column, in order, without the changes staged. `Err`: the call failed, or
+    /// Copies of the rows that have each of these values, in order, without the changes staged. `Err`: the call failed, or
     /// there was no memory for the copies.
-    fn pick(&mut self, column: u32, value: &Value) -> Result<Rows, StoreError>
-        ensures rows { IfOk result (λ rows. rows ≡ filter (has_value column value.now) (rows_of (state self.old).rows)) }
+    fn pick(&mut self, wanted: &ColumnValues) -> Result<Rows, StoreError>
+        ensures rows { IfOk result (λ rows. rows ≡ filter (has_values wanted.now) (rows_of (state self.old).rows)) }
         ensures same { Becomes (state self.old) (state self.old) (state self.new) }
         ensures failed { IfErr result (λ e. e ≡ StoreError.Failed → Rose (state self.old).faults (state self.new).faults) }
         ensures steady { IfErr result (λ e. IsTrue (state self.old).steady → e ≡ StoreError.Memory) };
@@ -100,8 +103,8 @@ impl Store for Box<dyn Store + Send> {
         (**self).scan()
     }
 
-    fn pick(&mut self, column: u32, value: &Value) -> Result<Rows, StoreError> {
-        (**self).pick(column, value)
+    fn pick(&mut self, wanted: &ColumnValues) -> Result<Rows, StoreError> {
+        (**self).pick(wanted)
     }
 
     fn stage(&mut self, changes: &Changes) -> Result<(), StoreError> {

@@ -6,7 +6,7 @@ ghost use Rattle.cq_store.specs.Stores.{IsSpare};
 
 use crate::fault::FaultStore;
 use crate::mem::MemStore;
-use crate::store::{BoxedStore, Store, StoreError};
+use crate::store::{BoxedStore, ColumnValues, Store, StoreError};
 use crate::worker::{TakeError, Worker};
 use cq_value::{Change, Changes, NoMemory, Row, Value};
 use std::alloc::Global;
@@ -80,20 +80,79 @@ fn discarded_rows_are_gone(rt: HostRuntime) -> Result<(), Fail> {
     Ok(())
 }
 
-#[test]
-fn rows_are_picked_by_a_value(rt: HostRuntime) -> Result<(), Fail> {
-    let alloc = rt.alloc();
-    let mut store: BoxedStore = Box::new(alloc, MemStore::new(alloc, 7))?;
+/// One value, for the column in this place, and a second one where there is one.
+fn wanted(
+    alloc: Global,
+    column: u32,
+    value: Value,
+    second: Option<(u32, Value)>,
+) -> Result<ColumnValues, NoMemory> {
+    let mut wanted = ColumnValues::new(alloc);
+    wanted.put((column, value))?;
+    if let Some(second) = second {
+        wanted.put(second)?;
+    }
+    Ok(wanted)
+}
+
+/// How many rows a store has that have these values.
+fn count_picked<S: Store>(store: &mut S, wanted: &ColumnValues) -> Result<u64, StoreError> {
+    let rows = store.pick(wanted)?;
+    Ok(rows.len())
+}
+
+/// How many of three rows have one value, and a second one where there is one.
+fn picked_of_three(
+    alloc: Global,
+    column: u32,
+    value: Value,
+    second: Option<(u32, Value)>,
+) -> Result<u64, Fail> {
+    let wanted = wanted(alloc, column, value, second)?;
+    let mut store = MemStore::new(alloc, 7);
     store.adopt(102008);
     store.stage(&three_rows(alloc)?)?;
-    assert_eq!(rt; store.pick(0, &Value::Int(5))?.len(), 0);
     store.commit();
-    assert_eq!(rt; store.pick(0, &Value::Int(5))?.len(), 2);
-    assert_eq!(rt; store.pick(0, &Value::Int(7))?.len(), 0);
-    assert_eq!(rt; store.pick(1, &Value::Null)?.len(), 2);
-    let rows = store.pick(0, &Value::Int(6))?;
-    assert_eq!(rt; rows.len(), 1);
-    let row = rows.get(0).ok_or("none was picked")?;
+    Ok(count_picked(&mut store, &wanted)?)
+}
+
+#[test]
+fn rows_are_picked_by_values(rt: HostRuntime) -> Result<(), Fail> {
+    let alloc = rt.alloc();
+    assert_eq!(rt; picked_of_three(alloc, 0, Value::Int(5), None)?, 2);
+    assert_eq!(rt; picked_of_three(alloc, 0, Value::Int(6), None)?, 1);
+    assert_eq!(rt; picked_of_three(alloc, 0, Value::Int(7), None)?, 0);
+    assert_eq!(rt; picked_of_three(alloc, 1, Value::Null, None)?, 2);
+    assert_eq!(rt;
+        picked_of_three(alloc, 0, Value::Int(5), Some((1, Value::Null)))?,
+        1
+    );
+    assert_eq!(rt;
+        picked_of_three(alloc, 0, Value::Int(6), Some((1, Value::Int(1))))?,
+        0
+    );
+    assert_eq!(rt;
+        picked_of_three(alloc, 1, Value::Null, Some((0, Value::Int(5))))?,
+        1
+    );
+    Ok(())
+}
+
+/// The row of this number among three.
+fn picked_row(alloc: Global, number: i128) -> Result<Row, Fail> {
+    let wanted = wanted(alloc, 0, Value::Int(number), None)?;
+    let mut store = MemStore::new(alloc, 7);
+    store.adopt(102008);
+    store.stage(&three_rows(alloc)?)?;
+    store.commit();
+    let mut rows = store.pick(&wanted)?;
+    rows.pop().ok_or(Fail::from("none was picked"))
+}
+
+#[test]
+fn picked_rows_are_whole(rt: HostRuntime) -> Result<(), Fail> {
+    let alloc = rt.alloc();
+    let row = picked_row(alloc, 6)?;
     assert!(rt; matches!(row.get(0), Some(Value::Int(6))));
     assert!(rt; matches!(row.get(1), Some(Value::Null)));
     Ok(())
@@ -103,17 +162,18 @@ fn rows_are_picked_by_a_value(rt: HostRuntime) -> Result<(), Fail> {
 fn picks_are_counted(rt: HostRuntime) -> Result<(), Fail> {
     let alloc = rt.alloc();
     let fails = [3].to_vec(alloc)?;
+    let five = wanted(alloc, 0, Value::Int(5), None)?;
     let mut store: BoxedStore = Box::new(alloc, FaultStore::new(alloc, 7, fails))?;
     store.adopt(102008);
     store.stage(&first_row(alloc, 5)?)?;
     store.commit();
-    assert_eq!(rt; store.pick(0, &Value::Int(5))?.len(), 1);
+    assert_eq!(rt; count_picked(&mut store, &five)?, 1);
     assert_eq!(rt;
-        store.pick(0, &Value::Int(5)).err(),
+        count_picked(&mut store, &five).err(),
         Some(StoreError::Failed)
     );
     assert_eq!(rt; store.faults(), 1);
-    assert_eq!(rt; store.pick(0, &Value::Int(5))?.len(), 1);
+    assert_eq!(rt; count_picked(&mut store, &five)?, 1);
     assert_eq!(rt; store.scan()?.len(), 1);
     Ok(())
 }

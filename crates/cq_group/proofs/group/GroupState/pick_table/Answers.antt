@@ -4,7 +4,7 @@ use Rattle.std.specs.List.{HoldsAt}
 use Rattle.std.proofs.lemmas.Result.{IfOk-weaker, IfErr-weaker}
 use Rattle.cq_value.specs.declared.value.Value.{Value}
 use Rattle.cq_value.specs.Tables.{Table, rows_of}
-use Rattle.cq_store.specs.Stores.{has_value}
+use Rattle.cq_store.specs.Stores.{has_values}
 use Rattle.cq_group.specs.Calls.{Rests, Lifted, Blames, IsOn, IsRestingTable}
 use Rattle.cq_group.proofs.Zips.{zip_set}
 use Rattle.cq_group.proofs.Turns.{rests}
@@ -16,7 +16,7 @@ use Rattle.cq_group.proofs.group.GroupState.pick_table.Goals as goal
 pub returns-clause-rows : goal.returns-clause-rows
 returns-clause-rows g c =
     let state = g.S.Store.state in
-    let picked : Table → List (List Value) = λ u. filter (has_value c.args.column c.args.value.now) (rows_of u) in
+    let picked : Table → List (List Value) = λ u. filter (has_values c.args.wanted.now) (rows_of u) in
     let ts = c.args.self.now.tables.items in
     let place = c.place_of-place.result in
     let t = c.index_mut.result.now in
