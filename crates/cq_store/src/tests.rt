@@ -146,7 +146,8 @@ fn picked_row(alloc: Global, number: i128) -> Result<Row, Fail> {
     store.stage(&three_rows(alloc)?)?;
     store.commit();
     let mut rows = store.pick(&wanted)?;
-    rows.pop().ok_or(Fail::from("none was picked"))
+    let row = rows.pop().ok_or("none was picked")?;
+    Ok(row)
 }
 
 #[test]
