@@ -3,3 +3,4 @@ pub mod GroupCalls
 pub mod QueryAnswers
 pub mod InsertAnswers
 pub mod DefinitionAnswers
+pub mod WantedLaws
