@@ -38,13 +38,7 @@ fn point_in(route: Route) -> Point
 
 impl<S: Store> Coordinator<S> {
     /// The answer of a statement that this way leads.
-    fn follow(
-        &mut self,
-        alloc: Global,
-        who: Who,
-        statement: &Statement,
-        route: Route,
-    ) -> Answer
+    fn follow(&mut self, alloc: Global, who: Who, statement: &Statement, route: Route) -> Answer
         requires sound { IsSound S.state self.old.cluster }
         requires legal { EachJournal (IsLegal self.old.cluster.catalog) (journals self.old) }
         requires route { IsRoute self.old.cluster.catalog statement.now (Ok route) }

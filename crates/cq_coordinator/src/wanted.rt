@@ -76,11 +76,7 @@ fn put_equality(
 
 /// Puts what a condition demands behind the rest.
 #[cycle(demands)]
-fn put_demands(
-    alloc: Global,
-    wanted: &mut ColumnValues,
-    condition: &Cond,
-) -> Result<(), NoMemory>
+fn put_demands(alloc: Global, wanted: &mut ColumnValues, condition: &Cond) -> Result<(), NoMemory>
     ensures { OnOk result (wanted.new ≡ wanted.old ++ demands condition.now) }
 {
     match condition {

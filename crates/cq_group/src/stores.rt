@@ -38,10 +38,7 @@ pub(crate) fn scan_store<S: Store>(store: &mut S) -> Result<Numbered, GroupError
 }
 
 /// The rows of a store that have these values.
-pub(crate) fn pick_store<S: Store>(
-    store: &mut S,
-    wanted: &ColumnValues,
-) -> Result<Rows, GroupError>
+pub(crate) fn pick_store<S: Store>(store: &mut S, wanted: &ColumnValues) -> Result<Rows, GroupError>
     ensures rows { IfOk result (λ rows. rows ≡ filter (has_values wanted.now) (rows_of (S.state store.old).rows)) }
     ensures same { Lifted S.state Rests store.old store.new }
     ensures blame { IfErr result (λ e. Blames S.state e (store.old ∷ []) (store.new ∷ [])) }

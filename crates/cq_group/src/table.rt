@@ -79,11 +79,7 @@ impl<S: Store> GroupTable<S> {
     }
 
     /// The rows with these values that the store in a place of the list holds.
-    pub(crate) fn pick(
-        &mut self,
-        place: usize,
-        wanted: &ColumnValues,
-    ) -> Result<Rows, GroupError>
+    pub(crate) fn pick(&mut self, place: usize, wanted: &ColumnValues) -> Result<Rows, GroupError>
         requires { place < length self.old.stores.items }
         ensures rows { IfOk result (λ rows. HoldsAt (λ x. rows ≡ filter (has_values wanted.now) (rows_of (S.state x).rows)) self.old.stores.items place) }
         ensures same { IsRestingTable (Lifted S.state Rests) self.old self.new }
