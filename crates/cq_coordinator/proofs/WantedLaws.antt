@@ -1,19 +1,21 @@
--- What a WHERE demands, conjunct by conjunct.
-use Rattle.std.proofs.Common.{◌≡◌, ℕ, List, [], ◌∷◌, ◌++◌, refl, ap, ◌∙◌}
+-- What a WHERE demands where AND joins two conditions.
+use Rattle.std.proofs.Common.{◌≡◌, ℕ, List, [], ◌∷◌, ◌++◌, Result, Ok, Err, OnOk, refl, sym, ap, ◌∙◌}
 use Rattle.cq_value.specs.declared.value.Value.{Value}
 use Rattle.cq_tree.specs.declared.expression.Cond.{Cond, And}
 use Rattle.cq_history.specs.Routing.{conjuncts}
-use Rattle.cq_history.specs.ValueSets.{demand_of, demands_of, demands}
+use Rattle.cq_history.specs.ValueSets.{demands_of, demands}
 use Rattle.cq_history.proofs.Keys.{demands_append}
 use Rattle.cq_routing.proofs.Nodes.{conjuncts_and}
 
-pub demands_and : (a b : Cond) → demands (And a b) ≡ demands a ++ demands b
+demands_and : (a b : Cond) → demands (And a b) ≡ demands a ++ demands b
 demands_and a b = ap demands_of (conjuncts_and a b) ∙ demands_append (conjuncts a) (conjuncts b)
 
-ends_there : {X : Type 0} (xs : List X) → xs ++ [] ≡ xs
-ends_there [] = refl
-ends_there (x ∷ xs) = ap (λ ys. x ∷ ys) (ends_there xs)
+append_twice : {X : Type 0} (xs ys zs : List X) → (xs ++ ys) ++ zs ≡ xs ++ (ys ++ zs)
+append_twice [] ys zs = refl
+append_twice (x ∷ xs) ys zs = ap (λ l. x ∷ l) (append_twice xs ys zs)
 
--- a condition that isn't an AND is its only conjunct
-pub demands_alone : (c : Cond) → conjuncts c ≡ c ∷ [] → demands c ≡ demand_of c
-demands_alone c one = ap demands_of one ∙ ends_there (demand_of c)
+-- first what the one demands is put behind the rest, and then what the other does
+pub both_put : {T E : Type 0} (r : Result T E) (old mid new : List (ℕ × Value)) (c a b : Cond) → c ≡ And a b → mid ≡ old ++ demands a → OnOk r (new ≡ mid ++ demands b) → OnOk r (new ≡ old ++ demands c)
+both_put (Ok x) old mid new c a b is first second =
+    second ∙ ap (λ (v : List (ℕ × Value)). v ++ demands b) first ∙ append_twice old (demands a) (demands b) ∙ ap (λ (v : List (ℕ × Value)). old ++ v) (sym (demands_and a b) ∙ ap demands (sym is))
+both_put (Err e) old mid new c a b is first second = tt
