@@ -247,6 +247,25 @@ const TYPES: [(u32, &str, &str); 34] = [
     (14, "SET citus.enable_repartition_joins TO ", "1"),
 ];
 
+/// Longer sums and products of which no front is a key, or where what stands behind the front doesn't fit it.
+const FRONTS: [(u32, &str, &str); 11] = [
+    (15, "SELECT k + v + ", "v FROM t GROUP BY k + v"),
+    (15, "SELECT ", "v + k + 1 FROM t GROUP BY k + v"),
+    (15, "SELECT 1 + ", "k + v FROM t GROUP BY k + v"),
+    (15, "SELECT ", "k + (v + 1) FROM t GROUP BY k + v"),
+    (15, "SELECT ", "k + v * 2 FROM t GROUP BY k + v"),
+    (15, "SELECT ", "v - 1 + 2 FROM t GROUP BY v - 2"),
+    (15, "SELECT ", "k + v FROM t GROUP BY k + v + 1"),
+    (15, "SELECT ", "n * 3 * 2 FROM i GROUP BY n * 2"),
+    (14, "SELECT k + v ", "+ 'a' FROM t GROUP BY k + v"),
+    (16, "SELECT v * v ", "+ 1 FROM t GROUP BY v * v"),
+    (
+        18,
+        "SELECT v + 1, (v + 1) * 2 ",
+        "/ 0 FROM t GROUP BY v + 1",
+    ),
+];
+
 const GROUPS: [(u32, &str, &str); 14] = [
     (15, "SELECT ", "v, count(*) FROM t"),
     (15, "SELECT ", "v FROM t GROUP BY k"),
@@ -398,6 +417,19 @@ const VALUES: [(u64, u32, &str); 7] = [
     (1, 3, "INSERT INTO u (name, k) VALUES (1, 'a')"),
 ];
 
+/// The first terms are a key.
+const FRONTS_ACCEPTED: [&str; 9] = [
+    "SELECT k + v + 1 FROM t GROUP BY k + v",
+    "SELECT k + v + (k + v) FROM t GROUP BY k + v",
+    "SELECT k + v - k, k - 1 FROM t GROUP BY k, k + v",
+    "SELECT v - 1 - 2 - 3 + 4 FROM t GROUP BY v - 1 - 2",
+    "SELECT v - 1 - 2 - v FROM t GROUP BY v - 1, v, v - 1 - 2",
+    "SELECT n * 2 * 3 % 5 FROM i GROUP BY n * 2",
+    "SELECT (n * 2 / 3 + 1) * 4 FROM i GROUP BY n * 2",
+    "SELECT k + v + count(*) - sum(k) FROM t GROUP BY k + v",
+    "SELECT count(*) FROM t GROUP BY k + v HAVING k + v + 1 > 0 ORDER BY k + v - 1",
+];
+
 const ACCEPTED: [&str; 32] = [
     "SELECT * FROM t",
     "SELECT t.*, u.name AS n FROM t JOIN u ON t.k = u.k",
@@ -451,6 +483,12 @@ fn types(rt: HostRuntime) -> Result<(), Fail> {
 #[test]
 fn groups(rt: HostRuntime) -> Result<(), Fail> {
     refused_at(rt.alloc(), &GROUPS)
+}
+
+#[test]
+fn fronts(rt: HostRuntime) -> Result<(), Fail> {
+    refused_at(rt.alloc(), &FRONTS)?;
+    all_accepted(rt.alloc(), &FRONTS_ACCEPTED)
 }
 
 #[test]

@@ -15,7 +15,7 @@ use Rattle.cq_reading.specs.Relations.{table_relation, with_join}
 use Rattle.cq_reading.specs.Walk.{select_of, relation_part, join_part, from_part}
 use Rattle.cq_bind_looks.proofs.Looks.{relation_Table, relation_TableAs, relation_Subquery, from_part_is}
 use Rattle.cq_bind_walk.specs.Joins.{subquery_reading}
-use Rattle.cq_bind_walk.proofs.Loops.{first_and_parts, refused_then}
+use Rattle.cq_bind_expressions.proofs.Loops.{first_and_parts, refused_then}
 
 module _ (x : Relation) (w : World) (names : List (List ℕ)) (f : Found) (res : Result Relations BindError) (new : Found) where
   pub by_table : (name : Name) → x ≡ relation.Table name → Binds (table_relation w name name names f) res new → Binds (relation_part x w names f) res new

@@ -3,8 +3,7 @@ pub mod Froms
 pub mod Grouping
 pub mod Keys
 pub mod Layers
-pub mod Loops
+pub mod Made
 pub mod Ordering
 pub mod Picks
-pub mod Productions
 pub mod Targets

@@ -12,7 +12,7 @@ use Rattle.cq_reading.specs.Expressions.{reads}
 use Rattle.cq_reading.specs.Selects.{descends, value_of, key_by_value, order_by_expression}
 use Rattle.cq_reading.specs.Walk.{part_of, order_part}
 use Rattle.cq_bind_looks.proofs.Looks.{order_part_is}
-use Rattle.cq_bind_walk.proofs.Loops.{binds_then}
+use Rattle.cq_bind_expressions.proofs.Loops.{binds_then}
 
 pub by_value : (k : OrderKey) (cx : Context) (outputs : List Shown) (distinct : Bool) (o : Ordered) (f g : Found) (b : Bound) (d : Bool) (at : ℕ) (res : Result Ordered BindError)
     → value_of (part_of (out-OrderKey k).key).at (reads (part_of (out-OrderKey k).key) cx) f ≡ Ok (b, g) → d ≡ descends (out-OrderKey k).direction → at ≡ (part_of (out-OrderKey k).key).at → Judges (key_by_value 0 distinct d at o b) res

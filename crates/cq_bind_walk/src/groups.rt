@@ -12,16 +12,16 @@ ghost use Rattle.cq_reading.specs.Relations as relation;
 ghost use Rattle.cq_reading.specs.Selects as spec;
 ghost use Rattle.cq_reading.specs.Walk.{part_of, item_part, group_part, having_part};
 ghost use Rattle.cq_bind_names.specs.Checks.{Checks};
-ghost use Rattle.cq_bind_walk.specs.Calls.{Nests, IsCallable, Follows};
+ghost use Rattle.cq_bind_expressions.specs.Calls.{Nests, IsCallable, Follows};
 ghost use Rattle.cq_bind_walk.specs.Stars as stars;
 ghost use Rattle.cq_bind_walk.specs.Picks as picks;
 
 use crate::outputs::{Star, is_meant, is_there, next_place, star_value, title_of};
-use crate::scopes::alloc_of;
-use crate::steps::{through, through_slice};
-use crate::walk::Walk;
+use crate::walk::Selects;
+use cq_bind_expressions::{alloc_of, through, through_slice};
 use cq_bind_looks::{Form, form, place};
-use cq_bind_names::{expr_of, one_of};
+use cq_bind_names::one_of;
+use cq_bind_rules as rules;
 use cq_grammar::{Expr, GroupBy, Having, Item, Name, Select};
 use cq_reading::{BindError, Block, Bound, Found, Limited, Scope, Source, World};
 use cq_tree::{Cond, Expr as Tree, Exprs};
@@ -389,7 +389,7 @@ fn the_pick(pick: Pick, at: u64) -> Result<Bound, BindError>
 impl<
     F: Fn(&mut Found, &Expr, &Scope<'_>, usize) -> Result<Bound, BindError>,
     G: Fn(&mut Found, &Select, &World<'_>, usize) -> Result<Block, BindError>,
-> Walk<F, G> {
+> Selects<F, G> {
     fn value_titled(
         &self,
         found: &mut Found,
@@ -399,7 +399,7 @@ impl<
         name: &Text,
         scope: &Scope<'_>,
     ) -> Result<Items<Bound>, BindError>
-        requires { Nests self.now.left (F.pre self.now.expr) (F.post self.now.expr) (G.pre self.now.select) (G.post self.now.select) }
+        requires { Nests self.now.walk.left (F.pre self.now.walk.expr) (F.post self.now.walk.expr) (G.pre self.now.walk.select) (G.post self.now.walk.select) }
         ensures { Binds (picks.with_titled scope.now name.now before (stars.value_target (part_of value.now) (stars.alias_of alias.now)) found.old) result found.new }
     {
         if has_title(alloc_of(scope), value, alias, name)? {
@@ -418,7 +418,7 @@ impl<
         name: &Text,
         scope: &Scope<'_>,
     ) -> Result<Items<Bound>, BindError>
-        requires { Nests self.now.left (F.pre self.now.expr) (F.post self.now.expr) (G.pre self.now.select) (G.post self.now.select) }
+        requires { Nests self.now.walk.left (F.pre self.now.walk.expr) (F.post self.now.walk.expr) (G.pre self.now.walk.select) (G.post self.now.walk.select) }
         ensures { Binds (picks.with_titled_item scope.now name.now before (item_part item.now) found.old) result found.new }
     {
         match item {
@@ -438,7 +438,7 @@ impl<
         items: &Items<Item>,
         scope: &Scope<'_>,
     ) -> Result<Items<Bound>, BindError>
-        requires { Nests self.now.left (F.pre self.now.expr) (F.post self.now.expr) (G.pre self.now.select) (G.post self.now.select) }
+        requires { Nests self.now.walk.left (F.pre self.now.walk.expr) (F.post self.now.walk.expr) (G.pre self.now.walk.select) (G.post self.now.walk.select) }
         ensures { Binds (reading.each (picks.target_value scope.now) (spec.titled name.now (spec.targets scope.now.columns (map item_part items.now))) found.old) result found.new }
     {
         let none = Items::new(alloc_of(scope));
@@ -460,7 +460,7 @@ impl<
         items: &Items<Item>,
         scope: &Scope<'_>,
     ) -> Result<Bound, BindError>
-        requires { Nests self.now.left (F.pre self.now.expr) (F.post self.now.expr) (G.pre self.now.select) (G.post self.now.select) }
+        requires { Nests self.now.walk.left (F.pre self.now.walk.expr) (F.post self.now.walk.expr) (G.pre self.now.walk.select) (G.post self.now.walk.select) }
         ensures { Binds (spec.key_by_title scope.now (spec.targets scope.now.columns (map item_part items.now)) name.now at found.old) result found.new }
     {
         let bounds = self.titled(found, name, items, scope)?;
@@ -474,7 +474,7 @@ impl<
         alias: &Option<Name>,
         scope: &Scope<'_>,
     ) -> Result<Pick, BindError>
-        requires { Nests self.now.left (F.pre self.now.expr) (F.post self.now.expr) (G.pre self.now.select) (G.post self.now.select) }
+        requires { Nests self.now.walk.left (F.pre self.now.walk.expr) (F.post self.now.walk.expr) (G.pre self.now.walk.select) (G.post self.now.walk.select) }
         ensures { Binds (picks.first_pick scope.now (stars.value_target (part_of value.now) (stars.alias_of alias.now)) found.old) result found.new }
     {
         let b = self.value(found, value, scope)?;
@@ -489,7 +489,7 @@ impl<
         alias: &Option<Name>,
         scope: &Scope<'_>,
     ) -> Result<Pick, BindError>
-        requires { Nests self.now.left (F.pre self.now.expr) (F.post self.now.expr) (G.pre self.now.select) (G.post self.now.select) }
+        requires { Nests self.now.walk.left (F.pre self.now.walk.expr) (F.post self.now.walk.expr) (G.pre self.now.walk.select) (G.post self.now.walk.select) }
         ensures { Binds (picks.picked scope.now pick (stars.value_target (part_of value.now) (stars.alias_of alias.now)) found.old) result found.new }
     {
         match pick {
@@ -506,7 +506,7 @@ impl<
         item: &Item,
         scope: &Scope<'_>,
     ) -> Result<Pick, BindError>
-        requires { Nests self.now.left (F.pre self.now.expr) (F.post self.now.expr) (G.pre self.now.select) (G.post self.now.select) }
+        requires { Nests self.now.walk.left (F.pre self.now.walk.expr) (F.post self.now.walk.expr) (G.pre self.now.walk.select) (G.post self.now.walk.select) }
         ensures { Binds (picks.picked_item scope.now before (item_part item.now) found.old) result found.new }
     {
         match item {
@@ -523,7 +523,7 @@ impl<
         items: &Items<Item>,
         scope: &Scope<'_>,
     ) -> Result<Pick, BindError>
-        requires { Nests self.now.left (F.pre self.now.expr) (F.post self.now.expr) (G.pre self.now.select) (G.post self.now.select) }
+        requires { Nests self.now.walk.left (F.pre self.now.walk.expr) (F.post self.now.walk.expr) (G.pre self.now.walk.select) (G.post self.now.walk.select) }
         ensures { Binds (reading.through (picks.picked scope.now) (spec.targets scope.now.columns (map item_part items.now)) (picks.skipping n) found.old) result found.new }
     {
         through(
@@ -544,7 +544,7 @@ impl<
         items: &Items<Item>,
         scope: &Scope<'_>,
     ) -> Result<Bound, BindError>
-        requires { Nests self.now.left (F.pre self.now.expr) (F.post self.now.expr) (G.pre self.now.select) (G.post self.now.select) }
+        requires { Nests self.now.walk.left (F.pre self.now.walk.expr) (F.post self.now.walk.expr) (G.pre self.now.walk.select) (G.post self.now.walk.select) }
         ensures { Binds (spec.key_by_place scope.now (spec.nth n (spec.targets scope.now.columns (map item_part items.now))) at found.old) result found.new }
     {
         if n == 0 {
@@ -563,11 +563,11 @@ impl<
         items: &Items<Item>,
         scope: &Scope<'_>,
     ) -> Result<Bound, BindError>
-        requires { Nests self.now.left (F.pre self.now.expr) (F.post self.now.expr) (G.pre self.now.select) (G.post self.now.select) }
+        requires { Nests self.now.walk.left (F.pre self.now.walk.expr) (F.post self.now.walk.expr) (G.pre self.now.walk.select) (G.post self.now.walk.select) }
         ensures { Binds (spec.key_by_name scope.now (spec.targets scope.now.columns (map item_part items.now)) (part_of key.now) name.now (scopes.place_of (scopes.has_name name.now) scope.now.columns) found.old) result found.new }
     {
         match first_named(scope, name) {
-            Some(_) => self.expr(found, key, scope),
+            Some(_) => self.walk.expr(found, key, scope),
             None => self.key_by_title(found, name, place(key), items, scope),
         }
     }
@@ -579,7 +579,7 @@ impl<
         items: &Items<Item>,
         scope: &Scope<'_>,
     ) -> Result<Bound, BindError>
-        requires { Nests self.now.left (F.pre self.now.expr) (F.post self.now.expr) (G.pre self.now.select) (G.post self.now.select) }
+        requires { Nests self.now.walk.left (F.pre self.now.walk.expr) (F.post self.now.walk.expr) (G.pre self.now.walk.select) (G.post self.now.walk.select) }
         ensures { Binds (spec.group_key_by scope.now (spec.targets scope.now.columns (map item_part items.now)) (part_of key.now) (part_of key.now).form found.old) result found.new }
     {
         match form(key) {
@@ -596,11 +596,11 @@ impl<
         items: &Items<Item>,
         scope: &Scope<'_>,
     ) -> Result<Tree, BindError>
-        requires { Nests self.now.left (F.pre self.now.expr) (F.post self.now.expr) (G.pre self.now.select) (G.post self.now.select) }
+        requires { Nests self.now.walk.left (F.pre self.now.walk.expr) (F.post self.now.walk.expr) (G.pre self.now.walk.select) (G.post self.now.walk.select) }
         ensures { Binds (spec.group_key scope.now (spec.targets scope.now.columns (map item_part items.now)) (part_of key.now) found.old) result found.new }
     {
         let b = self.key_value(found, key, items, scope)?;
-        Ok(expr_of(b))
+        Ok(rules::expr(b))
     }
 
     fn group_by(
@@ -610,7 +610,7 @@ impl<
         items: &Items<Item>,
         scope: &Scope<'_>,
     ) -> Result<Exprs, BindError>
-        requires { Nests self.now.left (F.pre self.now.expr) (F.post self.now.expr) (G.pre self.now.select) (G.post self.now.select) }
+        requires { Nests self.now.walk.left (F.pre self.now.walk.expr) (F.post self.now.walk.expr) (G.pre self.now.walk.select) (G.post self.now.walk.select) }
         ensures { Binds (spec.group_keys scope.now (spec.targets scope.now.columns (map item_part items.now)) scope.now.joined (Some (group_part groups.now)) found.old) result found.new }
     {
         if scope.joined {
@@ -635,7 +635,7 @@ impl<
         items: &Items<Item>,
         scope: &Scope<'_>,
     ) -> Result<Exprs, BindError>
-        requires { Nests self.now.left (F.pre self.now.expr) (F.post self.now.expr) (G.pre self.now.select) (G.post self.now.select) }
+        requires { Nests self.now.walk.left (F.pre self.now.walk.expr) (F.post self.now.walk.expr) (G.pre self.now.walk.select) (G.post self.now.walk.select) }
         ensures { Binds (spec.group_keys scope.now (spec.targets scope.now.columns (map item_part items.now)) scope.now.joined (option_map group_part groups.now) found.old) result found.new }
     {
         match groups {
@@ -651,7 +651,7 @@ impl<
         filter: &Option<Boxed<Expr>>,
         scope: &Scope<'_>,
     ) -> Result<Cond, BindError>
-        requires { Nests self.now.left (F.pre self.now.expr) (F.post self.now.expr) (G.pre self.now.select) (G.post self.now.select) }
+        requires { Nests self.now.walk.left (F.pre self.now.walk.expr) (F.post self.now.walk.expr) (G.pre self.now.walk.select) (G.post self.now.walk.select) }
         ensures { Binds (spec.filter_of scope.now (option_map part_of filter.now) found.old) result found.new }
     {
         match filter {
@@ -667,7 +667,7 @@ impl<
         having: &Having,
         scope: &Scope<'_>,
     ) -> Result<Cond, BindError>
-        requires { Nests self.now.left (F.pre self.now.expr) (F.post self.now.expr) (G.pre self.now.select) (G.post self.now.select) }
+        requires { Nests self.now.walk.left (F.pre self.now.walk.expr) (F.post self.now.walk.expr) (G.pre self.now.walk.select) (G.post self.now.walk.select) }
         ensures { Binds (spec.having_of scope.now scope.now.joined (Some (having_part having.now)) found.old) result found.new }
     {
         if scope.joined {
@@ -683,7 +683,7 @@ impl<
         having: &Option<Having>,
         scope: &Scope<'_>,
     ) -> Result<Cond, BindError>
-        requires { Nests self.now.left (F.pre self.now.expr) (F.post self.now.expr) (G.pre self.now.select) (G.post self.now.select) }
+        requires { Nests self.now.walk.left (F.pre self.now.walk.expr) (F.post self.now.walk.expr) (G.pre self.now.walk.select) (G.post self.now.walk.select) }
         ensures { Binds (spec.having_of scope.now scope.now.joined (option_map having_part having.now) found.old) result found.new }
     {
         match having {

@@ -5,7 +5,8 @@ ghost use Rattle.cq_reading.specs.Outcomes.{Binds};
 ghost use Rattle.cq_reading.specs.Expressions.{reads};
 ghost use Rattle.cq_reading.specs.Walk.{part_of, select_of};
 
-use crate::walk::Walk;
+use crate::walk::Selects;
+use cq_bind_expressions::Walk;
 use cq_grammar::{Expr, Select};
 use cq_reading::{BindError, Block, Bound, Found, Scope, World};
 
@@ -28,5 +29,6 @@ pub fn select(
 ) -> Result<Block, BindError>
     ensures { Binds (select_of q.now world.now found.old) result found.new }
 {
-    Walk { left, expr, select }.block(found, q, world)
+    let walk = Walk { left, expr, select };
+    Selects { walk }.block(found, q, world)
 }

@@ -1,17 +1,13 @@
-//! The walk of the binder over expressions and SELECTs: what each is read as, or the first refusal in it.
+//! The walk of the binder over SELECTs, and over expressions and SELECTs inside each other: what each is read as, or the first
+//! refusal in it.
 #![tactic(auto)]
 
-mod conditions;
-mod expressions;
 mod groups;
 mod knot;
-mod nodes;
 mod orders;
 mod outputs;
 mod relations;
-mod scopes;
 mod selects;
-mod steps;
 mod walk;
 
 ghost use Rattle.std.specs.Prelude.{◌≡◌};
@@ -25,7 +21,6 @@ use cq_bind_rules as rules;
 use cq_grammar::{Expr, Select};
 use cq_reading::{BindError, Block, Bound, Found, Scope, World};
 use cq_tree::Cond;
-pub use steps::{behind, each, through};
 
 /// How many levels deep a tree may be. One that keeps the grammar's limit of depth, 64, has fewer than 600.
 const LEVELS: usize = 1024;

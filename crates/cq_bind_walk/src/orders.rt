@@ -7,10 +7,10 @@ ghost use Rattle.cq_reading.specs.Outcomes.{Binds};
 ghost use Rattle.cq_reading.specs.Selects as spec;
 ghost use Rattle.cq_reading.specs.Walk.{order_part};
 ghost use Rattle.cq_bind_names.specs.Checks.{Checks};
-ghost use Rattle.cq_bind_walk.specs.Calls.{Nests};
+ghost use Rattle.cq_bind_expressions.specs.Calls.{Nests};
 
-use crate::steps::through;
-use crate::walk::Walk;
+use crate::walk::Selects;
+use cq_bind_expressions::through;
 use cq_bind_looks::{Form, form, place};
 use cq_bind_names::{key_by_number, key_by_output, key_by_value, output_place};
 use cq_grammar::{Direction, Expr, OrderKey, Select};
@@ -39,7 +39,7 @@ fn check_keys(order: &Ordered) -> Result<(), BindError>
 impl<
     F: Fn(&mut Found, &Expr, &Scope<'_>, usize) -> Result<Bound, BindError>,
     G: Fn(&mut Found, &Select, &World<'_>, usize) -> Result<Block, BindError>,
-> Walk<F, G> {
+> Selects<F, G> {
     #[tactic(auto, using(cq_bind_looks::proofs::Looks::order_part_is))]
     fn order_by_expression(
         &self,
@@ -50,7 +50,7 @@ impl<
         distinct: bool,
         scope: &Scope<'_>,
     ) -> Result<Ordered, BindError>
-        requires { Nests self.now.left (F.pre self.now.expr) (F.post self.now.expr) (G.pre self.now.select) (G.post self.now.select) }
+        requires { Nests self.now.walk.left (F.pre self.now.walk.expr) (F.post self.now.walk.expr) (G.pre self.now.walk.select) (G.post self.now.walk.select) }
         ensures { Binds (spec.order_by_expression scope.now outputs.now distinct (order_part key.now) order found.old) result found.new }
     {
         let b = self.value(found, &key.key, scope)?;
@@ -75,7 +75,7 @@ impl<
         distinct: bool,
         scope: &Scope<'_>,
     ) -> Result<Ordered, BindError>
-        requires { Nests self.now.left (F.pre self.now.expr) (F.post self.now.expr) (G.pre self.now.select) (G.post self.now.select) }
+        requires { Nests self.now.walk.left (F.pre self.now.walk.expr) (F.post self.now.walk.expr) (G.pre self.now.walk.select) (G.post self.now.walk.select) }
         ensures { Binds (spec.order_by_name scope.now outputs.now distinct (order_part key.now) order name.now (position (spec.has_title name.now) outputs.now) found.old) result found.new }
     {
         match output_place(name, outputs) {
@@ -101,7 +101,7 @@ impl<
         distinct: bool,
         scope: &Scope<'_>,
     ) -> Result<Ordered, BindError>
-        requires { Nests self.now.left (F.pre self.now.expr) (F.post self.now.expr) (G.pre self.now.select) (G.post self.now.select) }
+        requires { Nests self.now.walk.left (F.pre self.now.walk.expr) (F.post self.now.walk.expr) (G.pre self.now.walk.select) (G.post self.now.walk.select) }
         ensures { Binds (spec.order_by_form scope.now outputs.now distinct (order_part key.now) order (order_part key.now).key.form found.old) result found.new }
     {
         match form(&key.key) {
@@ -130,7 +130,7 @@ impl<
         distinct: bool,
         scope: &Scope<'_>,
     ) -> Result<Ordered, BindError>
-        requires { Nests self.now.left (F.pre self.now.expr) (F.post self.now.expr) (G.pre self.now.select) (G.post self.now.select) }
+        requires { Nests self.now.walk.left (F.pre self.now.walk.expr) (F.post self.now.walk.expr) (G.pre self.now.walk.select) (G.post self.now.walk.select) }
         ensures { Binds (spec.with_order_key scope.now outputs.now distinct order (order_part key.now) found.old) result found.new }
     {
         check_keys(&order)?;
@@ -148,7 +148,7 @@ impl<
         order: Ordered,
         scope: &Scope<'_>,
     ) -> Result<Ordered, BindError>
-        requires { Nests self.now.left (F.pre self.now.expr) (F.post self.now.expr) (G.pre self.now.select) (G.post self.now.select) }
+        requires { Nests self.now.walk.left (F.pre self.now.walk.expr) (F.post self.now.walk.expr) (G.pre self.now.walk.select) (G.post self.now.walk.select) }
         ensures { Binds (spec.order_keys scope.now outputs.now distinct (map order_part keys.now) order found.old) result found.new }
     {
         through(

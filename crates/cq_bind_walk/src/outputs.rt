@@ -15,12 +15,11 @@ ghost use Rattle.cq_reading.specs.Expressions.{reads};
 ghost use Rattle.cq_reading.specs.Selects as spec;
 ghost use Rattle.cq_reading.specs.Walk.{part_of, item_part};
 ghost use Rattle.cq_bind_names.specs.Checks.{Checks};
-ghost use Rattle.cq_bind_walk.specs.Calls.{Nests};
+ghost use Rattle.cq_bind_expressions.specs.Calls.{Nests};
 ghost use Rattle.cq_bind_walk.specs.Stars as stars;
 
-use crate::scopes::{alloc_of, plain};
-use crate::steps::{through, through_slice};
-use crate::walk::Walk;
+use crate::walk::Selects;
+use cq_bind_expressions::{alloc_of, plain, through, through_slice};
 use cq_bind_looks::{place, title};
 use cq_bind_rules::{column_at, key_column, value};
 use cq_grammar::{Expr, Item, Name, Select};
@@ -267,13 +266,13 @@ pub fn title_of(alloc: Global, value: &Expr, name: &Option<Name>) -> Result<Text
 impl<
     F: Fn(&mut Found, &Expr, &Scope<'_>, usize) -> Result<Bound, BindError>,
     G: Fn(&mut Found, &Select, &World<'_>, usize) -> Result<Block, BindError>,
-> Walk<F, G> {
+> Selects<F, G> {
     /// A value, which is refused at its root with 14 where it is a condition.
     pub fn value(&self, found: &mut Found, e: &Expr, scope: &Scope<'_>) -> Result<Bound, BindError>
-        requires { Nests self.now.left (F.pre self.now.expr) (F.post self.now.expr) (G.pre self.now.select) (G.post self.now.select) }
+        requires { Nests self.now.walk.left (F.pre self.now.walk.expr) (F.post self.now.walk.expr) (G.pre self.now.walk.select) (G.post self.now.walk.select) }
         ensures { Binds (spec.value_of (part_of e.now).at (reads (part_of e.now) scope.now) found.old) result found.new }
     {
-        let b = self.expr(found, e, scope)?;
+        let b = self.walk.expr(found, e, scope)?;
         value(b, place(e))
     }
 
@@ -284,7 +283,7 @@ impl<
         name: &Option<Name>,
         scope: &Scope<'_>,
     ) -> Result<Shown, BindError>
-        requires { Nests self.now.left (F.pre self.now.expr) (F.post self.now.expr) (G.pre self.now.select) (G.post self.now.select) }
+        requires { Nests self.now.walk.left (F.pre self.now.walk.expr) (F.post self.now.walk.expr) (G.pre self.now.walk.select) (G.post self.now.walk.select) }
         ensures { Binds (spec.read_target scope.now (stars.value_target (part_of value.now) (stars.alias_of name.now)) found.old) result found.new }
     {
         let bound = self.value(found, value, scope)?;
@@ -300,7 +299,7 @@ impl<
         name: &Option<Name>,
         scope: &Scope<'_>,
     ) -> Result<ShownList, BindError>
-        requires { Nests self.now.left (F.pre self.now.expr) (F.post self.now.expr) (G.pre self.now.select) (G.post self.now.select) }
+        requires { Nests self.now.walk.left (F.pre self.now.walk.expr) (F.post self.now.walk.expr) (G.pre self.now.walk.select) (G.post self.now.walk.select) }
         ensures { Binds (stars.with_output scope.now before (stars.value_target (part_of value.now) (stars.alias_of name.now)) found.old) result found.new }
     {
         check_outputs(&before)?;
@@ -316,7 +315,7 @@ impl<
         item: &Item,
         scope: &Scope<'_>,
     ) -> Result<ShownList, BindError>
-        requires { Nests self.now.left (F.pre self.now.expr) (F.post self.now.expr) (G.pre self.now.select) (G.post self.now.select) }
+        requires { Nests self.now.walk.left (F.pre self.now.walk.expr) (F.post self.now.walk.expr) (G.pre self.now.walk.select) (G.post self.now.walk.select) }
         ensures { Binds (stars.with_item scope.now before (item_part item.now) found.old) result found.new }
     {
         match item {
@@ -333,7 +332,7 @@ impl<
         items: &Items<Item>,
         scope: &Scope<'_>,
     ) -> Result<ShownList, BindError>
-        requires { Nests self.now.left (F.pre self.now.expr) (F.post self.now.expr) (G.pre self.now.select) (G.post self.now.select) }
+        requires { Nests self.now.walk.left (F.pre self.now.walk.expr) (F.post self.now.walk.expr) (G.pre self.now.walk.select) (G.post self.now.walk.select) }
         ensures { Binds (spec.at_most 512 limited.Outputs (spec.read_target scope.now) (spec.targets scope.now.columns (map item_part items.now)) found.old) result found.new }
     {
         let none = ShownList::new(alloc_of(scope));

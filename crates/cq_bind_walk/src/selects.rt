@@ -6,12 +6,12 @@ ghost use Rattle.cq_reading.specs.Selects as spec;
 ghost use Rattle.cq_reading.specs.Walk as walk;
 ghost use Rattle.cq_reading.specs.Walk.{select_of, item_part, order_part};
 ghost use Rattle.cq_bind_names.specs.declared.blocks.Outer.{Outer};
-ghost use Rattle.cq_bind_walk.specs.Calls.{Nests};
+ghost use Rattle.cq_bind_expressions.specs.Calls.{Nests};
 ghost use Rattle.cq_bind_walk.specs.Blocks as blocks;
 ghost use Rattle.cq_bind_walk.specs.Blocks.{layer_of};
 
-use crate::scopes::alloc_of;
-use crate::walk::Walk;
+use crate::walk::Selects;
+use cq_bind_expressions::alloc_of;
 use cq_bind_looks::groups;
 use cq_bind_names::{Clauses, Outer, Parts, block_of, enter, leave, unordered};
 use cq_grammar::{Count, Expr, Item, OrderKey, Select};
@@ -162,7 +162,7 @@ fn finished(
 impl<
     F: Fn(&mut Found, &Expr, &Scope<'_>, usize) -> Result<Bound, BindError>,
     G: Fn(&mut Found, &Select, &World<'_>, usize) -> Result<Block, BindError>,
-> Walk<F, G> {
+> Selects<F, G> {
     /// WHERE and GROUP BY.
     fn conditions(
         &self,
@@ -171,7 +171,7 @@ impl<
         relations: &Relations,
         world: &World<'_>,
     ) -> Result<(Cond, Exprs), BindError>
-        requires { Nests self.now.left (F.pre self.now.expr) (F.post self.now.expr) (G.pre self.now.select) (G.post self.now.select) }
+        requires { Nests self.now.walk.left (F.pre self.now.walk.expr) (F.post self.now.walk.expr) (G.pre self.now.walk.select) (G.post self.now.walk.select) }
         ensures { Binds (blocks.conditions_reading (layer_of q.now) world.now relations.now found.old) result found.new }
     {
         let filter = self.filter(found, &q.filter, &scope_before(world, relations, true))?;
@@ -181,7 +181,7 @@ impl<
     }
 
     fn rows(&self, found: &mut Found, q: &Select, world: &World<'_>) -> Result<Rows, BindError>
-        requires { Nests self.now.left (F.pre self.now.expr) (F.post self.now.expr) (G.pre self.now.select) (G.post self.now.select) }
+        requires { Nests self.now.walk.left (F.pre self.now.walk.expr) (F.post self.now.walk.expr) (G.pre self.now.walk.select) (G.post self.now.walk.select) }
         ensures { Binds (blocks.rows_reading (layer_of q.now) world.now found.old) result found.new }
     {
         let relations = self.relations(found, &q.from, world)?;
@@ -198,7 +198,7 @@ impl<
         keys: &Items<OrderKey>,
         scope: &Scope<'_>,
     ) -> Result<(ShownList, Ordered), BindError>
-        requires { Nests self.now.left (F.pre self.now.expr) (F.post self.now.expr) (G.pre self.now.select) (G.post self.now.select) }
+        requires { Nests self.now.walk.left (F.pre self.now.walk.expr) (F.post self.now.walk.expr) (G.pre self.now.walk.select) (G.post self.now.walk.select) }
         ensures { Binds (blocks.ordered_reading (map item_part items.now) distinct (map order_part keys.now) scope.now found.old) result found.new }
     {
         let outputs = self.outputs(found, items, scope)?;
@@ -215,7 +215,7 @@ impl<
         grouped: bool,
         world: &World<'_>,
     ) -> Result<Shape, BindError>
-        requires { Nests self.now.left (F.pre self.now.expr) (F.post self.now.expr) (G.pre self.now.select) (G.post self.now.select) }
+        requires { Nests self.now.walk.left (F.pre self.now.walk.expr) (F.post self.now.walk.expr) (G.pre self.now.walk.select) (G.post self.now.walk.select) }
         ensures { Binds (blocks.shape_reading (layer_of q.now) world.now grouped rows.now found.old) result found.new }
     {
         let having = self.having(found, &q.having, &scope_after(world, rows, grouped, true))?;
@@ -235,7 +235,7 @@ impl<
         grouped: bool,
         world: &World<'_>,
     ) -> Result<(Rows, Shape), BindError>
-        requires { Nests self.now.left (F.pre self.now.expr) (F.post self.now.expr) (G.pre self.now.select) (G.post self.now.select) }
+        requires { Nests self.now.walk.left (F.pre self.now.walk.expr) (F.post self.now.walk.expr) (G.pre self.now.walk.select) (G.post self.now.walk.select) }
         ensures { Binds (blocks.parts_reading (layer_of q.now) world.now grouped found.old) result found.new }
     {
         let rows = self.rows(found, q, world)?;
@@ -250,7 +250,7 @@ impl<
         q: &Select,
         world: &World<'_>,
     ) -> Result<Block, BindError>
-        requires { Nests self.now.left (F.pre self.now.expr) (F.post self.now.expr) (G.pre self.now.select) (G.post self.now.select) }
+        requires { Nests self.now.walk.left (F.pre self.now.walk.expr) (F.post self.now.walk.expr) (G.pre self.now.walk.select) (G.post self.now.walk.select) }
         ensures { Binds (select_of q.now world.now found.old) result found.new }
     {
         let outer = enter(found, world.alloc)?;

@@ -26,6 +26,7 @@ use Rattle.cq_reading.specs.Rules as rule
 use Rattle.cq_reading.specs.Parts.{Part, TestPart, LaterPart, AddedPart, MultipliedPart, ArmPart, SelectPart}
 use Rattle.cq_reading.specs.Expressions as e
 use Rattle.cq_reading.specs.Expressions.{reads, behind_keys}
+use Rattle.cq_reading_laws.proofs.FromLeft.{from_left_keeps}
 use Rattle.cq_bound_laws.proofs.Counting.{CountedIf, Counts, counting, counts_give, counts_then, counts_through, counts_with_next, counts_each, added_counts, signed_counts, multiplied_counts, condition_counts, chain_counts, chosen_counts, coalesced_counts, counted_counts, summed_counts, keyed_counts, named_counts, named_of_counts}
 
 abbrev pub PartCounts : Part → Type 0
@@ -81,19 +82,13 @@ null_tests_count (t ∷ more) = ((λ a. search condition_counts), null_tests_cou
 pub is_counts : (first : Part) (rest : List NullTest) → PartCounts first → (cx : Context) → Counts (e.is_reading first rest cx)
 is_counts first rest h cx = counts_then _ _ (reads_count first cx h) (λ a. counts_through (λ a t. rule.null_tested t.negated a t.at) rest a (null_tests_count rest))
 
-added_steps : (cx : Context) (rest : List AddedPart) → AllByRecursion (λ p. PartCounts p.part) rest → AllByRecursion (λ p. (a : Bound) → Counts (e.with_added cx a p)) rest
-added_steps cx [] h = tt
-added_steps cx (p ∷ more) h = ((λ a. counts_then _ _ (reads_count p.part cx h.0) (λ b. added_counts p.operator a b p.at)), added_steps cx more h.1)
-
 pub sum_counts : (first : Part) (rest : List AddedPart) → PartCounts first → AllByRecursion (λ p. PartCounts p.part) rest → (cx : Context) → Counts (e.sum_reading first rest cx)
-sum_counts first rest h k cx = counts_then _ _ (reads_count first cx h) (λ a. counts_through (e.with_added cx) rest a (added_steps cx rest k))
-
-multiplied_steps : (cx : Context) (rest : List MultipliedPart) → AllByRecursion (λ p. PartCounts p.part) rest → AllByRecursion (λ p. (a : Bound) → Counts (e.with_multiplied cx a p)) rest
-multiplied_steps cx [] h = tt
-multiplied_steps cx (p ∷ more) h = ((λ a. counts_then _ _ (reads_count p.part cx h.0) (λ b. multiplied_counts p.operator a b _ p.at)), multiplied_steps cx more h.1)
+sum_counts first rest h k cx = reads_count (e.from_left (λ p. p.part) e.with_added first rest) cx (from_left_keeps (λ p. p.part) e.with_added PartCounts
+    (λ before p g i c. counts_then _ _ (reads_count before c g) (λ a. counts_then _ _ (reads_count p.part c i) (λ b. added_counts p.operator a b p.at))) rest first h k)
 
 pub product_counts : (first : Part) (rest : List MultipliedPart) → PartCounts first → AllByRecursion (λ p. PartCounts p.part) rest → (cx : Context) → Counts (e.product_reading first rest cx)
-product_counts first rest h k cx = counts_then _ _ (reads_count first cx h) (λ a. counts_through (e.with_multiplied cx) rest a (multiplied_steps cx rest k))
+product_counts first rest h k cx = reads_count (e.from_left (λ p. p.part) e.with_multiplied first rest) cx (from_left_keeps (λ p. p.part) e.with_multiplied PartCounts
+    (λ before p g i c. counts_then _ _ (reads_count before c g) (λ a. counts_then _ _ (reads_count p.part c i) (λ b. multiplied_counts p.operator a b _ p.at))) rest first h k)
 
 pub signed_reading_counts : (sign : AddOperator) (inner : Part) (form : Form) (at : ℕ) → PartCounts inner → (cx : Context) → Counts (e.signed_reading sign inner form at cx)
 signed_reading_counts sign inner (title.Number n) at h cx = counts_give _

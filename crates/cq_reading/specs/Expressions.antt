@@ -111,7 +111,7 @@ not_reading inner at cx = reads inner cx then (λ a. rule.negated a at)
 abbrev pub compare_reading : Part → Comparison → Part → ℕ → Context → Reading Bound
 compare_reading left operator right at cx = reads left cx then (λ a. reads right cx then (λ b. rule.compared operator a b at))
 
--- ---- NULL tests, sums and products: from left to right
+-- ---- NULL tests: from left to right
 
 abbrev pub null_tests : List NullTest → Bound → Reading Bound
 null_tests = through (λ a t. rule.null_tested t.negated a t.at)
@@ -123,11 +123,21 @@ abbrev pub last_test : ℕ → List NullTest → ℕ
 last_test at [] = at
 last_test at (t ∷ more) = last_test t.at more
 
+-- ---- sums and products: `a + b + c` is `(a + b) + c`. What stands before a sign is an expression of its own, and so may be a key
+
+-- with one operand more
+abbrev pub further : {A : Type 0} → (A → Part) → (Context → Bound → A → Reading Bound) → Part → A → Part
+further part step before p = plain_node before.at (before ∷ part p ∷ []) (λ cx. reads before cx then (λ a. step cx a p))
+
+abbrev pub from_left : {A : Type 0} → (A → Part) → (Context → Bound → A → Reading Bound) → Part → List A → Part
+from_left part step before [] = before
+from_left part step before (p ∷ more) = from_left part step (further part step before p) more
+
 abbrev pub with_added : Context → Bound → AddedPart → Reading Bound
 with_added cx a p = reads p.part cx then (λ b. rule.added p.operator a b p.at)
 
 abbrev pub sum_reading : Part → List AddedPart → Context → Reading Bound
-sum_reading first rest cx = reads first cx then through (with_added cx) rest
+sum_reading first rest = reads (from_left (λ p. p.part) with_added first rest)
 
 abbrev pub last_sign : ℕ → List AddedPart → ℕ
 last_sign at [] = at
@@ -137,7 +147,7 @@ abbrev pub with_multiplied : Context → Bound → MultipliedPart → Reading Bo
 with_multiplied cx a p = reads p.part cx then (λ b. rule.multiplied p.operator a b (title.literal_of p.part.form) p.at)
 
 abbrev pub product_reading : Part → List MultipliedPart → Context → Reading Bound
-product_reading first rest cx = reads first cx then through (with_multiplied cx) rest
+product_reading first rest = reads (from_left (λ p. p.part) with_multiplied first rest)
 
 abbrev pub last_operator : ℕ → List MultipliedPart → ℕ
 last_operator at [] = at

@@ -16,6 +16,7 @@ use Rattle.cq_reading.specs.Rules as rule
 use Rattle.cq_reading.specs.Parts.{Part, TestPart, LaterPart, AddedPart, MultipliedPart, ArmPart}
 use Rattle.cq_reading.specs.Expressions as e
 use Rattle.cq_reading.specs.Expressions.{reads, behind_keys}
+use Rattle.cq_reading_laws.proofs.FromLeft.{from_left_keeps}
 use Rattle.cq_reading_laws.proofs.Carrying.{Law, Carries, carrying, carries_give, carries_then, carries_through, carries_with_next, carries_each, added_carries, signed_carries, multiplied_carries, condition_carries, chain_carries, chosen_carries, coalesced_carries, counted_carries, summed_carries, keyed_carries, named_carries, named_of_carries}
 
 abbrev pub IfPart : (Part → Type 0) → Option Part → Type 0
@@ -60,19 +61,13 @@ module _ (law : Context → Law) (same : (cx : Context) (r : Reading Bound) → 
   pub is_carries : (first : Part) (rest : List NullTest) → PartCarries law first → (cx : Context) → Carries (law cx) (e.is_reading first rest cx)
   is_carries first rest h cx = carries_then _ _ _ (reads_carry first cx h) (λ a. carries_through _ (λ a t. rule.null_tested t.negated a t.at) rest a (null_tests_carry _ rest))
 
-  added_steps : (cx : Context) (rest : List AddedPart) → AllByRecursion (λ p. PartCarries law p.part) rest → AllByRecursion (λ p. (a : Bound) → Carries (law cx) (e.with_added cx a p)) rest
-  added_steps cx [] h = tt
-  added_steps cx (p ∷ more) h = ((λ a. carries_then _ _ _ (reads_carry p.part cx h.0) (λ b. added_carries _ p.operator a b p.at)), added_steps cx more h.1)
-
   pub sum_carries : (first : Part) (rest : List AddedPart) → PartCarries law first → AllByRecursion (λ p. PartCarries law p.part) rest → (cx : Context) → Carries (law cx) (e.sum_reading first rest cx)
-  sum_carries first rest h k cx = carries_then _ _ _ (reads_carry first cx h) (λ a. carries_through _ (e.with_added cx) rest a (added_steps cx rest k))
-
-  multiplied_steps : (cx : Context) (rest : List MultipliedPart) → AllByRecursion (λ p. PartCarries law p.part) rest → AllByRecursion (λ p. (a : Bound) → Carries (law cx) (e.with_multiplied cx a p)) rest
-  multiplied_steps cx [] h = tt
-  multiplied_steps cx (p ∷ more) h = ((λ a. carries_then _ _ _ (reads_carry p.part cx h.0) (λ b. multiplied_carries _ p.operator a b _ p.at)), multiplied_steps cx more h.1)
+  sum_carries first rest h k cx = reads_carry (e.from_left (λ p. p.part) e.with_added first rest) cx (from_left_keeps (λ p. p.part) e.with_added (PartCarries law)
+      (λ before p g i c. carries_then _ _ _ (reads_carry before c g) (λ a. carries_then _ _ _ (reads_carry p.part c i) (λ b. added_carries _ p.operator a b p.at))) rest first h k)
 
   pub product_carries : (first : Part) (rest : List MultipliedPart) → PartCarries law first → AllByRecursion (λ p. PartCarries law p.part) rest → (cx : Context) → Carries (law cx) (e.product_reading first rest cx)
-  product_carries first rest h k cx = carries_then _ _ _ (reads_carry first cx h) (λ a. carries_through _ (e.with_multiplied cx) rest a (multiplied_steps cx rest k))
+  product_carries first rest h k cx = reads_carry (e.from_left (λ p. p.part) e.with_multiplied first rest) cx (from_left_keeps (λ p. p.part) e.with_multiplied (PartCarries law)
+      (λ before p g i c. carries_then _ _ _ (reads_carry before c g) (λ a. carries_then _ _ _ (reads_carry p.part c i) (λ b. multiplied_carries _ p.operator a b _ p.at))) rest first h k)
 
   pub signed_reading_carries : (sign : AddOperator) (inner : Part) (form : Form) (at : ℕ) → PartCarries law inner → (cx : Context) → Carries (law cx) (e.signed_reading sign inner form at cx)
   signed_reading_carries sign inner (title.Number n) at h cx = carries_give _ _

@@ -1,5 +1,5 @@
 -- The nodes of expressions over parts that stand.
-use Rattle.std.proofs.Common.{◌≡◌, ℕ, if◌then◌else◌, Bool, true, false, ◌&&◌, ◌||◌, not, List, [], ◌∷◌, map, length, refl}
+use Rattle.std.proofs.Common.{◌≡◌, ℕ, if◌then◌else◌, Bool, true, false, ◌&&◌, ◌||◌, not, List, [], ◌∷◌, map, length, refl, sym, subst}
 use Rattle.std.specs.List.{AllByRecursion}
 use Rattle.cq_grammar.specs.declared.expr.NullTest.{NullTest}
 use Rattle.cq_grammar.specs.declared.expr.Comparison.{Comparison}
@@ -16,6 +16,7 @@ use Rattle.cq_reading.specs.Expressions.{reads, behind_keys}
 use Rattle.cq_reading_laws.specs.Bounds.{HaveBits, MayStand, Onward}
 use Rattle.cq_reading_laws.proofs.Onwards.{Later, Kept, Fine, on, lasts, gives, onwards, through_all, next_one, each_one}
 use Rattle.cq_reading_laws.proofs.Standing.{no_truth, left_true}
+use Rattle.cq_reading_laws.proofs.FromLeft.{from_left_keeps, from_left_aggregates}
 use Rattle.cq_reading_laws.proofs.FineRules.{added_fine, multiplied_fine, compared_fine, negated_fine, null_tested_fine, between_fine, listed_fine, chain_fine, PartsFine}
 use Rattle.cq_reading_laws.proofs.FineNames.{Plain, keyed_fine}
 
@@ -46,6 +47,14 @@ first_may cx false b h is = absurd (no_truth is)
 pub second_may : (cx : Context) (a b : Bool) → MayStand cx (a || b) → MayStand cx b
 second_may cx true b h is = h refl
 second_may cx false b h is = h is
+
+-- a chain from left to right
+from_left_stands : {A : Type 0} (part : A → Part) (step : Context → Bound → A → Reading Bound)
+    → ((p : A) → PartStands (part p) → (ks : List ℕ) (cx : Context) → HaveBits ks cx → MayStand cx (part p).aggregates → (x : Bound) (f : Found) → Later ks (Fine ks cx) f x → Kept ks (Fine ks cx) f (step cx x p f))
+    → (rest : List A) (before : Part) → PartStands before → AllByRecursion (λ p. PartStands (part p)) rest → PartStands (e.from_left part step before rest)
+from_left_stands part step one = from_left_keeps part step PartStands (λ before p h k. behind_stands _ _ (e.further part step before p).node (λ ks cx have may found.
+    onwards ks (Fine ks cx) (Fine ks cx) found (reads before cx found) (λ a. step cx a p) (h ks cx have (first_may cx before.aggregates _ may) found) (λ a mid l g.
+    one p k ks cx have (first_may cx (part p).aggregates false (second_may cx before.aggregates _ may)) a mid g)))
 
 module _ (ks : List ℕ) (cx : Context) (have : HaveBits ks cx) where
   pub not_stands : (inner : Part) (at : ℕ) → PartStands inner → MayStand cx (AnyOf (inner ∷ [])) → (found : Found) → Kept ks (Fine ks cx) found (e.not_reading inner at cx found)
@@ -98,33 +107,15 @@ module _ (ks : List ℕ) (cx : Context) (have : HaveBits ks cx) where
       onwards ks (Fine ks cx) (Fine ks cx) found (reads first cx found) (e.null_tests rest) (h ks cx have (first_may cx first.aggregates false may) found) (λ a mid l g.
       through_all ks (Fine ks cx) (λ a t. rule.null_tested t.negated a t.at) rest a mid (null_steps rest mid) g)
 
-  added_steps : (rest : List AddedPart) → AllByRecursion (λ p. PartStands p.part) rest → MayStand cx (AnyOf (map (λ p. p.part) rest)) → (mid : Found)
-      → AllByRecursion (λ p. (a : Bound) (f : Found) → Onward ks mid f → Later ks (Fine ks cx) f a → Kept ks (Fine ks cx) f (e.with_added cx a p f)) rest
-  added_steps [] h may mid = tt
-  added_steps (p ∷ more) h may mid = (
-    (λ a f m g. onwards ks (Fine ks cx) (Fine ks cx) f (reads p.part cx f) (λ b. rule.added p.operator a b p.at) (h.0 ks cx have (first_may cx p.part.aggregates _ may) f)
-        (λ b end l k. added_fine ks cx end p.operator a b p.at (lasts ks (Fine ks cx) f end a l g) k)),
-    added_steps more h.1 (second_may cx p.part.aggregates _ may) mid,
-  )
-
   pub sum_stands : (first : Part) (rest : List AddedPart) → PartStands first → AllByRecursion (λ p. PartStands p.part) rest → MayStand cx (AnyOf (first ∷ map (λ p. p.part) rest)) → (found : Found) → Kept ks (Fine ks cx) found (e.sum_reading first rest cx found)
-  sum_stands first rest h k may found =
-      onwards ks (Fine ks cx) (Fine ks cx) found (reads first cx found) (through (e.with_added cx) rest) (h ks cx have (first_may cx first.aggregates _ may) found) (λ a mid l g.
-      through_all ks (Fine ks cx) (e.with_added cx) rest a mid (added_steps rest k (second_may cx first.aggregates _ may) mid) g)
-
-  multiplied_steps : (rest : List MultipliedPart) → AllByRecursion (λ p. PartStands p.part) rest → MayStand cx (AnyOf (map (λ p. p.part) rest)) → (mid : Found)
-      → AllByRecursion (λ p. (a : Bound) (f : Found) → Onward ks mid f → Later ks (Fine ks cx) f a → Kept ks (Fine ks cx) f (e.with_multiplied cx a p f)) rest
-  multiplied_steps [] h may mid = tt
-  multiplied_steps (p ∷ more) h may mid = (
-    (λ a f m g. onwards ks (Fine ks cx) (Fine ks cx) f (reads p.part cx f) (λ b. rule.multiplied p.operator a b (title.literal_of p.part.form) p.at) (h.0 ks cx have (first_may cx p.part.aggregates _ may) f)
-        (λ b end l k. multiplied_fine ks cx end p.operator a b (title.literal_of p.part.form) p.at (lasts ks (Fine ks cx) f end a l g) k)),
-    multiplied_steps more h.1 (second_may cx p.part.aggregates _ may) mid,
-  )
+  sum_stands first rest h k may = from_left_stands (λ p. p.part) e.with_added
+      (λ p g ks c have m a f i. onwards ks (Fine ks c) (Fine ks c) f (reads p.part c f) (λ b. rule.added p.operator a b p.at) (g ks c have m f) (λ b end l q. added_fine ks c end p.operator a b p.at (lasts ks (Fine ks c) f end a l i) q))
+      rest first h k ks cx have (subst (MayStand cx) (sym (from_left_aggregates (λ p. p.part) e.with_added rest first)) may)
 
   pub product_stands : (first : Part) (rest : List MultipliedPart) → PartStands first → AllByRecursion (λ p. PartStands p.part) rest → MayStand cx (AnyOf (first ∷ map (λ p. p.part) rest)) → (found : Found) → Kept ks (Fine ks cx) found (e.product_reading first rest cx found)
-  product_stands first rest h k may found =
-      onwards ks (Fine ks cx) (Fine ks cx) found (reads first cx found) (through (e.with_multiplied cx) rest) (h ks cx have (first_may cx first.aggregates _ may) found) (λ a mid l g.
-      through_all ks (Fine ks cx) (e.with_multiplied cx) rest a mid (multiplied_steps rest k (second_may cx first.aggregates _ may) mid) g)
+  product_stands first rest h k may = from_left_stands (λ p. p.part) e.with_multiplied
+      (λ p g ks c have m a f i. onwards ks (Fine ks c) (Fine ks c) f (reads p.part c f) (λ b. rule.multiplied p.operator a b (title.literal_of p.part.form) p.at) (g ks c have m f) (λ b end l q. multiplied_fine ks c end p.operator a b (title.literal_of p.part.form) p.at (lasts ks (Fine ks c) f end a l i) q))
+      rest first h k ks cx have (subst (MayStand cx) (sym (from_left_aggregates (λ p. p.part) e.with_multiplied rest first)) may)
 
   -- ---- COALESCE and lists
 

@@ -1,5 +1,6 @@
 pub mod Induction
 pub mod Keeping
+pub mod FromLeft
 pub mod Carrying
 pub mod CarryingParts
 pub mod CarryingSelects

@@ -19,6 +19,7 @@ use Rattle.cq_reading.specs.Expressions as e
 use Rattle.cq_reading.specs.Expressions.{reads, behind_keys}
 use Rattle.cq_reading_laws.proofs.Standing.{no_truth}
 use Rattle.cq_reading_laws.proofs.CarryingParts.{IfPart}
+use Rattle.cq_reading_laws.proofs.FromLeft.{from_left_keeps, from_left_aggregates}
 
 abbrev pub IsRefused : {A : Type 0} → Result (A × Found) BindError → Type 0
 IsRefused (Ok p) = ⊥
@@ -95,6 +96,16 @@ by_case false r cx h k found = k found
 pub reads_refuse : (p : Part) (cx : Context) → PartRefuses p → p.aggregates ≡ true → cx.joined ≡ true → Refuses (reads p cx)
 reads_refuse p cx h a j = by_case (cx.grouped && not p.selects) p.node cx (h a (plain cx) j) (h a cx j)
 
+one_of_one : (p : Part) → e.any_aggregates (p ∷ []) ≡ true → p.aggregates ≡ true
+one_of_one p is = or_cases p.aggregates false is (λ a. a) (λ a. absurd (no_truth a))
+
+from_left_refuses : {A : Type 0} (part : A → Part) (step : Context → Bound → A → Reading Bound)
+    → ((p : A) → PartRefuses (part p) → (part p).aggregates ≡ true → (cx : Context) → cx.joined ≡ true → (x : Bound) → Refuses (step cx x p))
+    → (rest : List A) (before : Part) → PartRefuses before → AllByRecursion (λ p. PartRefuses (part p)) rest → PartRefuses (e.from_left part step before rest)
+from_left_refuses part step one = from_left_keeps part step PartRefuses (λ before p h k is cx j. or_cases before.aggregates ((part p).aggregates || false) is
+    (λ a. refuses_then (reads before cx) (λ x. step cx x p) (reads_refuse before cx h a j))
+    (λ a. refuses_behind (reads before cx) (λ x. step cx x p) (λ x. one p k (one_of_one (part p) a) cx j x)))
+
 module _ (cx : Context) (j : cx.joined ≡ true) where
   pub all_refuse : (ps : List Part) → AllByRecursion PartRefuses ps → AllByRecursion (λ p. p.aggregates ≡ true → Refuses (reads p cx)) ps
   all_refuse [] h = tt
@@ -113,26 +124,15 @@ module _ (cx : Context) (j : cx.joined ≡ true) where
       (λ a. refuses_behind (reads first cx) _ (λ x. refuses_then (through (with_next (e.read_later cx)) rest ((x, 0) ∷ [])) (rule.chained any)
       (through_refuses (λ (l : LaterPart). l.part.aggregates) (with_next (e.read_later cx)) rest ((x, 0) ∷ []) (next_refuses (λ (l : LaterPart). l.part.aggregates) (e.read_later cx) rest (later_refuse rest k)) (sym (any_map (λ (p : Part). p.aggregates) (λ (l : LaterPart). l.part) rest) ∙ a))))
 
-  added_refuse : (rest : List AddedPart) → AllByRecursion (λ p. PartRefuses p.part) rest → AllByRecursion (λ p. p.part.aggregates ≡ true → (x : Bound) → Refuses (e.with_added cx x p)) rest
-  added_refuse [] h = tt
-  added_refuse (p ∷ more) h = ((λ a x. refuses_then (reads p.part cx) (λ b. rule.added p.operator x b p.at) (reads_refuse p.part cx h.0 a j)), added_refuse more h.1)
-
   pub sum_refuses : (first : Part) (rest : List AddedPart) → PartRefuses first → AllByRecursion (λ p. PartRefuses p.part) rest → e.any_aggregates (first ∷ map (λ p. p.part) rest) ≡ true → Refuses (e.sum_reading first rest cx)
-  sum_refuses first rest h k is = or_cases first.aggregates (e.any_aggregates (map (λ (p : AddedPart). p.part) rest)) is
-      (λ a. refuses_then (reads first cx) (through (e.with_added cx) rest) (reads_refuse first cx h a j))
-      (λ a. refuses_behind (reads first cx) (through (e.with_added cx) rest) (λ x. through_refuses (λ (p : AddedPart). p.part.aggregates) (e.with_added cx) rest x (added_refuse rest k) (sym (any_map (λ (p : Part). p.aggregates) (λ (p : AddedPart). p.part) rest) ∙ a)))
-
-  multiplied_refuse : (rest : List MultipliedPart) → AllByRecursion (λ p. PartRefuses p.part) rest → AllByRecursion (λ p. p.part.aggregates ≡ true → (x : Bound) → Refuses (e.with_multiplied cx x p)) rest
-  multiplied_refuse [] h = tt
-  multiplied_refuse (p ∷ more) h = ((λ a x. refuses_then (reads p.part cx) (λ b. rule.multiplied p.operator x b (title.literal_of p.part.form) p.at) (reads_refuse p.part cx h.0 a j)), multiplied_refuse more h.1)
+  sum_refuses first rest h k is = reads_refuse (e.from_left (λ p. p.part) e.with_added first rest) cx
+      (from_left_refuses (λ p. p.part) e.with_added (λ p g a c i x. refuses_then (reads p.part c) (λ b. rule.added p.operator x b p.at) (reads_refuse p.part c g a i)) rest first h k)
+      (from_left_aggregates (λ p. p.part) e.with_added rest first ∙ is) j
 
   pub product_refuses : (first : Part) (rest : List MultipliedPart) → PartRefuses first → AllByRecursion (λ p. PartRefuses p.part) rest → e.any_aggregates (first ∷ map (λ p. p.part) rest) ≡ true → Refuses (e.product_reading first rest cx)
-  product_refuses first rest h k is = or_cases first.aggregates (e.any_aggregates (map (λ (p : MultipliedPart). p.part) rest)) is
-      (λ a. refuses_then (reads first cx) (through (e.with_multiplied cx) rest) (reads_refuse first cx h a j))
-      (λ a. refuses_behind (reads first cx) (through (e.with_multiplied cx) rest) (λ x. through_refuses (λ (p : MultipliedPart). p.part.aggregates) (e.with_multiplied cx) rest x (multiplied_refuse rest k) (sym (any_map (λ (p : Part). p.aggregates) (λ (p : MultipliedPart). p.part) rest) ∙ a)))
-
-  one_of_one : (p : Part) → e.any_aggregates (p ∷ []) ≡ true → p.aggregates ≡ true
-  one_of_one p is = or_cases p.aggregates false is (λ a. a) (λ a. absurd (no_truth a))
+  product_refuses first rest h k is = reads_refuse (e.from_left (λ p. p.part) e.with_multiplied first rest) cx
+      (from_left_refuses (λ p. p.part) e.with_multiplied (λ p g a c i x. refuses_then (reads p.part c) (λ b. rule.multiplied p.operator x b (title.literal_of p.part.form) p.at) (reads_refuse p.part c g a i)) rest first h k)
+      (from_left_aggregates (λ p. p.part) e.with_multiplied rest first ∙ is) j
 
   pub first_refuses : {B : Type 0} (p : Part) (f : Bound → Reading B) → PartRefuses p → e.any_aggregates (p ∷ []) ≡ true → Refuses (reads p cx then f)
   first_refuses p f h is = refuses_then (reads p cx) f (reads_refuse p cx h (one_of_one p is) j)

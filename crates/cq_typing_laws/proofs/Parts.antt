@@ -1,5 +1,5 @@
 -- The nodes of expressions over parts that are well typed.
-use Rattle.std.proofs.Common.{◌≡◌, ℕ, if◌then◌else◌, Bool, true, false, ◌&&◌, ◌||◌, not, List, [], ◌∷◌, map, length, refl}
+use Rattle.std.proofs.Common.{◌≡◌, ℕ, if◌then◌else◌, Bool, true, false, ◌&&◌, ◌||◌, not, List, [], ◌∷◌, map, length, refl, sym, subst}
 use Rattle.std.specs.List.{AllByRecursion}
 use Rattle.cq_grammar.specs.declared.expr.NullTest.{NullTest}
 use Rattle.cq_grammar.specs.declared.expr.Comparison.{Comparison}
@@ -13,6 +13,7 @@ use Rattle.cq_reading.specs.Parts.{Part, TestPart, LaterPart, AddedPart, Multipl
 use Rattle.cq_reading.specs.Expressions as e
 use Rattle.cq_reading.specs.Expressions.{reads, behind_keys}
 use Rattle.cq_reading_laws.specs.Bounds.{MayStand}
+use Rattle.cq_reading_laws.proofs.FromLeft.{from_left_keeps, from_left_aggregates}
 use Rattle.cq_reading_laws.proofs.FineParts.{AnyOf, first_may, second_may}
 use Rattle.cq_typing_laws.specs.Reach.{HaveKinds, WorldTyped, Onward}
 use Rattle.cq_reading_laws.proofs.Standing.{no_truth, left_true}
@@ -49,6 +50,14 @@ alone_reached z cx found h = record { world = h.world; reach = h.reach; columns 
 pub behind_typed : (selects aggregates : Bool) (r : Context → Reading Bound) → Reads aggregates r → Reads aggregates (behind_keys selects r)
 behind_typed selects aggregates r h z cx have may found =
     by_case (cx.grouped && not selects) r z cx found (left_true cx.grouped (not selects)) (h (alone z cx found) (plain cx) (alone_reached z cx found have) (λ a b. absurd (no_truth b)) rule.nothing) (h z cx have may found)
+
+-- a chain from left to right
+from_left_typed : {A : Type 0} (part : A → Part) (step : Context → Bound → A → Reading Bound)
+    → ((p : A) → PartTyped (part p) → (z : Setting) (cx : Context) → Reached z cx → MayStand cx (part p).aggregates → (x : Bound) (f : Found) → Later (Fine z cx) f x → Run z cx (Later (Fine z cx)) f (step cx x p f))
+    → (rest : List A) (before : Part) → PartTyped before → AllByRecursion (λ p. PartTyped (part p)) rest → PartTyped (e.from_left part step before rest)
+from_left_typed part step one = from_left_keeps part step PartTyped (λ before p h k. behind_typed _ _ (e.further part step before p).node (λ z cx have may found.
+    onwards z cx (Later (Fine z cx)) (Later (Fine z cx)) found (reads before cx found) (λ a. step cx a p) (h z cx have (first_may cx before.aggregates _ may) found) (λ a mid l g.
+    one p k z cx have (first_may cx (part p).aggregates false (second_may cx before.aggregates _ may)) a mid g)))
 
 module _ (z : Setting) (cx : Context) (have : Reached z cx) where
   abbrev F : Found → Bound → Type 0
@@ -104,35 +113,19 @@ module _ (z : Setting) (cx : Context) (have : Reached z cx) where
       onwards z cx F F found (reads first cx found) (e.null_tests rest) (h z cx have (first_may cx first.aggregates false may) found) (λ a mid l g.
       through_all z cx F (λ a t. rule.null_tested t.negated a t.at) rest a mid (null_steps rest mid) g)
 
-  added_steps : (rest : List AddedPart) → AllByRecursion (λ p. PartTyped p.part) rest → MayStand cx (AnyOf (map (λ p. p.part) rest)) → (mid : Found)
-      → AllByRecursion (λ p. (a : Bound) (f : Found) → Onward mid f → F f a → Run z cx F f (e.with_added cx a p f)) rest
-  added_steps [] h may mid = tt
-  added_steps (p ∷ more) h may mid = (
-    (λ a f m g. onwards z cx F F f (reads p.part cx f) (λ b. rule.added p.operator a b p.at) (h.0 z cx have (first_may cx p.part.aggregates _ may) f)
-        (λ b end l k. added_fine z cx end p.operator a b p.at (lasts (Fine z cx) f end a l g) k)),
-    added_steps more h.1 (second_may cx p.part.aggregates _ may) mid,
-  )
-
   pub sum_typed : (first : Part) (rest : List AddedPart) → PartTyped first → AllByRecursion (λ p. PartTyped p.part) rest → MayStand cx (AnyOf (first ∷ map (λ p. p.part) rest)) → (found : Found) → Run z cx F found
       (e.sum_reading first rest cx found)
-  sum_typed first rest h k may found =
-      onwards z cx F F found (reads first cx found) (through (e.with_added cx) rest) (h z cx have (first_may cx first.aggregates _ may) found) (λ a mid l g.
-      through_all z cx F (e.with_added cx) rest a mid (added_steps rest k (second_may cx first.aggregates _ may) mid) g)
-
-  multiplied_steps : (rest : List MultipliedPart) → AllByRecursion (λ p. PartTyped p.part) rest → MayStand cx (AnyOf (map (λ p. p.part) rest)) → (mid : Found)
-      → AllByRecursion (λ p. (a : Bound) (f : Found) → Onward mid f → F f a → Run z cx F f (e.with_multiplied cx a p f)) rest
-  multiplied_steps [] h may mid = tt
-  multiplied_steps (p ∷ more) h may mid = (
-    (λ a f m g. onwards z cx F F f (reads p.part cx f) (λ b. rule.multiplied p.operator a b (title.literal_of p.part.form) p.at) (h.0 z cx have (first_may cx p.part.aggregates _ may) f)
-        (λ b end l k. multiplied_fine z cx end p.operator a b (title.literal_of p.part.form) p.at (lasts (Fine z cx) f end a l g) k)),
-    multiplied_steps more h.1 (second_may cx p.part.aggregates _ may) mid,
-  )
+  sum_typed first rest h k may = from_left_typed (λ p. p.part) e.with_added
+      (λ p g y c reached m a f i. onwards y c (Later (Fine y c)) (Later (Fine y c)) f (reads p.part c f) (λ b. rule.added p.operator a b p.at) (g y c reached m f)
+      (λ b end l q. added_fine y c end p.operator a b p.at (lasts (Fine y c) f end a l i) q))
+      rest first h k z cx have (subst (MayStand cx) (sym (from_left_aggregates (λ p. p.part) e.with_added rest first)) may)
 
   pub product_typed : (first : Part) (rest : List MultipliedPart) → PartTyped first → AllByRecursion (λ p. PartTyped p.part) rest → MayStand cx (AnyOf (first ∷ map (λ p. p.part) rest)) → (found : Found) → Run z cx F found
       (e.product_reading first rest cx found)
-  product_typed first rest h k may found =
-      onwards z cx F F found (reads first cx found) (through (e.with_multiplied cx) rest) (h z cx have (first_may cx first.aggregates _ may) found) (λ a mid l g.
-      through_all z cx F (e.with_multiplied cx) rest a mid (multiplied_steps rest k (second_may cx first.aggregates _ may) mid) g)
+  product_typed first rest h k may = from_left_typed (λ p. p.part) e.with_multiplied
+      (λ p g y c reached m a f i. onwards y c (Later (Fine y c)) (Later (Fine y c)) f (reads p.part c f) (λ b. rule.multiplied p.operator a b (title.literal_of p.part.form) p.at) (g y c reached m f)
+      (λ b end l q. multiplied_fine y c end p.operator a b (title.literal_of p.part.form) p.at (lasts (Fine y c) f end a l i) q))
+      rest first h k z cx have (subst (MayStand cx) (sym (from_left_aggregates (λ p. p.part) e.with_multiplied rest first)) may)
 
   -- ---- lists
 

@@ -1,0 +1,144 @@
+//! What stands behind an operand of IN or BETWEEN.
+
+ghost use Rattle.std.specs.Prelude.{◌≡◌, map};
+ghost use Rattle.cq_reading.specs.Outcomes.{Binds};
+ghost use Rattle.cq_reading.specs.Expressions as expression;
+ghost use Rattle.cq_reading.specs.Walk.{part_of, select_of, test_part};
+ghost use Rattle.cq_bind_expressions.specs.Calls.{Nests};
+ghost use Rattle.cq_bind_expressions.specs.Pairs.{both};
+
+use crate::scopes::alloc_of;
+use crate::walk::Walk;
+use cq_bind_rules as rules;
+use cq_grammar::{Expr, Select, Test};
+use cq_reading::{BindError, Block, Bound, Found, Scope, World};
+use cq_value::Items;
+
+impl<
+    F: Fn(&mut Found, &Expr, &Scope<'_>, usize) -> Result<Bound, BindError>,
+    G: Fn(&mut Found, &Select, &World<'_>, usize) -> Result<Block, BindError>,
+> Walk<F, G> {
+    /// The number of a subquery's result, and the subquery.
+    fn subquery(
+        &self,
+        found: &mut Found,
+        select: &Select,
+        scope: &Scope<'_>,
+    ) -> Result<(u32, Block), BindError>
+        requires { Nests self.now.left (F.pre self.now.expr) (F.post self.now.expr) (G.pre self.now.select) (G.post self.now.select) }
+        ensures { Binds (both expression.numbered (select_of select.now scope.now.world) found.old) result found.new }
+    {
+        let k = rules::numbered(found)?;
+        let block = self.select(found, select, scope.world)?;
+        Ok((k, block))
+    }
+
+    fn both(
+        &self,
+        found: &mut Found,
+        first: &Expr,
+        second: &Expr,
+        scope: &Scope<'_>,
+    ) -> Result<(Bound, Bound), BindError>
+        requires { Nests self.now.left (F.pre self.now.expr) (F.post self.now.expr) (G.pre self.now.select) (G.post self.now.select) }
+        ensures { Binds (both (expression.reads (part_of first.now) scope.now) (expression.reads (part_of second.now) scope.now) found.old) result found.new }
+    {
+        let a = self.expr(found, first, scope)?;
+        let b = self.expr(found, second, scope)?;
+        Ok((a, b))
+    }
+
+    fn in_select(
+        &self,
+        found: &mut Found,
+        select: &Select,
+        scope: &Scope<'_>,
+        x: Bound,
+        negate: bool,
+        at: u64,
+    ) -> Result<Bound, BindError>
+        requires { Nests self.now.left (F.pre self.now.expr) (F.post self.now.expr) (G.pre self.now.select) (G.post self.now.select) }
+        ensures { Binds (expression.in_select_reading (select_of select.now) scope.now x negate at found.old) result found.new }
+    {
+        let subquery = self.subquery(found, select, scope)?;
+        rules::among(found, scope, x, negate, at, subquery.0, subquery.1)
+    }
+
+    fn in_list(
+        &self,
+        found: &mut Found,
+        items: &Items<Expr>,
+        scope: &Scope<'_>,
+        x: Bound,
+        negate: bool,
+        at: u64,
+    ) -> Result<Bound, BindError>
+        requires { Nests self.now.left (F.pre self.now.expr) (F.post self.now.expr) (G.pre self.now.select) (G.post self.now.select) }
+        ensures { Binds (expression.in_list_reading (map part_of items.now) scope.now x negate at found.old) result found.new }
+    {
+        let items = self.exprs(found, items, scope)?;
+        rules::listed(alloc_of(scope), negate, x, items, at)
+    }
+
+    fn between(
+        &self,
+        found: &mut Found,
+        low: &Expr,
+        high: &Expr,
+        scope: &Scope<'_>,
+        x: Bound,
+        negate: bool,
+        at: u64,
+    ) -> Result<Bound, BindError>
+        requires { Nests self.now.left (F.pre self.now.expr) (F.post self.now.expr) (G.pre self.now.select) (G.post self.now.select) }
+        ensures { Binds (expression.between_reading (part_of low.now) (part_of high.now) scope.now x negate at found.old) result found.new }
+    {
+        let ends = self.both(found, low, high, scope)?;
+        rules::between(alloc_of(scope), negate, x, ends.0, ends.1, at)
+    }
+
+    /// What is asked of the operand `x`, which is bound.
+    #[tactic(auto, using(cq_bind_looks::proofs::Looks::looks))]
+    fn test(
+        &self,
+        found: &mut Found,
+        test: &Test,
+        scope: &Scope<'_>,
+        x: Bound,
+        negate: bool,
+        at: u64,
+    ) -> Result<Bound, BindError>
+        requires { Nests self.now.left (F.pre self.now.expr) (F.post self.now.expr) (G.pre self.now.select) (G.post self.now.select) }
+        ensures { Binds ((test_part test.now).tests scope.now x negate at found.old) result found.new }
+    {
+        match test {
+            Test::InSelect { select } => self.in_select(found, select.get(), scope, x, negate, at),
+            Test::InList { items } => self.in_list(found, items, scope, x, negate, at),
+            Test::Between { low, high } => self.between(
+                found,
+                low.get(),
+                high.get(),
+                scope,
+                x,
+                negate,
+                at,
+            ),
+        }
+    }
+
+    pub(crate) fn tested(
+        &self,
+        found: &mut Found,
+        operand: &Expr,
+        negated: bool,
+        test: &Test,
+        at: u64,
+        scope: &Scope<'_>,
+    ) -> Result<Bound, BindError>
+        requires { Nests self.now.left (F.pre self.now.expr) (F.post self.now.expr) (G.pre self.now.select) (G.post self.now.select) }
+        ensures { Binds (expression.tested_reading (part_of operand.now) negated (test_part test.now) at scope.now found.old) result found.new }
+    {
+        let x = self.expr(found, operand, scope)?;
+        self.test(found, test, scope, x, negated, at)
+    }
+}
