@@ -1,9 +1,5 @@
 pub mod Blocks
 pub mod Froms
-pub mod Grouping
-pub mod Keys
 pub mod Layers
 pub mod Made
 pub mod Ordering
-pub mod Picks
-pub mod Targets

@@ -1,4 +1,2 @@
 pub mod Blocks
 pub mod Joins
-pub mod Picks
-pub mod Stars

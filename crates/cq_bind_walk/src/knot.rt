@@ -7,6 +7,7 @@ ghost use Rattle.cq_reading.specs.Walk.{part_of, select_of};
 
 use crate::walk::Selects;
 use cq_bind_expressions::Walk;
+use cq_bind_lists::Lists;
 use cq_grammar::{Expr, Select};
 use cq_reading::{BindError, Block, Bound, Found, Scope, World};
 
@@ -30,5 +31,6 @@ pub fn select(
     ensures { Binds (select_of q.now world.now found.old) result found.new }
 {
     let walk = Walk { left, expr, select };
-    Selects { walk }.block(found, q, world)
+    let lists = Lists { walk };
+    Selects { lists }.block(found, q, world)
 }

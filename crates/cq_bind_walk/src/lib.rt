@@ -2,10 +2,9 @@
 //! refusal in it.
 #![tactic(auto)]
 
-mod groups;
+mod clauses;
 mod knot;
 mod orders;
-mod outputs;
 mod relations;
 mod selects;
 mod walk;

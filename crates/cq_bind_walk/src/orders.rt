@@ -50,10 +50,10 @@ impl<
         distinct: bool,
         scope: &Scope<'_>,
     ) -> Result<Ordered, BindError>
-        requires { Nests self.now.walk.left (F.pre self.now.walk.expr) (F.post self.now.walk.expr) (G.pre self.now.walk.select) (G.post self.now.walk.select) }
+        requires { Nests self.now.lists.walk.left (F.pre self.now.lists.walk.expr) (F.post self.now.lists.walk.expr) (G.pre self.now.lists.walk.select) (G.post self.now.lists.walk.select) }
         ensures { Binds (spec.order_by_expression scope.now outputs.now distinct (order_part key.now) order found.old) result found.new }
     {
-        let b = self.value(found, &key.key, scope)?;
+        let b = self.lists.value(found, &key.key, scope)?;
         key_by_value(
             0,
             distinct,
@@ -75,7 +75,7 @@ impl<
         distinct: bool,
         scope: &Scope<'_>,
     ) -> Result<Ordered, BindError>
-        requires { Nests self.now.walk.left (F.pre self.now.walk.expr) (F.post self.now.walk.expr) (G.pre self.now.walk.select) (G.post self.now.walk.select) }
+        requires { Nests self.now.lists.walk.left (F.pre self.now.lists.walk.expr) (F.post self.now.lists.walk.expr) (G.pre self.now.lists.walk.select) (G.post self.now.lists.walk.select) }
         ensures { Binds (spec.order_by_name scope.now outputs.now distinct (order_part key.now) order name.now (position (spec.has_title name.now) outputs.now) found.old) result found.new }
     {
         match output_place(name, outputs) {
@@ -101,7 +101,7 @@ impl<
         distinct: bool,
         scope: &Scope<'_>,
     ) -> Result<Ordered, BindError>
-        requires { Nests self.now.walk.left (F.pre self.now.walk.expr) (F.post self.now.walk.expr) (G.pre self.now.walk.select) (G.post self.now.walk.select) }
+        requires { Nests self.now.lists.walk.left (F.pre self.now.lists.walk.expr) (F.post self.now.lists.walk.expr) (G.pre self.now.lists.walk.select) (G.post self.now.lists.walk.select) }
         ensures { Binds (spec.order_by_form scope.now outputs.now distinct (order_part key.now) order (order_part key.now).key.form found.old) result found.new }
     {
         match form(&key.key) {
@@ -130,7 +130,7 @@ impl<
         distinct: bool,
         scope: &Scope<'_>,
     ) -> Result<Ordered, BindError>
-        requires { Nests self.now.walk.left (F.pre self.now.walk.expr) (F.post self.now.walk.expr) (G.pre self.now.walk.select) (G.post self.now.walk.select) }
+        requires { Nests self.now.lists.walk.left (F.pre self.now.lists.walk.expr) (F.post self.now.lists.walk.expr) (G.pre self.now.lists.walk.select) (G.post self.now.lists.walk.select) }
         ensures { Binds (spec.with_order_key scope.now outputs.now distinct order (order_part key.now) found.old) result found.new }
     {
         check_keys(&order)?;
@@ -148,7 +148,7 @@ impl<
         order: Ordered,
         scope: &Scope<'_>,
     ) -> Result<Ordered, BindError>
-        requires { Nests self.now.walk.left (F.pre self.now.walk.expr) (F.post self.now.walk.expr) (G.pre self.now.walk.select) (G.post self.now.walk.select) }
+        requires { Nests self.now.lists.walk.left (F.pre self.now.lists.walk.expr) (F.post self.now.lists.walk.expr) (G.pre self.now.lists.walk.select) (G.post self.now.lists.walk.select) }
         ensures { Binds (spec.order_keys scope.now outputs.now distinct (map order_part keys.now) order found.old) result found.new }
     {
         through(

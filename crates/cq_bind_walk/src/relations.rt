@@ -4,7 +4,6 @@ ghost use Rattle.std.specs.Prelude.{◌≡◌, [], ◌∷◌, ◌++◌, map, len
 ghost use Rattle.cq_tree.specs.declared.query.FromTree.{Inner, Left};
 ghost use Rattle.cq_reading.specs.declared.error.BindError.TheVariants.{Memory};
 ghost use Rattle.cq_reading.specs.Outcomes.{Binds};
-ghost use Rattle.cq_reading.specs.Scopes as scopes;
 ghost use Rattle.cq_reading.specs.Relations as relation;
 ghost use Rattle.cq_reading.specs.Walk.{part_of, select_of, relation_part, join_part, from_part};
 ghost use Rattle.cq_bind_expressions.specs.Calls.{Nests};
@@ -12,12 +11,10 @@ ghost use Rattle.cq_bind_walk.specs.Joins as joins;
 
 use crate::walk::Selects;
 use cq_bind_expressions::{through, through_slice};
-use cq_bind_looks::place;
 use cq_bind_names::{
     all_names, check_one_more, crossed, joined_inner, joined_left, no_relations, reached,
     subquery_relation, table_relation,
 };
-use cq_bind_rules::condition;
 use cq_grammar::{Expr, From, Join, Name, Relation, Select};
 use cq_reading::{BindError, Block, Bound, Found, Relations, Scope, Source, World};
 use cq_tree::Cond;
@@ -53,20 +50,6 @@ impl<
     F: Fn(&mut Found, &Expr, &Scope<'_>, usize) -> Result<Bound, BindError>,
     G: Fn(&mut Found, &Select, &World<'_>, usize) -> Result<Block, BindError>,
 > Selects<F, G> {
-    /// A condition, which is refused at its root with 14 where it is none.
-    pub fn condition(
-        &self,
-        found: &mut Found,
-        e: &Expr,
-        scope: &Scope<'_>,
-    ) -> Result<Cond, BindError>
-        requires { Nests self.now.walk.left (F.pre self.now.walk.expr) (F.post self.now.walk.expr) (G.pre self.now.walk.select) (G.post self.now.walk.select) }
-        ensures { Binds (relation.condition_of (part_of e.now) scope.now found.old) result found.new }
-    {
-        let b = self.walk.expr(found, e, scope)?;
-        condition(b, place(e))
-    }
-
     /// A subquery under an alias, behind relations of these names.
     fn derived(
         &self,
@@ -76,11 +59,11 @@ impl<
         world: &World<'_>,
         names: &[Text],
     ) -> Result<Relations, BindError>
-        requires { Nests self.now.walk.left (F.pre self.now.walk.expr) (F.post self.now.walk.expr) (G.pre self.now.walk.select) (G.post self.now.walk.select) }
+        requires { Nests self.now.lists.walk.left (F.pre self.now.lists.walk.expr) (F.post self.now.lists.walk.expr) (G.pre self.now.lists.walk.select) (G.post self.now.lists.walk.select) }
         ensures { Binds (joins.subquery_reading (select_of select.now) alias.now world.now names.now found.old) result found.new }
     {
         check_one_more(names)?;
-        let block = self.walk.select(found, select, world)?;
+        let block = self.lists.walk.select(found, select, world)?;
         subquery_relation(world.alloc, alias, names, block)
     }
 
@@ -93,7 +76,7 @@ impl<
         world: &World<'_>,
         names: &[Text],
     ) -> Result<Relations, BindError>
-        requires { Nests self.now.walk.left (F.pre self.now.walk.expr) (F.post self.now.walk.expr) (G.pre self.now.walk.select) (G.post self.now.walk.select) }
+        requires { Nests self.now.lists.walk.left (F.pre self.now.lists.walk.expr) (F.post self.now.lists.walk.expr) (G.pre self.now.lists.walk.select) (G.post self.now.lists.walk.select) }
         ensures { Binds (relation_part relation.now world.now names.now found.old) result found.new }
     {
         match relation {
@@ -114,7 +97,7 @@ impl<
         names: &[Text],
         a: &Relations,
     ) -> Result<Relations, BindError>
-        requires { Nests self.now.walk.left (F.pre self.now.walk.expr) (F.post self.now.walk.expr) (G.pre self.now.walk.select) (G.post self.now.walk.select) }
+        requires { Nests self.now.lists.walk.left (F.pre self.now.lists.walk.expr) (F.post self.now.lists.walk.expr) (G.pre self.now.lists.walk.select) (G.post self.now.lists.walk.select) }
         ensures { Binds (relation_part relation.now world.now (names.now ++ a.now.names) found.old) result found.new }
     {
         let names = all_names(world.alloc, names, a)?;
@@ -131,11 +114,12 @@ impl<
         a: &Relations,
         b: &Relations,
     ) -> Result<Cond, BindError>
-        requires { Nests self.now.walk.left (F.pre self.now.walk.expr) (F.post self.now.walk.expr) (G.pre self.now.walk.select) (G.post self.now.walk.select) }
+        requires { Nests self.now.lists.walk.left (F.pre self.now.lists.walk.expr) (F.post self.now.lists.walk.expr) (G.pre self.now.lists.walk.select) (G.post self.now.lists.walk.select) }
         ensures { Binds (relation.condition_of (part_of on.now) (relation.on_context world.now first (a.now.columns ++ b.now.columns)) found.old) result found.new }
     {
         let columns = reached(world.alloc, a, b)?;
-        self.condition(found, on, &on_scope(world, first, columns.as_slice()))
+        self.lists
+            .condition(found, on, &on_scope(world, first, columns.as_slice()))
     }
 
     fn inner_join(
@@ -148,7 +132,7 @@ impl<
         names: &[Text],
         first: u32,
     ) -> Result<Relations, BindError>
-        requires { Nests self.now.walk.left (F.pre self.now.walk.expr) (F.post self.now.walk.expr) (G.pre self.now.walk.select) (G.post self.now.walk.select) }
+        requires { Nests self.now.lists.walk.left (F.pre self.now.lists.walk.expr) (F.post self.now.lists.walk.expr) (G.pre self.now.lists.walk.select) (G.post self.now.lists.walk.select) }
         ensures { Binds (joins.joined_reading Inner (relation_part relation.now) (part_of on.now) world.now names.now first a found.old) result found.new }
     {
         let b = self.beside(found, relation, world, names, &a)?;
@@ -166,7 +150,7 @@ impl<
         names: &[Text],
         first: u32,
     ) -> Result<Relations, BindError>
-        requires { Nests self.now.walk.left (F.pre self.now.walk.expr) (F.post self.now.walk.expr) (G.pre self.now.walk.select) (G.post self.now.walk.select) }
+        requires { Nests self.now.lists.walk.left (F.pre self.now.lists.walk.expr) (F.post self.now.lists.walk.expr) (G.pre self.now.lists.walk.select) (G.post self.now.lists.walk.select) }
         ensures { Binds (joins.joined_reading Left (relation_part relation.now) (part_of on.now) world.now names.now first a found.old) result found.new }
     {
         let b = self.beside(found, relation, world, names, &a)?;
@@ -182,7 +166,7 @@ impl<
         world: &World<'_>,
         names: &[Text],
     ) -> Result<Relations, BindError>
-        requires { Nests self.now.walk.left (F.pre self.now.walk.expr) (F.post self.now.walk.expr) (G.pre self.now.walk.select) (G.post self.now.walk.select) }
+        requires { Nests self.now.lists.walk.left (F.pre self.now.lists.walk.expr) (F.post self.now.lists.walk.expr) (G.pre self.now.lists.walk.select) (G.post self.now.lists.walk.select) }
         ensures { Binds (joins.crossed_reading (relation_part relation.now) world.now names.now a found.old) result found.new }
     {
         let b = self.beside(found, relation, world, names, &a)?;
@@ -200,7 +184,7 @@ impl<
         names: &[Text],
         first: u32,
     ) -> Result<Relations, BindError>
-        requires { Nests self.now.walk.left (F.pre self.now.walk.expr) (F.post self.now.walk.expr) (G.pre self.now.walk.select) (G.post self.now.walk.select) }
+        requires { Nests self.now.lists.walk.left (F.pre self.now.lists.walk.expr) (F.post self.now.lists.walk.expr) (G.pre self.now.lists.walk.select) (G.post self.now.lists.walk.select) }
         ensures { Binds (relation.with_join world.now names.now first a (join_part join.now) found.old) result found.new }
     {
         match join {
@@ -223,7 +207,7 @@ impl<
         names: &[Text],
         first: u32,
     ) -> Result<Relations, BindError>
-        requires { Nests self.now.walk.left (F.pre self.now.walk.expr) (F.post self.now.walk.expr) (G.pre self.now.walk.select) (G.post self.now.walk.select) }
+        requires { Nests self.now.lists.walk.left (F.pre self.now.lists.walk.expr) (F.post self.now.lists.walk.expr) (G.pre self.now.lists.walk.select) (G.post self.now.lists.walk.select) }
         ensures { Binds (from_part from.now world.now names.now first found.old) result found.new }
     {
         let relation = self.relation(found, &from.first, world, names)?;
@@ -244,7 +228,7 @@ impl<
         world: &World<'_>,
         a: &Relations,
     ) -> Result<Relations, BindError>
-        requires { Nests self.now.walk.left (F.pre self.now.walk.expr) (F.post self.now.walk.expr) (G.pre self.now.walk.select) (G.post self.now.walk.select) }
+        requires { Nests self.now.lists.walk.left (F.pre self.now.lists.walk.expr) (F.post self.now.lists.walk.expr) (G.pre self.now.lists.walk.select) (G.post self.now.lists.walk.select) }
         ensures { Binds (from_part from.now world.now a.now.names (length a.now.columns) found.old) result found.new }
     {
         let first = how_many(a.columns.as_slice())?;
@@ -259,7 +243,7 @@ impl<
         from: &From,
         world: &World<'_>,
     ) -> Result<Relations, BindError>
-        requires { Nests self.now.walk.left (F.pre self.now.walk.expr) (F.post self.now.walk.expr) (G.pre self.now.walk.select) (G.post self.now.walk.select) }
+        requires { Nests self.now.lists.walk.left (F.pre self.now.lists.walk.expr) (F.post self.now.lists.walk.expr) (G.pre self.now.lists.walk.select) (G.post self.now.lists.walk.select) }
         ensures { Binds (relation.with_product world.now a (from_part from.now) found.old) result found.new }
     {
         let b = self.from_behind(found, from, world, &a)?;
@@ -272,7 +256,7 @@ impl<
         from: &From,
         world: &World<'_>,
     ) -> Result<Relations, BindError>
-        requires { Nests self.now.walk.left (F.pre self.now.walk.expr) (F.post self.now.walk.expr) (G.pre self.now.walk.select) (G.post self.now.walk.select) }
+        requires { Nests self.now.lists.walk.left (F.pre self.now.lists.walk.expr) (F.post self.now.lists.walk.expr) (G.pre self.now.lists.walk.select) (G.post self.now.lists.walk.select) }
         ensures { Binds (from_part from.now world.now [] 0 found.old) result found.new }
     {
         let names = Names::new(world.alloc);
@@ -287,7 +271,7 @@ impl<
         more: &[From],
         world: &World<'_>,
     ) -> Result<Relations, BindError>
-        requires { Nests self.now.walk.left (F.pre self.now.walk.expr) (F.post self.now.walk.expr) (G.pre self.now.walk.select) (G.post self.now.walk.select) }
+        requires { Nests self.now.lists.walk.left (F.pre self.now.lists.walk.expr) (F.post self.now.lists.walk.expr) (G.pre self.now.lists.walk.select) (G.post self.now.lists.walk.select) }
         ensures { Binds (relation.from_of world.now (from_part first.now ∷ map from_part more.now) found.old) result found.new }
     {
         let first = self.first_from(found, first, world)?;
@@ -308,7 +292,7 @@ impl<
         from: &Items<From>,
         world: &World<'_>,
     ) -> Result<Relations, BindError>
-        requires { Nests self.now.walk.left (F.pre self.now.walk.expr) (F.post self.now.walk.expr) (G.pre self.now.walk.select) (G.post self.now.walk.select) }
+        requires { Nests self.now.lists.walk.left (F.pre self.now.lists.walk.expr) (F.post self.now.lists.walk.expr) (G.pre self.now.lists.walk.select) (G.post self.now.lists.walk.select) }
         ensures { Binds (relation.from_of world.now (map from_part from.now) found.old) result found.new }
     {
         match from.as_slice() {

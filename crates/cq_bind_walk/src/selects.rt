@@ -171,17 +171,17 @@ impl<
         relations: &Relations,
         world: &World<'_>,
     ) -> Result<(Cond, Exprs), BindError>
-        requires { Nests self.now.walk.left (F.pre self.now.walk.expr) (F.post self.now.walk.expr) (G.pre self.now.walk.select) (G.post self.now.walk.select) }
+        requires { Nests self.now.lists.walk.left (F.pre self.now.lists.walk.expr) (F.post self.now.lists.walk.expr) (G.pre self.now.lists.walk.select) (G.post self.now.lists.walk.select) }
         ensures { Binds (blocks.conditions_reading (layer_of q.now) world.now relations.now found.old) result found.new }
     {
         let filter = self.filter(found, &q.filter, &scope_before(world, relations, true))?;
         let scope = scope_before(world, relations, false);
-        let keys = self.groups(found, &q.groups, &q.items, &scope)?;
+        let keys = self.lists.groups(found, &q.groups, &q.items, &scope)?;
         Ok((filter, keys))
     }
 
     fn rows(&self, found: &mut Found, q: &Select, world: &World<'_>) -> Result<Rows, BindError>
-        requires { Nests self.now.walk.left (F.pre self.now.walk.expr) (F.post self.now.walk.expr) (G.pre self.now.walk.select) (G.post self.now.walk.select) }
+        requires { Nests self.now.lists.walk.left (F.pre self.now.lists.walk.expr) (F.post self.now.lists.walk.expr) (G.pre self.now.lists.walk.select) (G.post self.now.lists.walk.select) }
         ensures { Binds (blocks.rows_reading (layer_of q.now) world.now found.old) result found.new }
     {
         let relations = self.relations(found, &q.from, world)?;
@@ -198,10 +198,10 @@ impl<
         keys: &Items<OrderKey>,
         scope: &Scope<'_>,
     ) -> Result<(ShownList, Ordered), BindError>
-        requires { Nests self.now.walk.left (F.pre self.now.walk.expr) (F.post self.now.walk.expr) (G.pre self.now.walk.select) (G.post self.now.walk.select) }
+        requires { Nests self.now.lists.walk.left (F.pre self.now.lists.walk.expr) (F.post self.now.lists.walk.expr) (G.pre self.now.lists.walk.select) (G.post self.now.lists.walk.select) }
         ensures { Binds (blocks.ordered_reading (map item_part items.now) distinct (map order_part keys.now) scope.now found.old) result found.new }
     {
-        let outputs = self.outputs(found, items, scope)?;
+        let outputs = self.lists.outputs(found, items, scope)?;
         let order = unordered(alloc_of(scope), outputs.as_slice())?;
         let order = self.orders(found, keys, outputs.as_slice(), distinct, order, scope)?;
         Ok((outputs, order))
@@ -215,7 +215,7 @@ impl<
         grouped: bool,
         world: &World<'_>,
     ) -> Result<Shape, BindError>
-        requires { Nests self.now.walk.left (F.pre self.now.walk.expr) (F.post self.now.walk.expr) (G.pre self.now.walk.select) (G.post self.now.walk.select) }
+        requires { Nests self.now.lists.walk.left (F.pre self.now.lists.walk.expr) (F.post self.now.lists.walk.expr) (G.pre self.now.lists.walk.select) (G.post self.now.lists.walk.select) }
         ensures { Binds (blocks.shape_reading (layer_of q.now) world.now grouped rows.now found.old) result found.new }
     {
         let having = self.having(found, &q.having, &scope_after(world, rows, grouped, true))?;
@@ -235,7 +235,7 @@ impl<
         grouped: bool,
         world: &World<'_>,
     ) -> Result<(Rows, Shape), BindError>
-        requires { Nests self.now.walk.left (F.pre self.now.walk.expr) (F.post self.now.walk.expr) (G.pre self.now.walk.select) (G.post self.now.walk.select) }
+        requires { Nests self.now.lists.walk.left (F.pre self.now.lists.walk.expr) (F.post self.now.lists.walk.expr) (G.pre self.now.lists.walk.select) (G.post self.now.lists.walk.select) }
         ensures { Binds (blocks.parts_reading (layer_of q.now) world.now grouped found.old) result found.new }
     {
         let rows = self.rows(found, q, world)?;
@@ -250,7 +250,7 @@ impl<
         q: &Select,
         world: &World<'_>,
     ) -> Result<Block, BindError>
-        requires { Nests self.now.walk.left (F.pre self.now.walk.expr) (F.post self.now.walk.expr) (G.pre self.now.walk.select) (G.post self.now.walk.select) }
+        requires { Nests self.now.lists.walk.left (F.pre self.now.lists.walk.expr) (F.post self.now.lists.walk.expr) (G.pre self.now.lists.walk.select) (G.post self.now.lists.walk.select) }
         ensures { Binds (select_of q.now world.now found.old) result found.new }
     {
         let outer = enter(found, world.alloc)?;

@@ -1,0 +1,4 @@
+pub mod Grouping
+pub mod Keys
+pub mod Picks
+pub mod Targets

@@ -1,0 +1,12 @@
+use Rattle.cq_bind_lists.specs.Stars.{with_output}
+use Rattle.cq_bind_lists.proofs.Targets.{by_all, by_relation, by_value}
+use Rattle.cq_bind_lists.proofs.lists.Lists.item_outputs.Goals as goal
+
+pub returns-in-All : goal.returns-in-All
+returns-in-All g c = by_all (with_output c.args.scope.now) c.args.scope.now.columns c.args.before c.args.found.now _ c.star_outputs.new.found _ _ c.in-All.is c.star_outputs.ensures
+
+pub returns-in-AllOf : goal.returns-in-AllOf
+returns-in-AllOf g c = by_relation (with_output c.args.scope.now) c.args.scope.now.columns c.args.before c.args.found.now _ c.relation_outputs.new.found _ _ c.in-AllOf.is c.relation_outputs.ensures
+
+pub returns-in-Value : goal.returns-in-Value
+returns-in-Value g c = by_value (with_output c.args.scope.now) c.args.scope.now.columns c.args.before c.args.found.now _ c.value_output.new.found _ _ _ c.in-Value.is c.value_output.ensures
