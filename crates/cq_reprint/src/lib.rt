@@ -1,0 +1,8 @@
+//! The printer of bound statements: a text is given out only where it is read again as the statement.
+#![tactic(auto)]
+
+mod error;
+mod printing;
+
+pub use error::PrintError;
+pub use printing::print;

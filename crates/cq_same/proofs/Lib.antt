@@ -1,0 +1,6 @@
+mod Decided
+mod EqualLaws
+mod Equals
+mod Owned
+mod Truths
+mod Wholes
