@@ -1,6 +1,6 @@
 -- How the relations of a FROM are written. Each has an alias by its place: r1, r2, .. from left to right.
 use Rattle.std.specs.Prelude.{ℕ, ◌+◌, List, [], ◌∷◌, ◌++◌, map, length, codes, decimal, slice_get, max, nat_eq, Bool, true, false, Option, None, Some}
-use Rattle.std.specs.List.{prefix_len, repeat}
+use Rattle.std.specs.List.{prefix_len, repeat, fold}
 use Rattle.cq_value.specs.declared.schema.Column as schema
 use Rattle.cq_catalog.specs.declared.info.TableInfo.{TableInfo}
 use Rattle.cq_tree.specs.declared.query.Query as tree
@@ -28,8 +28,7 @@ alias place = codes "r" ++ decimal (place + 1)
 
 -- how often the letter c stands at the beginning of a table's name, at most
 abbrev pub longest : List TableInfo → ℕ
-longest [] = 0
-longest (t ∷ more) = max (prefix_len (nat_eq 99) t.name) (longest more)
+longest tables = fold (λ n t. max n (prefix_len (nat_eq 99) t.name)) 0 tables
 
 -- the letter c, once more
 abbrev pub stem : List TableInfo → List ℕ

@@ -1,6 +1,6 @@
 //! The select list.
 
-ghost use Rattle.std.specs.Prelude.{◌≡◌, ◌++◌, ◌-◌, ◌<◌, ◌^◌, true, length, IfOk, option_copied};
+ghost use Rattle.std.specs.Prelude.{◌≡◌, ◌++◌, ◌-◌, ◌<◌, ◌^◌, true, length, slice_get, IfOk, option_copied};
 ghost use Rattle.cq_tree.specs.declared.expression.Expr.{out-Expr};
 ghost use Rattle.cq_tree.specs.declared.query.Query.{out-Query};
 ghost use Rattle.cq_print_phrases.specs.Expressions.{phrase_of};
@@ -57,15 +57,29 @@ fn is_from_column(q: &Query, place: u64, x: &Expr) -> bool
     }
 }
 
+/// The key in this place.
+fn key_of(keys: &[Expr], place: u32) -> Option<&Expr>
+    ensures { option_copied result ≡ slice_get keys.now place }
+{
+    keys.get(place as usize)
+}
+
+fn is_column_in(place: u64, x: Option<&Expr>) -> bool
+    ensures is { result ≡ written.is_column_in place (option_copied x.entry) }
+    ensures small { result ≡ true → place < 2 ^ 32 }
+{
+    match x {
+        Some(x) => is_column(place, x),
+        None => false,
+    }
+}
+
 fn is_key_column(keys: &[Expr], place: u64, x: &Expr) -> bool
     ensures is { result ≡ written.is_key_column keys.now place x.now }
     ensures small { result ≡ true → place < 2 ^ 32 }
 {
     match x {
-        Expr::Column(at) => match keys.get(*at as usize) {
-            Some(key) => is_column(place, key),
-            None => false,
-        },
+        Expr::Column(at) => is_column_in(place, key_of(keys, *at)),
         _ => false,
     }
 }
@@ -80,9 +94,10 @@ fn begins(q: &Query, first: u64, columns: &[Text], items: &[Expr], names: &[Text
     let (Some((x, items)), Some((name, names))) = (items.split_first(), names.split_first()) else {
         return false;
     };
-    is_from_column(q, first, x)
-        && name.as_str() == column.as_str()
-        && begins(q, first + 1, columns, items, names)
+    if !is_from_column(q, first, x) {
+        return false;
+    }
+    name.as_str() == column.as_str() && begins(q, first + 1, columns, items, names)
 }
 
 fn is_begun_by(q: &Query, items: &[Expr], names: &[Text], star: &Star) -> bool

@@ -1,7 +1,8 @@
 //! The parts of a SELECT.
 
-ghost use Rattle.std.specs.Prelude.{◌≡◌, map, IfOk};
+ghost use Rattle.std.specs.Prelude.{◌≡◌, map, position, IfOk};
 ghost use Rattle.cq_tree.specs.declared.query.Query.{out-Query};
+ghost use Rattle.cq_same.specs.Equal.{equal_exprs};
 ghost use Rattle.cq_bind_print.specs.Relations.{columns_from};
 ghost use Rattle.cq_bind_print.specs.Selects as written;
 
