@@ -145,7 +145,7 @@ const SUBQUERIES: [(&str, &str); 11] = [
     ),
 ];
 
-const GROUPS: [(&str, &str); 16] = [
+const GROUPS: [(&str, &str); 19] = [
     ("SELECT count(*), sum(v), min(s), max(k) FROM t", ""),
     (
         "SELECT v, count(*) FROM t GROUP BY v",
@@ -177,6 +177,18 @@ const GROUPS: [(&str, &str); 16] = [
     ("SELECT count(*) FROM t GROUP BY v ORDER BY v, v + 1", ""),
     (
         "SELECT v * 2 AS a, v * 2 * 3 AS b FROM t GROUP BY v * 2, v",
+        "",
+    ),
+    (
+        "SELECT v + k + 1 AS a FROM t GROUP BY v + k",
+        "SELECT ( r1 . v + r1 . k ) + 1 AS a FROM t AS r1 GROUP BY r1 . v + r1 . k",
+    ),
+    (
+        "SELECT v * 2 * 3 AS b FROM t GROUP BY v * 2",
+        "SELECT ( r1 . v * 2 ) * 3 AS b FROM t AS r1 GROUP BY r1 . v * 2",
+    ),
+    (
+        "SELECT v + k - 1 AS a, v + k AS b FROM t GROUP BY v + k",
         "",
     ),
     (
