@@ -3,4 +3,3 @@ pub mod Joining
 pub mod Worlds
 pub mod Keys
 pub mod Blocks
-pub mod Trees

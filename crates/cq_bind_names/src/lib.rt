@@ -3,14 +3,12 @@
 #![tactic(auto)]
 
 mod blocks;
-mod equal;
 mod memory;
 mod orders;
 mod relations;
 mod same;
 
 pub use blocks::{Clauses, Outer, Parts, block_of, enter, leave, unordered};
-pub use equal::same_expr;
 pub use orders::{key_by_number, key_by_output, key_by_value, one_of, output_place};
 pub use relations::{
     all_names, check_one_more, crossed, joined_inner, joined_left, no_relations, reached,

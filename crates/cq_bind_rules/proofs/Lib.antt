@@ -1,6 +1,5 @@
 pub mod ChainLaws
 pub mod Divisions
-pub mod EqualLaws
 pub mod Placed
 pub mod Results
 pub mod Truths

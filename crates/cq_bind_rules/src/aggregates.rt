@@ -6,11 +6,25 @@ ghost use Rattle.cq_reading.specs.Widths.{expr_of};
 ghost use Rattle.cq_bind_rules.specs.Placing.{PlacedIn, SummedOr};
 
 use crate::columns::column_number;
-use crate::equal::same_agg;
 use crate::operands::{expr, is_number, is_value, kind, width};
 use cq_grammar::Aggregate;
 use cq_reading::{BindError, Bound, Found, Scope, Type};
+use cq_same::same_expr;
 use cq_tree::{Agg, Expr};
+
+/// Whether two aggregates are one aggregate.
+fn same_agg(a: &Agg, b: &Agg) -> bool
+    ensures { result ≡ equal_aggs a.now b.now }
+{
+    match (a, b) {
+        (Agg::CountAll, Agg::CountAll) => true,
+        (Agg::Count(e), Agg::Count(f))
+        | (Agg::Sum(e), Agg::Sum(f))
+        | (Agg::Min(e), Agg::Min(f))
+        | (Agg::Max(e), Agg::Max(f)) => same_expr(e, f),
+        _ => false,
+    }
+}
 
 fn agg_place(aggs: &[Agg], agg: &Agg) -> Option<usize>
     ensures { result ≡ position (equal_aggs agg.now) aggs.now }

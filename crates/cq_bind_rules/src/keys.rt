@@ -1,11 +1,11 @@
 ghost use Rattle.std.specs.Prelude.{◌≡◌, position, MatchResult};
 ghost use Rattle.cq_reading.specs.declared.error.BindError.TheVariants.{Memory};
-ghost use Rattle.cq_reading.specs.Equal.{equal_exprs};
+ghost use Rattle.cq_same.specs.Equal.{equal_exprs};
 ghost use Rattle.cq_reading.specs.Rules as rule;
 
 use crate::columns::column_number;
-use crate::equal::same_expr;
 use cq_reading::{BindError, Bound};
+use cq_same::same_expr;
 use cq_tree::Expr;
 
 fn key_place(keys: &[Expr], e: &Expr) -> Option<usize>

@@ -8,9 +8,11 @@ use Rattle.cq_tree.specs.declared.query.Agg.{Agg}
 use Rattle.cq_meaning.specs.Widths.{bits, bits_of_aggregate, group_bits, IsBoundAggregate}
 use Rattle.cq_reading.specs.Widths.{is_some}
 use Rattle.std.proofs.Common.{if◌then◌else◌}
-use Rattle.cq_reading.specs.Equal.{equal_exprs, equal_aggs}
+use Rattle.cq_reading.specs.Equal.{equal_aggs}
+use Rattle.cq_same.specs.Equal.{equal_exprs}
 use Rattle.cq_reading.specs.Rules.{place_among, with_aggregate}
-use Rattle.cq_reading_laws.proofs.Equals.{exprs_same, aggs_same}
+use Rattle.cq_same.proofs.Equals.{exprs_same}
+use Rattle.cq_reading_laws.proofs.Equals.{aggs_same}
 
 append_none : {A : Type 0} (xs : List A) → xs ++ [] ≡ xs
 append_none [] = refl

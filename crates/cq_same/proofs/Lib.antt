@@ -1,6 +1,6 @@
 mod Decided
 mod EqualLaws
-mod Equals
+pub mod Equals
 mod Owned
 mod Truths
 mod Wholes

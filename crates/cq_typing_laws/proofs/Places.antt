@@ -7,11 +7,13 @@ use Rattle.cq_tree.specs.declared.expression.Expr.{Expr}
 use Rattle.cq_tree.specs.declared.query.Agg.{Agg}
 use Rattle.cq_reading.specs.declared.bound.Type.TheVariants as type
 use Rattle.cq_reading.specs.Widths.{ValueType, is_some}
-use Rattle.cq_reading.specs.Equal.{equal_exprs, equal_aggs}
+use Rattle.cq_reading.specs.Equal.{equal_aggs}
+use Rattle.cq_same.specs.Equal.{equal_exprs}
 use Rattle.cq_reading.specs.Rules.{place_among, with_aggregate}
 use Rattle.cq_reading_laws.proofs.Onwards.{append_empty}
 use Rattle.cq_typing_laws.specs.Typing.{type_over, type_of_aggregate, group_types}
-use Rattle.cq_reading_laws.proofs.Equals.{exprs_same, aggs_same}
+use Rattle.cq_same.proofs.Equals.{exprs_same}
+use Rattle.cq_reading_laws.proofs.Equals.{aggs_same}
 
 abbrev at : List ValueType → ℕ → ValueType
 at ts i = slice_index_or ts i type.Null
