@@ -1,5 +1,5 @@
 -- How the relations of a FROM are written. Each has an alias by its place: r1, r2, .. from left to right.
-use Rattle.std.specs.Prelude.{ℕ, ◌+◌, List, [], ◌∷◌, ◌++◌, map, length, codes, decimal, slice_get, max, nat_eq, Bool, true, false, Option, None, Some}
+use Rattle.std.specs.Prelude.{ℕ, ◌+◌, List, [], ◌∷◌, ◌++◌, map, codes, decimal, slice_get, max, nat_eq, true, false, Option, None, Some}
 use Rattle.std.specs.List.{prefix_len, repeat, fold}
 use Rattle.cq_value.specs.declared.schema.Column as schema
 use Rattle.cq_catalog.specs.declared.info.TableInfo.{TableInfo}
@@ -131,8 +131,11 @@ one_relation names r = record {
 abbrev pub Sides : Type 0
 Sides = From × (Relation × Before)
 
+abbrev pub sides_behind : From × Before → Piece → Sides
+sides_behind left b = (left.0, b.relation left.1)
+
 abbrev pub sides : Piece → Piece → List Phrase → Before → Sides
-sides a b columns n = let left = a.chain columns n in (left.0, b.relation left.1)
+sides a b columns n = sides_behind (a.chain columns n) b
 
 abbrev pub and_join : From → Join → From
 and_join f j = roll-From (record { first = (out-From f).first; joins = (out-From f).joins ++ j ∷ [] })

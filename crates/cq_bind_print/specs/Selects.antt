@@ -1,5 +1,5 @@
 -- How a SELECT is written.
-use Rattle.std.specs.Prelude.{ℕ, zero, suc, ◌+◌, ◌-◌, Bool, true, false, ◌&&◌, ◌||◌, nat_eq, nat_lt, bytes_eq, if◌then◌else◌, List, [], ◌∷◌, ◌++◌, map, zip, length, codes, slice_get, slice_index_or, take, find, fold, position, unwrap_or, option_and_then, Option, None, Some}
+use Rattle.std.specs.Prelude.{ℕ, zero, suc, ◌+◌, ◌-◌, Bool, true, false, ◌&&◌, ◌||◌, nat_eq, nat_lt, bytes_eq, if◌then◌else◌, List, [], ◌∷◌, ◌++◌, map, length, codes, slice_get, take, find, fold, position, option_and_then, Option, None, Some}
 use Rattle.cq_tree.specs.declared.expression.Expr as tree
 use Rattle.cq_tree.specs.declared.expression.Expr.{out-Expr}
 use Rattle.cq_tree.specs.declared.expression.Arm as tree_arm

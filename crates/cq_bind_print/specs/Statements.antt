@@ -1,5 +1,5 @@
 -- How a statement is written: as a syntax tree whose places are 0, and as that tree's text.
-use Rattle.std.specs.Prelude.{ℕ, zero, suc, ℤ, negsuc, ◌+◌, ◌-◌, ◌^◌, Bool, true, false, if◌then◌else◌, List, [], ◌∷◌, ◌++◌, map, length, codes, slice_get, fold, Option, None, Some}
+use Rattle.std.specs.Prelude.{ℕ, zero, suc, ℤ, negsuc, ◌-◌, ◌^◌, Bool, true, false, if◌then◌else◌, List, [], ◌∷◌, ◌++◌, map, length, codes, slice_get, fold, Option, None, Some}
 use Rattle.std.specs.Ordering.{int_eq}
 use Rattle.cq_value.specs.declared.value.Value.{Value}
 use Rattle.cq_value.specs.declared.value.Value.TheVariants as value
@@ -36,7 +36,6 @@ use Rattle.cq_grammar.specs.declared.statement.CopyOption.{CopyOption}
 use Rattle.cq_grammar.specs.declared.statement.CopyOption.TheVariants as options
 use Rattle.cq_grammar.specs.declared.statement.SettingValue.{SettingValue}
 use Rattle.cq_grammar.specs.declared.statement.SettingValue.TheVariants as settings
-use Rattle.cq_grammar.specs.declared.statement.Literal.{Literal}
 use Rattle.cq_grammar.specs.declared.statement.Literal.TheVariants as literals
 use Rattle.cq_grammar.specs.declared.statement.Argument.{Argument}
 use Rattle.cq_token.specs.Printed.{printed}

@@ -8,7 +8,7 @@ ghost use Rattle.cq_bind_print.specs.Selects as written;
 use crate::names::{column_names, common_name, table_name};
 use crate::place::Before;
 use crate::relations::{
-    alone, columns, crossed, derived, in_list, joined_inner, joined_left, joined_on, named,
+    Sides, alone, columns, crossed, derived, in_list, joined_inner, joined_left, joined_on, named,
     no_relation, with_part,
 };
 use crate::selects::select_over;
@@ -81,17 +81,11 @@ fn relation(world: &World<'_>, f: &FromTree, n: Before) -> Result<(Relation, Bef
 
 /// A relation with its joins, and the relation behind them.
 #[cycle(query)]
-fn sides(
-    world: &World<'_>,
-    columns: &[Phrase],
-    a: &FromTree,
-    b: &FromTree,
-    n: Before,
-) -> Result<(From, (Relation, Before)), NoMemory>
-    ensures { IfOk result (λ p. p ≡ relation.sides (written.piece_of world.now a.now) (written.piece_of world.now b.now) columns.now n) }
+fn sides(world: &World<'_>, left: (From, Before), b: &FromTree) -> Result<Sides, NoMemory>
+    ensures { IfOk result (λ p. p ≡ relation.sides_behind left (written.piece_of world.now b.now)) }
 {
-    let (left, next) = chain(world, columns, a, n)?;
-    beside(left, relation(world, b, next))
+    let (from, n) = left;
+    beside(from, relation(world, b, n))
 }
 
 /// A FROM as a relation with its joins.
@@ -106,15 +100,20 @@ fn chain(
     ensures { IfOk result (λ p. p ≡ (written.piece_of world.now f.now).chain columns.now n) }
 {
     match f {
-        FromTree::Cross(a, b) => crossed(sides(world, columns, a.get(), b.get(), n)?),
+        FromTree::Cross(a, b) => {
+            let left = chain(world, columns, a.get(), n)?;
+            crossed(sides(world, left, b.get())?)
+        }
         FromTree::Inner(a, b, on) => {
-            let sides = sides(world, columns, a.get(), b.get(), n)?;
-            let (sides, on) = beside(sides, joined_on(world.alloc, columns, on))?;
+            let left = chain(world, columns, a.get(), n)?;
+            let sides = sides(world, left, b.get());
+            let (sides, on) = both(sides, joined_on(world.alloc, columns, on))?;
             joined_inner(sides, on)
         }
         FromTree::Left(a, b, on) => {
-            let sides = sides(world, columns, a.get(), b.get(), n)?;
-            let (sides, on) = beside(sides, joined_on(world.alloc, columns, on))?;
+            let left = chain(world, columns, a.get(), n)?;
+            let sides = sides(world, left, b.get());
+            let (sides, on) = both(sides, joined_on(world.alloc, columns, on))?;
             joined_left(sides, on)
         }
         FromTree::Table(..) | FromTree::Result(..) | FromTree::Sub(_) => {
@@ -181,7 +180,6 @@ pub(crate) fn query(world: &World<'_>, q: &Query, n: u64) -> Result<(Select, u64
 }
 
 /// A query over relations of these columns.
-#[tactic(auto, unfolding(crate::specs::Selects::written_query, crate::specs::Selects::piece_of))]
 #[cycle(query)]
 fn query_over(
     world: &World<'_>,

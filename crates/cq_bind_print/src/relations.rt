@@ -131,7 +131,7 @@ pub(crate) fn joined_on(alloc: Global, columns: &[Phrase], on: &Cond) -> Result<
 }
 
 /// A relation with its joins, and the relation behind them.
-type Sides = (From, (Relation, Before));
+pub(crate) type Sides = (From, (Relation, Before));
 
 fn with_join(from: From, join: Join) -> Result<From, NoMemory>
     ensures { IfOk result (λ f. f ≡ written.and_join from join) }

@@ -1,4 +1,4 @@
-use Rattle.std.proofs.Common.{◌≡◌, ◌++◌, map, take}
+use Rattle.std.proofs.Common.{◌≡◌, ◌++◌}
 use Rattle.cq_bind_print.specs.Selects as written
 use Rattle.std.specs.Prelude.{drop}
 use Rattle.cq_bind_print.proofs.items.stars.Given as goal

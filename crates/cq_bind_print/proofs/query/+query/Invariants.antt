@@ -1,5 +1,4 @@
 use Rattle.std.proofs.Common.{◌≡◌, map, take}
-use Rattle.std.specs.Prelude.{fold, []}
 use Rattle.cq_bind_print.specs.Selects as written
 use Rattle.cq_bind_print.proofs.query.+query.Given as goal
 

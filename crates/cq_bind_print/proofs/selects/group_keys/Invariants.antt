@@ -1,4 +1,4 @@
-use Rattle.std.proofs.Common.{◌≡◌, ◌++◌, map, take}
+use Rattle.std.proofs.Common.{◌≡◌, map, take}
 use Rattle.cq_bind_print.specs.Selects as written
 use Rattle.cq_bind_print.proofs.selects.group_keys.Given as goal
 

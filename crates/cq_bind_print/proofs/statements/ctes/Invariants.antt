@@ -1,4 +1,4 @@
-use Rattle.std.proofs.Common.{◌≡◌, ◌++◌, map, take}
+use Rattle.std.proofs.Common.{◌≡◌, take}
 use Rattle.cq_bind_print.specs.Statements as written
 use Rattle.std.specs.Prelude.{fold, [], length}
 use Rattle.cq_bind_print.proofs.statements.ctes.Given as goal

@@ -1,4 +1,4 @@
-use Rattle.std.proofs.Common.{◌≡◌, ◌++◌, map, take}
+use Rattle.std.proofs.Common.{◌≡◌, map, take}
 use Rattle.cq_bind_print.specs.Statements as written
 use Rattle.cq_bind_print.proofs.writes.sets_of.Given as goal
 
