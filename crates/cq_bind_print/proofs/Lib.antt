@@ -1,3 +1,0 @@
-pub mod Longest
-pub mod Queries
-pub mod Shown

@@ -1,3 +1,1 @@
-pub mod Relations
-pub mod Selects
 pub mod Statements

@@ -44,8 +44,8 @@ use Rattle.cq_print.specs.Cases.{word_of}
 use Rattle.cq_print_phrases.specs.declared.forms.Phrase.{Phrase}
 use Rattle.cq_print_phrases.specs.Phrases.{a_name, integer, literal, plain}
 use Rattle.cq_print_phrases.specs.Expressions.{Scope, phrase_of}
-use Rattle.cq_bind_print.specs.Relations.{World, common_name, name_in, names_of, columns_in, name_at}
-use Rattle.cq_bind_print.specs.Selects.{written_query, filter_of}
+use Rattle.cq_print_queries.specs.Relations.{World, common_name, name_in, names_of, columns_in, name_at}
+use Rattle.cq_print_queries.specs.Selects.{written_query, filter_of}
 
 -- ---- queries: the results of the CTEs come first, then those of the IN subqueries in the order of their text
 

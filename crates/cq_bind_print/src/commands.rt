@@ -4,11 +4,11 @@ ghost use Rattle.std.specs.Prelude.{◌≡◌, [], ◌∷◌, ◌++◌, ◌≤�
 ghost use Rattle.cq_print_phrases.specs.Phrases as phrases;
 ghost use Rattle.cq_bind_print.specs.Statements as written;
 
-use crate::names::{a_name, name_of, names_of};
 use crate::writes::names_at;
 use cq_grammar::{Argument, Ast, ColumnDef, Literal, Name, SettingValue, TypeName};
 use cq_grammar_copies::both;
 use cq_print_phrases::{and_last, and_then, beside};
+use cq_print_queries::{a_name, name_of, names_of};
 use cq_value::{Column, Columns, Items, Kind, NoMemory, Positions, Text, With};
 use std::alloc::Global;
 

@@ -1,19 +1,15 @@
-ghost use Rattle.std.specs.Prelude.{◌≡◌, [], map, length, IfOk, Ok};
-ghost use Rattle.std.specs.List.{fold};
-ghost use Rattle.cq_tree.specs.declared.query.Query.{out-Query};
+ghost use Rattle.std.specs.Prelude.{◌≡◌, IfOk};
 ghost use Rattle.cq_bind_print.specs.Statements as written;
 ghost use Rattle.cq_bind_print.specs.Statements.{canonical_text};
 
 use crate::commands::{creation, distribution, moving, rebalancing, reference, setting};
-use crate::names::common_name;
-use crate::query::query;
-use crate::world::World;
 use crate::writes::{copying, write};
 use cq_catalog::Catalog;
 use cq_grammar as grammar;
 use cq_grammar::{Ast, CommonTable, Select};
 use cq_print::print_ast;
 use cq_print_phrases::{and_last, beside};
+use cq_print_queries::{World, common_name, query};
 use cq_tree::{Query, Statement};
 use cq_value::{Items, NoMemory, Text};
 use std::alloc::Global;

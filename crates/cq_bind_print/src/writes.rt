@@ -1,16 +1,14 @@
 //! Writes, and the other statements that name tables.
 
-ghost use Rattle.std.specs.Prelude.{◌≡◌, map, slice_get, IfOk};
-ghost use Rattle.cq_print_phrases.specs.Phrases as phrases;
-ghost use Rattle.cq_bind_print.specs.Relations as relation;
+ghost use Rattle.std.specs.Prelude.{◌≡◌, map, IfOk};
+ghost use Rattle.cq_print_queries.specs.Relations as relation;
 ghost use Rattle.cq_bind_print.specs.Statements as written;
 
-use crate::names::{column_names, name_at, name_of, table_name};
-use crate::selects::filter;
 use cq_catalog::Catalog;
 use cq_grammar::{AddOperator, Added, Ast, CopyOption, Expr, Name, RowValues, SetClause};
 use cq_grammar_copies::both;
 use cq_print_phrases::{Phrase, Scope, and_last, beside, integer, literal, phrase, plain};
+use cq_print_queries::{column_names, filter, name_at, name_of, table_name};
 use cq_tree::{Cond, Set, ShardOp};
 use cq_value::{Boxed, Items, Names, NoMemory, Positions, Row, Rows, Text, Value};
 use std::alloc::Global;
