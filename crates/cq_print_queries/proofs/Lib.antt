@@ -1,3 +1,3 @@
 pub mod Longest
-pub mod Queries
 pub mod Shown
+pub mod Written

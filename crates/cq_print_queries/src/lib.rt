@@ -12,12 +12,12 @@
 mod items;
 mod names;
 mod place;
-mod query;
+mod queries;
 mod relations;
 mod selects;
 mod world;
 
 pub use names::{a_name, column_names, common_name, name_at, name_of, names_of, table_name};
-pub use query::query;
+pub use queries::query;
 pub use selects::filter;
 pub use world::World;

@@ -1,8 +1,8 @@
 use Rattle.std.proofs.Common.{◌≡◌, rules, ap, ◌∙◌}
 use Rattle.cq_tree.specs.declared.query.Query.{out-Query}
 use Rattle.cq_print_queries.specs.Selects.{select_over}
-use Rattle.cq_print_queries.proofs.Queries.{query_done}
-use Rattle.cq_print_queries.proofs.query.+query.Goals as goal
+use Rattle.cq_print_queries.proofs.Written.{query_done}
+use Rattle.cq_print_queries.proofs.queries.+query.Goals as goal
 
 pub query_over-returns : goal.query_over-returns
 query_over-returns t c =
