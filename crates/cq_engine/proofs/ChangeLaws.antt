@@ -1,8 +1,7 @@
 -- The row changes of a write fit the table, and applied to it give the write's effect.
 use Rattle.std.proofs.Common.{◌≡◌, ℕ, suc, ◌+◌, ◌^◌, ◌<◌, ◌≤◌, Bool, true, false, cond, List, [], ◌∷◌, ◌++◌, map, length, refl, sym, ap, ◌∙◌, subst, arith, append_assoc, append-nil, add-zero}
 use Rattle.std.specs.Prelude.{filter, not, nat_eq, ⊤, ◌||◌}
-use Rattle.std.specs.List.{AllByRecursion, list_any}
-use Rattle.std.proofs.lemmas.List.Folds.{list_any-append}
+use Rattle.std.specs.List.{AllByRecursion}
 use Rattle.std.proofs.lemmas.List.Elements.{filter-append}
 use Rattle.cq_value.specs.declared.schema.Shape.{Shape}
 use Rattle.cq_value.specs.declared.change.Change.TheVariants.{Put, Drop}
@@ -12,10 +11,12 @@ use Rattle.cq_tree.specs.declared.expression.Cond.{Cond}
 use Rattle.cq_tree.specs.declared.write.Set.{Set}
 use Rattle.cq_tree.specs.declared.write.ShardOp.{ShardOp}
 use Rattle.cq_tree.specs.declared.write.ShardOp.TheVariants.{Insert, Update, Remove}
+use Rattle.cq_tree.specs.declared.write.Reply.TheVariants.{Count, Duplicate}
 use Rattle.cq_meaning.specs.Values.{Row}
 use Rattle.cq_meaning.specs.Effects.{inserts, numbered, with_rows, renewed, is_kept, updated, updates, fit_kinds, effect, adds, puts, drops, row_changes, repeats}
 use Rattle.cq_meaning.proofs.MapLaws.{map_append}
-use Rattle.cq_engine.specs.WriteEffects.{made_by, IsEffect}
+use Rattle.cq_engine.specs.declared.write.Effect.{Effect}
+use Rattle.cq_engine.specs.WriteEffects.{inserted_by, made_by, IsEffect}
 
 abbrev table : ℕ → List Pair → Table
 table n pairs = record { next = n; pairs = pairs }
@@ -146,12 +147,15 @@ module _ (n : ℕ) (c : Cond) (sets : List Set) where
 abbrev DoesWell : ShardOp → Table → Shape → Type 0
 DoesWell op t shape = Fit t (row_changes op t shape) × (applied t (row_changes op t shape) ≡ effect op t shape)
 
-does_well : (op : ShardOp) (t : Table) (shape : Shape) → IsAscending t.pairs t.next → t.next + length (inserts op) ≤ 2 ^ 32 → DoesWell op t shape
-does_well (Insert k rows) t shape up room =
+inserts_well : (number : ℕ) (rows : List Row) (t : Table) (shape : Shape) → t.next + length rows ≤ 2 ^ 32 → DoesWell (Insert number rows) t shape
+inserts_well number rows t shape room =
     elim (repeats shape.key (rows_of t) rows) as (λ b. Fit t (cond b [] (adds t.next rows)) × (applied t (cond b [] (adds t.next rows)) ≡ cond b t (with_rows t rows))) [
       | true ↦ (tt, refl)
       | false ↦ (adds_fit t rows room, adds_give t rows)
     ]
+
+does_well : (op : ShardOp) (t : Table) (shape : Shape) → IsAscending t.pairs t.next → t.next + length (inserts op) ≤ 2 ^ 32 → DoesWell op t shape
+does_well (Insert k rows) t shape up room = inserts_well k rows t shape room
 does_well (Update k c sets) t shape up room =
     elim (fit_kinds shape.kinds (updates c sets t.pairs)) as (λ b. Fit t (cond b (puts c sets t.pairs) []) × (applied t (cond b (puts c sets t.pairs) []) ≡ cond b (table t.next (map (renewed c sets) t.pairs)) t)) [
       | true ↦ puts_done t.next c sets [] t.pairs (ready_none t.pairs) (apart t.pairs t.next up)
@@ -159,7 +163,20 @@ does_well (Update k c sets) t shape up room =
     ]
 does_well (Remove k c) t shape up room = drops_done t.next c [] [] t.pairs (ready_none t.pairs) (apart t.pairs t.next up)
 
+made_well : (op : ShardOp) (t : Table) (shape : Shape) → DoesWell op t shape → IsEffect op t shape (made_by op t shape)
+made_well op t shape well = record { replied = refl; listed = refl; fitting = well.0; changed = well.1; counted = refl }
+
 pub made_is : (op : ShardOp) (t : Table) (shape : Shape) → IsAscending t.pairs t.next → t.next + length (inserts op) ≤ 2 ^ 32 → IsEffect op t shape (made_by op t shape)
-made_is op t shape up room =
-    let well : DoesWell op t shape = does_well op t shape up room in
-    record { replied = refl; listed = refl; fitting = well.0; changed = well.1; counted = refl }
+made_is op t shape up room = made_well op t shape (does_well op t shape up room)
+
+-- an INSERT depends on its table by two things alone
+pub inserted_is : (number : ℕ) (rows : List Row) (t : Table) (shape : Shape) → inserted_by rows (repeats shape.key (rows_of t) rows) t.next ≡ made_by (Insert number rows) t shape
+inserted_is number rows t shape =
+    elim (repeats shape.key (rows_of t) rows) as (λ b. inserted_by rows b t.next
+    ≡ record { reply = cond b Duplicate (Count (length rows)); changes = cond b [] (adds t.next rows); next = (cond b t (with_rows t rows)).next }) [ true ↦ refl | false ↦ refl ]
+
+pub insertion_is : (rows : List Row) (b : Bool) (next : ℕ) (made : Effect) → next + length rows ≤ 2 ^ 32 → made ≡ inserted_by rows b next →
+    (number : ℕ) (t : Table) (shape : Shape) → t.next ≡ next → repeats shape.key (rows_of t) rows ≡ b → IsEffect (Insert number rows) t shape made
+insertion_is rows b next made room is number t shape counted known =
+    let same : made ≡ made_by (Insert number rows) t shape = is ∙ (λ i. inserted_by rows (sym known i) (sym counted i)) ∙ inserted_is number rows t shape in
+    subst (IsEffect (Insert number rows) t shape) (sym same) (made_well (Insert number rows) t shape (inserts_well number rows t shape (subst (λ n. n + length rows ≤ 2 ^ 32) (sym counted) room)))

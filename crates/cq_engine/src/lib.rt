@@ -8,4 +8,5 @@ mod update;
 mod write;
 
 pub use cq_queries::{Tables, eval, run_query, test};
-pub use write::{Effect, changes_of};
+pub use key::repeats;
+pub use write::{Effect, changes_of, insertion_among};

@@ -1,6 +1,8 @@
-ghost use Rattle.std.specs.Prelude.{◌≡◌, ◌+◌, ◌≤◌, ◌^◌, [], length, IfOk};
-ghost use Rattle.cq_meaning.specs.Effects.{inserts, IsSafeWrite};
-ghost use Rattle.cq_engine.specs.WriteEffects.{made_by, IsEffect};
+ghost use Rattle.std.specs.Prelude.{◌≡◌, ◌+◌, ◌≤◌, ◌^◌, ℕ, [], length, IfOk};
+ghost use Rattle.cq_value.specs.declared.schema.Shape.{Shape};
+ghost use Rattle.cq_value.specs.Tables.{Table, rows_of};
+ghost use Rattle.cq_meaning.specs.Effects.{inserts, repeats as has_repeats, IsSafeWrite};
+ghost use Rattle.cq_engine.specs.WriteEffects.{inserted_by, made_by, IsEffect};
 
 use crate::change::{adds_of, drops_of, puts_of};
 use crate::key::repeats;
@@ -27,6 +29,38 @@ fn refused(alloc: Global, reply: Reply, next: u64) -> Effect
     }
 }
 
+/// What an INSERT comes to where it is known whether it repeats a primary key.
+fn insertion_if(alloc: Global, rows: &Rows, repeats: bool, next: u64) -> Result<Effect, NoMemory>
+    requires { next + length rows.now ≤ 2 ^ 32 }
+    ensures { IfOk result (λ made. made ≡ inserted_by rows.now repeats next) }
+{
+    if repeats {
+        return Ok(refused(alloc, Reply::Duplicate, next));
+    }
+    let changes = adds_of(alloc, next, rows.as_slice())?;
+    Ok(Effect {
+        reply: Reply::Count(rows.len()),
+        changes,
+        next: next + rows.len(),
+    })
+}
+
+/// What an INSERT comes to over any table of which `next` is the next row id, where it is known whether a row repeats the
+/// primary key of a row of the table or of a row before it. No row of the table is asked for.
+///
+/// Conditions: `next` with the rows is at most 2^32. Errors: want of memory.
+pub fn insertion_among(
+    alloc: Global,
+    rows: &Rows,
+    repeats: bool,
+    next: u64,
+) -> Result<Effect, NoMemory>
+    requires { next + length rows.now ≤ 2 ^ 32 }
+    ensures { IfOk result (λ made. (number : ℕ) (table : Table) (shape : Shape) → table.next ≡ next → has_repeats shape.key (rows_of table) rows.now ≡ repeats → IsEffect (ShardOp.Insert number rows.now) table shape made) }
+{
+    insertion_if(alloc, rows, repeats, next)
+}
+
 /// What an INSERT comes to.
 fn insertion(
     alloc: Global,
@@ -38,16 +72,8 @@ fn insertion(
     requires { stored.now.next + length rows.now ≤ 2 ^ 32 }
     ensures { IfOk result (λ made. made ≡ made_by (ShardOp.Insert table rows.now) stored.now shape.now) }
 {
-    let next = stored.next();
-    if repeats(shape.key.as_slice(), stored, rows) {
-        return Ok(refused(alloc, Reply::Duplicate, next));
-    }
-    let changes = adds_of(alloc, next, rows.as_slice())?;
-    Ok(Effect {
-        reply: Reply::Count(rows.len()),
-        changes,
-        next: next + rows.len(),
-    })
+    let repeats = repeats(shape.key.as_slice(), stored, rows);
+    insertion_if(alloc, rows, repeats, stored.next())
 }
 
 /// What an UPDATE comes to.

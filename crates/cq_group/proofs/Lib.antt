@@ -11,3 +11,4 @@ pub mod CommitLaws
 pub mod AddLaws
 pub mod DropLaws
 pub mod Cases
+pub mod KeyLaws

@@ -67,9 +67,13 @@ module _ {X : Type 0} (state : X → StoreState) where
   pub rested_go_on : (xs ys : List X) → AllZip (Lifted state Rests) xs ys → AllZip (Lifted state GoesOn) xs ys
   rested_go_on xs ys h = zip_weaker (Lifted state Rests) (Lifted state GoesOn) (λ a b. rests_go_on (state a) (state b)) xs ys h
 
+  -- what f gives of the rows of the store in the first place
+  pub first_gives : {Y : Type 0} (f : Table → Y) (xs : List X) (y : Y) → 0 < length xs → HoldsAt (λ x. y ≡ f (state x).rows) xs 0 → y ≡ f (first_rows state xs)
+  first_gives f [] y low h = absurd (omega arith)
+  first_gives f (x ∷ xs) y low h = h x
+
   pub first_at : (xs : List X) (t : Table) → 0 < length xs → HoldsAt (λ x. t ≡ (state x).rows) xs 0 → t ≡ first_rows state xs
-  first_at [] t low h = absurd (omega arith)
-  first_at (x ∷ xs) t low h = h x
+  first_at xs t low h = first_gives (λ u. u) xs t low h
 
   -- the changes fit each store, since its rows are those of the first
   takes_each : (changes : List Change) (t : Table) (xs ys : List X) → Fit t changes → AllByRecursion (λ (x : X). 0 < (state x).shard) xs → AllByRecursion (λ (x : X). (state x).rows ≡ t) xs →

@@ -4,6 +4,7 @@
 mod close;
 mod gate;
 mod group;
+mod insertion;
 mod open;
 mod place;
 mod read;

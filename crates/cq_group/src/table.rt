@@ -53,7 +53,7 @@ fn rows_alone(alloc: Global, table: &Numbered) -> Result<Rows, NoMemory>
 
 impl<S: Store> GroupTable<S> {
     /// The numbered rows that the store in a place of the list holds.
-    fn scan(&mut self, place: usize) -> Result<Numbered, GroupError>
+    pub(crate) fn scan(&mut self, place: usize) -> Result<Numbered, GroupError>
         requires { place < length self.old.stores.items }
         ensures rows { IfOk result (λ table. HoldsAt (λ x. table ≡ (S.state x).rows) self.old.stores.items place) }
         ensures same { IsRestingTable (Lifted S.state Rests) self.old self.new }
@@ -97,8 +97,8 @@ impl<S: Store> GroupTable<S> {
         inserted(op) > MOST_IDS - self.next
     }
 
-    /// What a write comes to over the rows of the first store.
-    fn effect_of(&mut self, alloc: Global, op: &ShardOp) -> Result<Effect, GroupError>
+    /// What a write comes to over the rows of the first store, which are all copied.
+    fn change_of(&mut self, alloc: Global, op: &ShardOp) -> Result<Effect, GroupError>
         requires alike { AreAlike S.state self.old }
         requires ids { self.old.next + length (inserts op.now) ≤ 2 ^ 32 }
         requires safe { IsSafeWrite op.now (first_rows S.state self.old.stores.items).pairs }
@@ -110,6 +110,21 @@ impl<S: Store> GroupTable<S> {
         match changes_of(alloc, op, &rows, self.next, &self.shape) {
             Ok(effect) => Ok(effect),
             Err(NoMemory) => Err(GroupError::Memory),
+        }
+    }
+
+    /// What a write comes to over the rows of the first store.
+    fn effect_of(&mut self, alloc: Global, op: &ShardOp) -> Result<Effect, GroupError>
+        requires alike { AreAlike S.state self.old }
+        requires ids { self.old.next + length (inserts op.now) ≤ 2 ^ 32 }
+        requires safe { IsSafeWrite op.now (first_rows S.state self.old.stores.items).pairs }
+        ensures effect { IfOk result (λ made. IsEffect op.now (first_rows S.state self.old.stores.items) self.old.shape made) }
+        ensures same { IsRestingTable (Lifted S.state Rests) self.old self.new }
+        ensures blame { IfErr result (λ e. Blames S.state e self.old.stores.items self.new.stores.items) }
+    {
+        match op {
+            ShardOp::Insert { table, rows } => self.insertion_of(alloc, *table, rows),
+            ShardOp::Update { .. } | ShardOp::Remove { .. } => self.change_of(alloc, op),
         }
     }
 

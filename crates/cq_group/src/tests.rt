@@ -1,5 +1,6 @@
 //! A table's history in a distributed group, in a reference group, and with a store that fails; rows that are updated and
-//! deleted; rows that are picked by their key; and a second table that is taken out again.
+//! deleted; rows that are picked by their key; INSERTs of several rows and without a primary key; and a second table that is
+//! taken out again.
 
 ghost use Rattle.std.specs.Prelude.{◌≡◌, ◌<◌, ◌≤◌, List, [], true, if◌then◌else◌, nat_eq, length, unwrap_or, option_to_list, ◌∷◌, All, IsTrue, None, IfOk, IfSome};
 ghost use Rattle.cq_value.specs.Tables.{Pair, empty_table};
@@ -30,26 +31,30 @@ fn who(statement: u64) -> Who {
     }
 }
 
-/// A shape with two columns, of which the first is the primary key.
-fn shape(alloc: Global) -> Result<Shape, NoMemory> {
+/// A shape with two columns, of which the first may be the primary key.
+fn shape(alloc: Global, keyed: bool) -> Result<Shape, NoMemory> {
     let mut key = Positions::new(alloc);
-    key.put(0)?;
+    if keyed {
+        key.put(0)?;
+    }
     let mut kinds = Kinds::new(alloc);
     kinds.put(Kind::Bigint)?;
     kinds.put(Kind::Integer)?;
     Ok(Shape { key, kinds })
 }
 
-/// An INSERT of one row.
-fn insertion(alloc: Global, key: i128) -> Result<ShardOp, NoMemory>
+/// An INSERT of a row of each key.
+fn insertion(alloc: Global, keys: &[i128]) -> Result<ShardOp, NoMemory>
     ensures named { IfOk result (λ op. table_of op ≡ TABLE) }
     ensures safe { IfOk result (λ op. (pairs : List Pair) → IsSafeWrite op pairs) }
 {
-    let mut row = Row::new(alloc);
-    row.put(Value::Int(key))?;
-    row.put(Value::Int(1))?;
     let mut rows = Rows::new(alloc);
-    rows.put(row)?;
+    for key in keys {
+        let mut row = Row::new(alloc);
+        row.put(Value::Int(*key))?;
+        row.put(Value::Int(1))?;
+        rows.put(row)?;
+    }
     Ok(ShardOp::Insert { table: TABLE, rows })
 }
 
@@ -81,9 +86,10 @@ fn removal() -> ShardOp
     }
 }
 
-/// A group with the table.
+/// A group with the table, which may have a primary key.
 fn opened<S: Store>(
     alloc: Global,
+    keyed: bool,
     node: Option<u32>,
     nodes: u32,
     stores: Vec<S>,
@@ -98,7 +104,7 @@ fn opened<S: Store>(
     ensures node { IfOk result (λ g. g.node ≡ unwrap_or node 0) }
     ensures nodes { IfOk result (λ g. g.nodes ≡ nodes) }
 {
-    let shape = shape(alloc)?;
+    let shape = shape(alloc, keyed)?;
     let mut group = GroupState::open(alloc, 3, node, nodes)?;
     match group.add_table(alloc, TABLE, stores, &shape) {
         Ok(()) => Ok(group),
@@ -142,12 +148,12 @@ fn write<S: Store>(
     Ok(staged)
 }
 
-/// An INSERT of one row, which is committed where it was staged.
+/// An INSERT of a row of each key, which is committed where it was staged.
 fn insert<S: Store>(
     alloc: Global,
     group: &mut GroupState<S>,
     statement: u64,
-    key: i128,
+    keys: &[i128],
 ) -> Result<Staged, GroupError>
     requires kept { IsKept S.state group.old }
     requires quiet { IsQuiet S.state group.old }
@@ -156,7 +162,7 @@ fn insert<S: Store>(
     ensures quiet { IsQuiet S.state group.new }
     ensures same { IsSameGroup group.old group.new }
 {
-    let Ok(op) = insertion(alloc, key) else {
+    let Ok(op) = insertion(alloc, keys) else {
         return Err(GroupError::Memory);
     };
     write(alloc, group, statement, op)
@@ -254,13 +260,13 @@ fn play<S: Store>(
     let Ok(tables) = numbers(alloc, TABLE, None) else {
         return Err(GroupError::Memory);
     };
-    let Ok(mut group) = opened(alloc, node, nodes, stores) else {
+    let Ok(mut group) = opened(alloc, true, node, nodes, stores) else {
         return Err(GroupError::Memory);
     };
-    let first = insert(alloc, &mut group, 1, 5);
-    let second = insert(alloc, &mut group, 2, 5);
-    let third = insert(alloc, &mut group, 3, 5);
-    let Ok(op) = insertion(alloc, 6) else {
+    let first = insert(alloc, &mut group, 1, &[5]);
+    let second = insert(alloc, &mut group, 2, &[5]);
+    let third = insert(alloc, &mut group, 3, &[5]);
+    let Ok(op) = insertion(alloc, &[6]) else {
         return Err(GroupError::Memory);
     };
     let _ = group.stage_write(alloc, &op)?;
@@ -285,10 +291,10 @@ fn play_changes<S: Store>(alloc: Global, stores: Vec<S>) -> Result<Story<S>, Gro
     let Ok(tables) = numbers(alloc, TABLE, None) else {
         return Err(GroupError::Memory);
     };
-    let Ok(mut group) = opened(alloc, Some(2), 3, stores) else {
+    let Ok(mut group) = opened(alloc, true, Some(2), 3, stores) else {
         return Err(GroupError::Memory);
     };
-    let _ = insert(alloc, &mut group, 1, 5)?;
+    let _ = insert(alloc, &mut group, 1, &[5])?;
     let first = change(alloc, &mut group, 2, 2_147_483_647);
     let second = change(alloc, &mut group, 3, 2_147_483_648);
     let third = write(alloc, &mut group, 4, removal());
@@ -315,10 +321,10 @@ fn take_out<S: Store>(
     requires first { AreFresh S.state 2 1 first.items }
     requires second { AreFresh S.state 2 1 second.items }
 {
-    let (Ok(shape), Ok(tables)) = (shape(alloc), numbers(alloc, TABLE, Some(OTHER))) else {
+    let (Ok(shape), Ok(tables)) = (shape(alloc, true), numbers(alloc, TABLE, Some(OTHER))) else {
         return Err(GroupError::Memory);
     };
-    let Ok(mut group) = opened(alloc, Some(2), 3, first) else {
+    let Ok(mut group) = opened(alloc, true, Some(2), 3, first) else {
         return Err(GroupError::Memory);
     };
     let Ok(()) = group.add_table(alloc, OTHER, second, &shape) else {
@@ -326,8 +332,24 @@ fn take_out<S: Store>(
     };
     let seen = group.read(alloc, who(1), 1, &tables)?;
     let stores = group.drop_table();
-    let staged = insert(alloc, &mut group, 2, 5)?;
+    let staged = insert(alloc, &mut group, 2, &[5])?;
     Ok((seen.tables.len(), stores, staged))
+}
+
+/// What an INSERT comes to where the table has a row of the key 5.
+fn insert_again<S: Store>(
+    alloc: Global,
+    keyed: bool,
+    stores: Vec<S>,
+    keys: &[i128],
+) -> Result<Staged, GroupError>
+    requires { AreFresh S.state 2 1 stores.items }
+{
+    let Ok(mut group) = opened(alloc, keyed, Some(2), 3, stores) else {
+        return Err(GroupError::Memory);
+    };
+    let _ = insert(alloc, &mut group, 1, &[5])?;
+    insert(alloc, &mut group, 2, keys)
 }
 
 /// A value of the key.
@@ -346,11 +368,11 @@ fn pick_by_key<S: Store>(
 ) -> Result<(Rows, u64), GroupError>
     requires { AreFresh S.state 2 1 stores.items }
 {
-    let Ok(mut group) = opened(alloc, Some(2), 3, stores) else {
+    let Ok(mut group) = opened(alloc, true, Some(2), 3, stores) else {
         return Err(GroupError::Memory);
     };
-    let _ = insert(alloc, &mut group, 1, 5)?;
-    let Ok(op) = insertion(alloc, 6) else {
+    let _ = insert(alloc, &mut group, 1, &[5])?;
+    let Ok(op) = insertion(alloc, &[6]) else {
         return Err(GroupError::Memory);
     };
     let _ = write(alloc, &mut group, 2, op)?;
@@ -502,5 +524,40 @@ fn taken_out(rt: HostRuntime) -> Result<(), Fail> {
     for store in stores {
         assert_eq!(rt; store.shard(), 0);
     }
+    Ok(())
+}
+
+/// What an INSERT comes to in a store in memory where the table has a row of the key 5.
+fn insert_in_memory(alloc: Global, keyed: bool, keys: &[i128]) -> Result<Staged, GroupError> {
+    let mut stores = Vec::new(alloc);
+    if stores.push(in_memory(alloc, 2)).is_err() {
+        return Err(GroupError::Memory);
+    }
+    insert_again(alloc, keyed, stores, keys)
+}
+
+#[test]
+fn several_rows(rt: HostRuntime) -> Result<(), Fail> {
+    let alloc = rt.alloc();
+    let fresh = insert_in_memory(alloc, true, &[6, 7]);
+    assert_eq!(rt; fresh, Ok(Staged::Ready(Reply::Count(2))));
+    let twice = insert_in_memory(alloc, true, &[6, 6]);
+    assert_eq!(rt; twice, Ok(Staged::Refused(Reply::Duplicate)));
+    let there = insert_in_memory(alloc, true, &[6, 5]);
+    assert_eq!(rt; there, Ok(Staged::Refused(Reply::Duplicate)));
+    let keyless = insert_in_memory(alloc, false, &[5, 5]);
+    assert_eq!(rt; keyless, Ok(Staged::Ready(Reply::Count(2))));
+    Ok(())
+}
+
+/// An INSERT into a table without a primary key asks the store once, to stage its row. So two INSERTs don't come to the third
+/// call, which fails.
+#[test]
+fn insert_without_key_asks_once(rt: HostRuntime) -> Result<(), Fail> {
+    let alloc = rt.alloc();
+    let mut stores = Vec::new(alloc);
+    stores.push(failing(alloc, 2, [3].to_vec(alloc)?))?;
+    let second = insert_again(alloc, false, stores, &[5]);
+    assert_eq!(rt; second, Ok(Staged::Ready(Reply::Count(1))));
     Ok(())
 }

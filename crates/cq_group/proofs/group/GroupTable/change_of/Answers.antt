@@ -3,7 +3,7 @@ use Rattle.cq_value.specs.Tables.{Table}
 use Rattle.cq_meaning.specs.Effects.{IsSafeWrite}
 use Rattle.cq_engine.specs.WriteEffects.{IsEffect}
 use Rattle.cq_group.proofs.TableLaws.{first_at}
-use Rattle.cq_group.proofs.group.GroupTable.effect_of.Goals as goal
+use Rattle.cq_group.proofs.group.GroupTable.change_of.Goals as goal
 
 pub changes_of-requires-clause-counted : goal.changes_of-requires-clause-counted
 changes_of-requires-clause-counted g c =
