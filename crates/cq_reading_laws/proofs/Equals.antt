@@ -1,5 +1,5 @@
 -- Two aggregates of which the test is true are one.
-use Rattle.std.proofs.Common.{◌≡◌, true, ap, absurd, refl}
+use Rattle.std.proofs.Common.{◌≡◌, true, ap, refl}
 use Rattle.cq_tree.specs.declared.query.Agg.{Agg}
 use Rattle.cq_tree.specs.declared.query.Agg.TheVariants as agg
 use Rattle.cq_same.proofs.Equals.{exprs_same}
