@@ -1,4 +1,4 @@
-use Rattle.std.proofs.Common.{◌∙◌, List, ap, nat_lt}
+use Rattle.std.proofs.Common.{◌∙◌, List, ap, length, nat_lt}
 use Rattle.std.specs.Prelude.{filter}
 use Rattle.cq_value.specs.declared.value.Value.{Value}
 use Rattle.cq_value.specs.Tables.{Table, rows_of}

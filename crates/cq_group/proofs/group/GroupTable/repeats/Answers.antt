@@ -1,4 +1,4 @@
-use Rattle.std.proofs.Common.{◌≡◌, ◌∙◌, ap, length, arith}
+use Rattle.std.proofs.Common.{◌≡◌, ◌∙◌, ap, sym, length, arith}
 use Rattle.std.proofs.lemmas.Grind.{common_steps}
 use Rattle.cq_value.specs.declared.schema.Shape.{Shape}
 use Rattle.cq_value.specs.Tables.{rows_of}
