@@ -3,6 +3,7 @@
 use crate::printing::bound;
 use cq_catalog::Catalog;
 use cq_tree::Statement;
+use cq_value::{Columns, Positions, Text, With};
 use std::alloc::Global;
 use std::test::Fail;
 
@@ -21,23 +22,44 @@ const TABLES: [&str; 12] = [
     "SELECT create_distributed_table('text', 'bigint')",
 ];
 
+fn is_created(catalog: &mut Catalog, name: Text, columns: Columns, key: Positions) -> bool {
+    catalog.create_table(&name, columns, key).is_ok()
+}
+
+fn is_distributed(
+    catalog: &mut Catalog,
+    table: Text,
+    column: Text,
+    count: Option<u32>,
+    with: With,
+) -> bool {
+    catalog.distribute(&table, &column, count, &with, 4).is_ok()
+}
+
+/// Makes the change of a statement, where it is one of the catalogue that isn't refused.
+fn is_made(catalog: &mut Catalog, statement: Statement) -> bool {
+    match statement {
+        Statement::CreateTable { name, columns, key } => is_created(catalog, name, columns, key),
+        Statement::Distribute {
+            table,
+            column,
+            count,
+            with,
+        } => is_distributed(catalog, table, column, count, with),
+        Statement::Reference { table } => catalog.reference(&table).is_ok(),
+        _other => false,
+    }
+}
+
 fn changed(alloc: Global, catalog: &mut Catalog, text: &'static str) -> Result<(), Fail> {
-    let done = match bound(alloc, catalog, text) {
-        Some(Statement::CreateTable { name, columns, key }) => {
-            catalog.create_table(&name, columns, key).is_ok()
-        }
-        Some(
-            Statement::Distribute {
-                table,
-                column,
-                count,
-                with,
-            },
-        ) => catalog.distribute(&table, &column, count, &with, 4).is_ok(),
-        Some(Statement::Reference { table }) => catalog.reference(&table).is_ok(),
-        _ => false,
+    let Some(statement) = bound(alloc, catalog, text) else {
+        return Err(Fail::from(text));
     };
-    if done { Ok(()) } else { Err(Fail::from(text)) }
+    if is_made(catalog, statement) {
+        Ok(())
+    } else {
+        Err(Fail::from(text))
+    }
 }
 
 /// The tables t, u, cc1 and text, which are distributed, and the reference tables r and r2.
