@@ -37,10 +37,10 @@ start_server() {
     $as_owner "$bin/pg_ctl" -D "$work/data" -w -l "$work/server.log" -o "-k $work -h ''" start
 }
 
-# Builds the program where needed, and finds out which of the others are there. sqlite3 comes first: its time is the unit.
+# Proves and builds the program where needed, and finds out which of the others are there. sqlite3 comes first: its time is the unit.
 prepare() {
     command -v sqlite3 >/dev/null || fail 'sqlite3 is not installed, so there is no ratio'
-    "$top/run.sh" >"$work/log" 2>&1 || { cat "$work/log"; exit 1; }
+    "$top/run.sh" --proved "$work/nothing" >"$work/log" 2>&1 || { cat "$work/log"; exit 1; }
     programs='sqlite3 citus_run'
     if start_server >"$work/log" 2>&1; then
         programs="$programs psql"
