@@ -7,8 +7,6 @@ mod answer;
 mod answered;
 mod conversion;
 mod fault;
-#[cfg(test)]
-mod tests;
 mod unsupported;
 
 pub use answer::{Answer, Tag};

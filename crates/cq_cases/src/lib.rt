@@ -1,15 +1,8 @@
-//! Small queries and writes whose answers were worked out by PostgreSQL's rules, and not by this code. `checked_query` and
-//! `checked_write` run them where their widths are kept; all else is tests.
+//! What no script shows: journals and what stores hold at the end, and sources, sinks and stores that fail. All is tests; the scripts
+//! are in `tests/sql`.
 #![tactic(auto)]
 
 #[cfg(test)]
-mod builder;
-mod checked;
+mod faults;
 #[cfg(test)]
-mod database;
-#[cfg(test)]
-mod queries;
-#[cfg(test)]
-mod writes;
-
-pub use checked::{checked_query, checked_write};
+mod runs;

@@ -11,8 +11,6 @@ mod opening;
 mod shard;
 mod shards;
 mod spare;
-#[cfg(test)]
-mod tests;
 mod worker;
 
 pub use cluster::{Cluster, Ended};

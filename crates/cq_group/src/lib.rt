@@ -10,8 +10,6 @@ mod place;
 mod read;
 mod stores;
 mod table;
-#[cfg(test)]
-mod tests;
 mod write;
 
 pub use gate::{Gate, IdleGate, Point};

@@ -2,8 +2,6 @@
 //! text of each answer.
 #![tactic(auto)]
 
-#[cfg(test)]
-mod answer_tests;
 mod cutter;
 mod fatal;
 mod fault;
@@ -14,8 +12,6 @@ mod schedule;
 mod sink;
 mod source;
 mod standard;
-#[cfg(test)]
-mod tests;
 mod words;
 
 pub use cutter::{Cutter, Step};

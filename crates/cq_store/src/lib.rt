@@ -4,8 +4,6 @@
 mod fault;
 mod mem;
 mod store;
-#[cfg(test)]
-mod tests;
 mod worker;
 
 pub use fault::FaultStore;

@@ -1,0 +1,4 @@
+-- Blanks, comments and semicolons are no statement.
+
+ 
+;; 

@@ -1,0 +1,8 @@
+-- A token may have 64 brackets around it, and no more.
+
+CREATE TABLE t (k bigint, v bigint, PRIMARY KEY (k));
+SELECT create_distributed_table('t', 'k', shard_count => 4);
+INSERT INTO t VALUES (1,10);
+SELECT * FROM t WHERE k = ((((((((((((((((((((((((((((((((((((((((((((((((((((((((((((((((1))))))))))))))))))))))))))))))))))))))))))))))))))))))))))))))));
+SELECT * FROM t WHERE k = (((((((((((((((((((((((((((((((((((((((((((((((((((((((((((((((((1)))))))))))))))))))))))))))))))))))))))))))))))))))))))))))))))));
+SELECT 'a;

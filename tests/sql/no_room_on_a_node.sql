@@ -1,0 +1,88 @@
+-- A table needs a spare store for each shard on the shard's node. Each node has 2048 stores. What is refused takes
+-- none.
+
+SET citus.shard_count TO 120;
+CREATE TABLE t1 (k bigint, v bigint, PRIMARY KEY (k));
+CREATE TABLE t2 (k bigint, v bigint, PRIMARY KEY (k));
+CREATE TABLE t3 (k bigint, v bigint, PRIMARY KEY (k));
+CREATE TABLE t4 (k bigint, v bigint, PRIMARY KEY (k));
+CREATE TABLE t5 (k bigint, v bigint, PRIMARY KEY (k));
+CREATE TABLE t6 (k bigint, v bigint, PRIMARY KEY (k));
+CREATE TABLE t7 (k bigint, v bigint, PRIMARY KEY (k));
+CREATE TABLE t8 (k bigint, v bigint, PRIMARY KEY (k));
+CREATE TABLE t9 (k bigint, v bigint, PRIMARY KEY (k));
+CREATE TABLE t10 (k bigint, v bigint, PRIMARY KEY (k));
+CREATE TABLE t11 (k bigint, v bigint, PRIMARY KEY (k));
+CREATE TABLE t12 (k bigint, v bigint, PRIMARY KEY (k));
+CREATE TABLE t13 (k bigint, v bigint, PRIMARY KEY (k));
+CREATE TABLE t14 (k bigint, v bigint, PRIMARY KEY (k));
+CREATE TABLE t15 (k bigint, v bigint, PRIMARY KEY (k));
+CREATE TABLE t16 (k bigint, v bigint, PRIMARY KEY (k));
+CREATE TABLE t17 (k bigint, v bigint, PRIMARY KEY (k));
+CREATE TABLE t18 (k bigint, v bigint, PRIMARY KEY (k));
+CREATE TABLE t19 (k bigint, v bigint, PRIMARY KEY (k));
+CREATE TABLE t20 (k bigint, v bigint, PRIMARY KEY (k));
+CREATE TABLE t21 (k bigint, v bigint, PRIMARY KEY (k));
+CREATE TABLE t22 (k bigint, v bigint, PRIMARY KEY (k));
+CREATE TABLE t23 (k bigint, v bigint, PRIMARY KEY (k));
+CREATE TABLE t24 (k bigint, v bigint, PRIMARY KEY (k));
+CREATE TABLE t25 (k bigint, v bigint, PRIMARY KEY (k));
+CREATE TABLE t26 (k bigint, v bigint, PRIMARY KEY (k));
+CREATE TABLE t27 (k bigint, v bigint, PRIMARY KEY (k));
+CREATE TABLE t28 (k bigint, v bigint, PRIMARY KEY (k));
+CREATE TABLE t29 (k bigint, v bigint, PRIMARY KEY (k));
+CREATE TABLE t30 (k bigint, v bigint, PRIMARY KEY (k));
+CREATE TABLE t31 (k bigint, v bigint, PRIMARY KEY (k));
+CREATE TABLE t32 (k bigint, v bigint, PRIMARY KEY (k));
+CREATE TABLE t33 (k bigint, v bigint, PRIMARY KEY (k));
+CREATE TABLE t34 (k bigint, v bigint, PRIMARY KEY (k));
+CREATE TABLE t35 (k bigint, v bigint, PRIMARY KEY (k));
+CREATE TABLE t36 (k bigint, v bigint, PRIMARY KEY (k));
+
+-- Each of these takes 60 stores of each node.
+SELECT create_distributed_table('t1', 'k', colocate_with => 'none');
+SELECT create_distributed_table('t2', 'k', colocate_with => 't1');
+SELECT create_distributed_table('t3', 'k', colocate_with => 't1');
+SELECT create_distributed_table('t4', 'k', colocate_with => 't1');
+SELECT create_distributed_table('t5', 'k', colocate_with => 't1');
+SELECT create_distributed_table('t6', 'k', colocate_with => 't1');
+SELECT create_distributed_table('t7', 'k', colocate_with => 't1');
+SELECT create_distributed_table('t8', 'k', colocate_with => 't1');
+SELECT create_distributed_table('t9', 'k', colocate_with => 't1');
+SELECT create_distributed_table('t10', 'k', colocate_with => 'none');
+SELECT create_distributed_table('t11', 'k', colocate_with => 't10');
+SELECT create_distributed_table('t12', 'k', colocate_with => 't10');
+SELECT create_distributed_table('t13', 'k', colocate_with => 't10');
+SELECT create_distributed_table('t14', 'k', colocate_with => 't10');
+SELECT create_distributed_table('t15', 'k', colocate_with => 't10');
+SELECT create_distributed_table('t16', 'k', colocate_with => 't10');
+SELECT create_distributed_table('t17', 'k', colocate_with => 't10');
+SELECT create_distributed_table('t18', 'k', colocate_with => 't10');
+SELECT create_distributed_table('t19', 'k', colocate_with => 'none');
+SELECT create_distributed_table('t20', 'k', colocate_with => 't19');
+SELECT create_distributed_table('t21', 'k', colocate_with => 't19');
+SELECT create_distributed_table('t22', 'k', colocate_with => 't19');
+SELECT create_distributed_table('t23', 'k', colocate_with => 't19');
+SELECT create_distributed_table('t24', 'k', colocate_with => 't19');
+SELECT create_distributed_table('t25', 'k', colocate_with => 't19');
+SELECT create_distributed_table('t26', 'k', colocate_with => 't19');
+SELECT create_distributed_table('t27', 'k', colocate_with => 't19');
+SELECT create_distributed_table('t28', 'k', colocate_with => 'none');
+SELECT create_distributed_table('t29', 'k', colocate_with => 't28');
+SELECT create_distributed_table('t30', 'k', colocate_with => 't28');
+SELECT create_distributed_table('t31', 'k', colocate_with => 't28');
+SELECT create_distributed_table('t32', 'k', colocate_with => 't28');
+SELECT create_distributed_table('t33', 'k', colocate_with => 't28');
+SELECT create_distributed_table('t34', 'k', colocate_with => 't28');
+
+-- 8 are left on each.
+SELECT create_distributed_table('t35', 'k', colocate_with => 't1');
+SELECT create_distributed_table('t35', 'k', shard_count => 17);
+SELECT create_distributed_table('t35', 'k', shard_count => 129);
+INSERT INTO t35 VALUES (1, 10);
+SELECT create_distributed_table('t35', 'k', shard_count => 16);
+SELECT create_distributed_table('t36', 'k', shard_count => 1);
+SELECT create_distributed_table('t36', 'k', colocate_with => 't35');
+INSERT INTO t35 VALUES (1, 10);
+INSERT INTO t35 VALUES (1, 20);
+SELECT v FROM t35 WHERE k = 1;

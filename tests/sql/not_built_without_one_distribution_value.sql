@@ -1,0 +1,27 @@
+-- Queries over one distributed table whose condition names no single value of its distribution column.
+
+-- Two distributed tables, and one that is not.
+CREATE TABLE sales (tenant bigint, id bigint, price bigint, quantity integer, note text, PRIMARY KEY (tenant, id));
+SELECT create_distributed_table('sales', 'tenant', shard_count => 4);
+CREATE TABLE shops (id bigint PRIMARY KEY, name text);
+SELECT create_distributed_table('shops', 'id');
+CREATE TABLE loose (id bigint, name text);
+
+-- What is refused.
+SELECT id FROM sales;
+SELECT count(*) FROM sales WHERE id = 1;
+SELECT id FROM sales WHERE tenant > 1;
+SELECT id FROM sales WHERE tenant = NULL;
+SELECT id FROM sales WHERE 1 = tenant;
+SELECT id FROM sales WHERE tenant = 1 + 0;
+SELECT id FROM sales WHERE tenant = - -1;
+SELECT id FROM sales WHERE tenant + 0 = 1;
+SELECT id FROM sales WHERE tenant = id;
+SELECT id FROM sales WHERE NOT tenant <> 1;
+SELECT id FROM sales WHERE tenant = 1 OR id = 1;
+SELECT id FROM sales WHERE tenant = 1 OR tenant = 1;
+SELECT id FROM sales WHERE tenant IN (1, 1);
+SELECT id FROM sales WHERE tenant BETWEEN 1 AND 1;
+SELECT id FROM sales WHERE tenant = 1 AND tenant = 1;
+SELECT id FROM sales WHERE tenant = 1 AND tenant > 0;
+SELECT id FROM sales WHERE tenant = 1 AND (id = 1 OR tenant = 2);

@@ -1,0 +1,710 @@
+-- Statements, texts and comments that are longer than what is read at a time are cut as short ones are.
+
+CREATE TABLE t (k bigint, id bigint, note text, PRIMARY KEY (k, id));
+SELECT create_distributed_table('t', 'k', shard_count => 4);
+-- line 0; 'of a long comment
+-- line 1; 'of a long comment
+-- line 2; 'of a long comment
+-- line 3; 'of a long comment
+-- line 4; 'of a long comment
+-- line 5; 'of a long comment
+-- line 6; 'of a long comment
+-- line 7; 'of a long comment
+-- line 8; 'of a long comment
+-- line 9; 'of a long comment
+-- line 10; 'of a long comment
+-- line 11; 'of a long comment
+-- line 12; 'of a long comment
+-- line 13; 'of a long comment
+-- line 14; 'of a long comment
+-- line 15; 'of a long comment
+-- line 16; 'of a long comment
+-- line 17; 'of a long comment
+-- line 18; 'of a long comment
+-- line 19; 'of a long comment
+-- line 20; 'of a long comment
+-- line 21; 'of a long comment
+-- line 22; 'of a long comment
+-- line 23; 'of a long comment
+-- line 24; 'of a long comment
+-- line 25; 'of a long comment
+-- line 26; 'of a long comment
+-- line 27; 'of a long comment
+-- line 28; 'of a long comment
+-- line 29; 'of a long comment
+-- line 30; 'of a long comment
+-- line 31; 'of a long comment
+-- line 32; 'of a long comment
+-- line 33; 'of a long comment
+-- line 34; 'of a long comment
+-- line 35; 'of a long comment
+-- line 36; 'of a long comment
+-- line 37; 'of a long comment
+-- line 38; 'of a long comment
+-- line 39; 'of a long comment
+-- line 40; 'of a long comment
+-- line 41; 'of a long comment
+-- line 42; 'of a long comment
+-- line 43; 'of a long comment
+-- line 44; 'of a long comment
+-- line 45; 'of a long comment
+-- line 46; 'of a long comment
+-- line 47; 'of a long comment
+-- line 48; 'of a long comment
+-- line 49; 'of a long comment
+-- line 50; 'of a long comment
+-- line 51; 'of a long comment
+-- line 52; 'of a long comment
+-- line 53; 'of a long comment
+-- line 54; 'of a long comment
+-- line 55; 'of a long comment
+-- line 56; 'of a long comment
+-- line 57; 'of a long comment
+-- line 58; 'of a long comment
+-- line 59; 'of a long comment
+-- line 60; 'of a long comment
+-- line 61; 'of a long comment
+-- line 62; 'of a long comment
+-- line 63; 'of a long comment
+-- line 64; 'of a long comment
+-- line 65; 'of a long comment
+-- line 66; 'of a long comment
+-- line 67; 'of a long comment
+-- line 68; 'of a long comment
+-- line 69; 'of a long comment
+-- line 70; 'of a long comment
+-- line 71; 'of a long comment
+-- line 72; 'of a long comment
+-- line 73; 'of a long comment
+-- line 74; 'of a long comment
+-- line 75; 'of a long comment
+-- line 76; 'of a long comment
+-- line 77; 'of a long comment
+-- line 78; 'of a long comment
+-- line 79; 'of a long comment
+-- line 80; 'of a long comment
+-- line 81; 'of a long comment
+-- line 82; 'of a long comment
+-- line 83; 'of a long comment
+-- line 84; 'of a long comment
+-- line 85; 'of a long comment
+-- line 86; 'of a long comment
+-- line 87; 'of a long comment
+-- line 88; 'of a long comment
+-- line 89; 'of a long comment
+-- line 90; 'of a long comment
+-- line 91; 'of a long comment
+-- line 92; 'of a long comment
+-- line 93; 'of a long comment
+-- line 94; 'of a long comment
+-- line 95; 'of a long comment
+-- line 96; 'of a long comment
+-- line 97; 'of a long comment
+-- line 98; 'of a long comment
+-- line 99; 'of a long comment
+-- line 100; 'of a long comment
+-- line 101; 'of a long comment
+-- line 102; 'of a long comment
+-- line 103; 'of a long comment
+-- line 104; 'of a long comment
+-- line 105; 'of a long comment
+-- line 106; 'of a long comment
+-- line 107; 'of a long comment
+-- line 108; 'of a long comment
+-- line 109; 'of a long comment
+-- line 110; 'of a long comment
+-- line 111; 'of a long comment
+-- line 112; 'of a long comment
+-- line 113; 'of a long comment
+-- line 114; 'of a long comment
+-- line 115; 'of a long comment
+-- line 116; 'of a long comment
+-- line 117; 'of a long comment
+-- line 118; 'of a long comment
+-- line 119; 'of a long comment
+-- line 120; 'of a long comment
+-- line 121; 'of a long comment
+-- line 122; 'of a long comment
+-- line 123; 'of a long comment
+-- line 124; 'of a long comment
+-- line 125; 'of a long comment
+-- line 126; 'of a long comment
+-- line 127; 'of a long comment
+-- line 128; 'of a long comment
+-- line 129; 'of a long comment
+-- line 130; 'of a long comment
+-- line 131; 'of a long comment
+-- line 132; 'of a long comment
+-- line 133; 'of a long comment
+-- line 134; 'of a long comment
+-- line 135; 'of a long comment
+-- line 136; 'of a long comment
+-- line 137; 'of a long comment
+-- line 138; 'of a long comment
+-- line 139; 'of a long comment
+-- line 140; 'of a long comment
+-- line 141; 'of a long comment
+-- line 142; 'of a long comment
+-- line 143; 'of a long comment
+-- line 144; 'of a long comment
+-- line 145; 'of a long comment
+-- line 146; 'of a long comment
+-- line 147; 'of a long comment
+-- line 148; 'of a long comment
+-- line 149; 'of a long comment
+-- line 150; 'of a long comment
+-- line 151; 'of a long comment
+-- line 152; 'of a long comment
+-- line 153; 'of a long comment
+-- line 154; 'of a long comment
+-- line 155; 'of a long comment
+-- line 156; 'of a long comment
+-- line 157; 'of a long comment
+-- line 158; 'of a long comment
+-- line 159; 'of a long comment
+-- line 160; 'of a long comment
+-- line 161; 'of a long comment
+-- line 162; 'of a long comment
+-- line 163; 'of a long comment
+-- line 164; 'of a long comment
+-- line 165; 'of a long comment
+-- line 166; 'of a long comment
+-- line 167; 'of a long comment
+-- line 168; 'of a long comment
+-- line 169; 'of a long comment
+-- line 170; 'of a long comment
+-- line 171; 'of a long comment
+-- line 172; 'of a long comment
+-- line 173; 'of a long comment
+-- line 174; 'of a long comment
+-- line 175; 'of a long comment
+-- line 176; 'of a long comment
+-- line 177; 'of a long comment
+-- line 178; 'of a long comment
+-- line 179; 'of a long comment
+-- line 180; 'of a long comment
+-- line 181; 'of a long comment
+-- line 182; 'of a long comment
+-- line 183; 'of a long comment
+-- line 184; 'of a long comment
+-- line 185; 'of a long comment
+-- line 186; 'of a long comment
+-- line 187; 'of a long comment
+-- line 188; 'of a long comment
+-- line 189; 'of a long comment
+-- line 190; 'of a long comment
+-- line 191; 'of a long comment
+-- line 192; 'of a long comment
+-- line 193; 'of a long comment
+-- line 194; 'of a long comment
+-- line 195; 'of a long comment
+-- line 196; 'of a long comment
+-- line 197; 'of a long comment
+-- line 198; 'of a long comment
+-- line 199; 'of a long comment
+-- line 200; 'of a long comment
+-- line 201; 'of a long comment
+-- line 202; 'of a long comment
+-- line 203; 'of a long comment
+-- line 204; 'of a long comment
+-- line 205; 'of a long comment
+-- line 206; 'of a long comment
+-- line 207; 'of a long comment
+-- line 208; 'of a long comment
+-- line 209; 'of a long comment
+-- line 210; 'of a long comment
+-- line 211; 'of a long comment
+-- line 212; 'of a long comment
+-- line 213; 'of a long comment
+-- line 214; 'of a long comment
+-- line 215; 'of a long comment
+-- line 216; 'of a long comment
+-- line 217; 'of a long comment
+-- line 218; 'of a long comment
+-- line 219; 'of a long comment
+-- line 220; 'of a long comment
+-- line 221; 'of a long comment
+-- line 222; 'of a long comment
+-- line 223; 'of a long comment
+-- line 224; 'of a long comment
+-- line 225; 'of a long comment
+-- line 226; 'of a long comment
+-- line 227; 'of a long comment
+-- line 228; 'of a long comment
+-- line 229; 'of a long comment
+-- line 230; 'of a long comment
+-- line 231; 'of a long comment
+-- line 232; 'of a long comment
+-- line 233; 'of a long comment
+-- line 234; 'of a long comment
+-- line 235; 'of a long comment
+-- line 236; 'of a long comment
+-- line 237; 'of a long comment
+-- line 238; 'of a long comment
+-- line 239; 'of a long comment
+-- line 240; 'of a long comment
+-- line 241; 'of a long comment
+-- line 242; 'of a long comment
+-- line 243; 'of a long comment
+-- line 244; 'of a long comment
+-- line 245; 'of a long comment
+-- line 246; 'of a long comment
+-- line 247; 'of a long comment
+-- line 248; 'of a long comment
+-- line 249; 'of a long comment
+-- line 250; 'of a long comment
+-- line 251; 'of a long comment
+-- line 252; 'of a long comment
+-- line 253; 'of a long comment
+-- line 254; 'of a long comment
+-- line 255; 'of a long comment
+-- line 256; 'of a long comment
+-- line 257; 'of a long comment
+-- line 258; 'of a long comment
+-- line 259; 'of a long comment
+-- line 260; 'of a long comment
+-- line 261; 'of a long comment
+-- line 262; 'of a long comment
+-- line 263; 'of a long comment
+-- line 264; 'of a long comment
+-- line 265; 'of a long comment
+-- line 266; 'of a long comment
+-- line 267; 'of a long comment
+-- line 268; 'of a long comment
+-- line 269; 'of a long comment
+-- line 270; 'of a long comment
+-- line 271; 'of a long comment
+-- line 272; 'of a long comment
+-- line 273; 'of a long comment
+-- line 274; 'of a long comment
+-- line 275; 'of a long comment
+-- line 276; 'of a long comment
+-- line 277; 'of a long comment
+-- line 278; 'of a long comment
+-- line 279; 'of a long comment
+-- line 280; 'of a long comment
+-- line 281; 'of a long comment
+-- line 282; 'of a long comment
+-- line 283; 'of a long comment
+-- line 284; 'of a long comment
+-- line 285; 'of a long comment
+-- line 286; 'of a long comment
+-- line 287; 'of a long comment
+-- line 288; 'of a long comment
+-- line 289; 'of a long comment
+-- line 290; 'of a long comment
+-- line 291; 'of a long comment
+-- line 292; 'of a long comment
+-- line 293; 'of a long comment
+-- line 294; 'of a long comment
+-- line 295; 'of a long comment
+-- line 296; 'of a long comment
+-- line 297; 'of a long comment
+-- line 298; 'of a long comment
+-- line 299; 'of a long comment
+INSERT INTO t VALUES (1, 1, 'it''s; -- it''s; -- it''s; -- it''s; -- it''s; -- it''s; -- it''s; -- it''s; -- it''s; -- it''s; -- it''s; -- it''s; -- it''s; -- it''s; -- it''s; -- it''s; -- it''s; -- it''s; -- it''s; -- it''s; -- it''s; -- it''s; -- it''s; -- it''s; -- it''s; -- it''s; -- it''s; -- it''s; -- it''s; -- it''s; -- it''s; -- it''s; -- it''s; -- it''s; -- it''s; -- it''s; -- it''s; -- it''s; -- it''s; -- it''s; -- it''s; -- it''s; -- it''s; -- it''s; -- it''s; -- it''s; -- it''s; -- it''s; -- it''s; -- it''s; -- it''s; -- it''s; -- it''s; -- it''s; -- it''s; -- it''s; -- it''s; -- it''s; -- it''s; -- it''s; -- it''s; -- it''s; -- it''s; -- it''s; -- it''s; -- it''s; -- it''s; -- it''s; -- it''s; -- it''s; -- it''s; -- it''s; -- it''s; -- it''s; -- it''s; -- it''s; -- it''s; -- it''s; -- it''s; -- it''s; -- it''s; -- it''s; -- it''s; -- it''s; -- it''s; -- it''s; -- it''s; -- it''s; -- it''s; -- it''s; -- it''s; -- it''s; -- it''s; -- it''s; -- it''s; -- it''s; -- it''s; -- it''s; -- it''s; -- it''s; -- it''s; -- it''s; -- it''s; -- it''s; -- it''s; -- it''s; -- it''s; -- it''s; -- it''s; -- it''s; -- it''s; -- it''s; -- it''s; -- it''s; -- it''s; -- it''s; -- it''s; -- it''s; -- it''s; -- it''s; -- it''s; -- it''s; -- it''s; -- it''s; -- it''s; -- it''s; -- it''s; -- it''s; -- it''s; -- it''s; -- it''s; -- it''s; -- it''s; -- it''s; -- it''s; -- it''s; -- it''s; -- it''s; -- it''s; -- it''s; -- it''s; -- it''s; -- it''s; -- it''s; -- it''s; -- it''s; -- it''s; -- it''s; -- it''s; -- it''s; -- it''s; -- it''s; -- it''s; -- it''s; -- it''s; -- it''s; -- it''s; -- it''s; -- it''s; -- it''s; -- it''s; -- it''s; -- it''s; -- it''s; -- it''s; -- it''s; -- it''s; -- it''s; -- it''s; -- it''s; -- it''s; -- it''s; -- it''s; -- it''s; -- it''s; -- it''s; -- it''s; -- it''s; -- it''s; -- it''s; -- it''s; -- it''s; -- it''s; -- it''s; -- it''s; -- it''s; -- it''s; -- it''s; -- it''s; -- it''s; -- it''s; -- it''s; -- it''s; -- it''s; -- it''s; -- it''s; -- it''s; -- it''s; -- it''s; -- it''s; -- it''s; -- it''s; -- it''s; -- it''s; -- it''s; -- it''s; -- it''s; -- it''s; -- it''s; -- it''s; -- it''s; -- it''s; -- it''s; -- it''s; -- it''s; -- it''s; -- it''s; -- it''s; -- it''s; -- it''s; -- it''s; -- it''s; -- it''s; -- it''s; -- it''s; -- it''s; -- it''s; -- it''s; -- it''s; -- it''s; -- it''s; -- it''s; -- it''s; -- it''s; -- it''s; -- it''s; -- it''s; -- it''s; -- it''s; -- it''s; -- it''s; -- it''s; -- it''s; -- it''s; -- it''s; -- it''s; -- it''s; -- it''s; -- it''s; -- it''s; -- it''s; -- it''s; -- it''s; -- it''s; -- it''s; -- it''s; -- it''s; -- it''s; -- it''s; -- it''s; -- it''s; -- it''s; -- it''s; -- it''s; -- it''s; -- it''s; -- it''s; -- it''s; -- it''s; -- it''s; -- it''s; -- it''s; -- it''s; -- it''s; -- it''s; -- it''s; -- it''s; -- it''s; -- it''s; -- it''s; -- it''s; -- it''s; -- it''s; -- it''s; -- it''s; -- it''s; -- it''s; -- it''s; -- it''s; -- it''s; -- it''s; -- it''s; -- it''s; -- it''s; -- it''s; -- it''s; -- it''s; -- it''s; -- it''s; -- it''s; -- it''s; -- it''s; -- it''s; -- it''s; -- it''s; -- it''s; -- it''s; -- it''s; -- it''s; -- it''s; -- it''s; -- it''s; -- it''s; -- it''s; -- it''s; -- it''s; -- it''s; -- it''s; -- it''s; -- it''s; -- it''s; -- it''s; -- it''s; -- it''s; -- it''s; -- it''s; -- it''s; -- it''s; -- it''s; -- it''s; -- it''s; -- it''s; -- it''s; -- it''s; -- it''s; -- it''s; -- it''s; -- it''s; -- it''s; -- it''s; -- it''s; -- it''s; -- it''s; -- it''s; -- it''s; -- it''s; -- it''s; -- it''s; -- it''s; -- it''s; -- it''s; -- it''s; -- it''s; -- it''s; -- it''s; -- it''s; -- it''s; -- it''s; -- it''s; -- it''s; -- it''s; -- it''s; -- it''s; -- it''s; -- it''s; -- it''s; -- it''s; -- it''s; -- it''s; -- it''s; -- it''s; -- it''s; -- it''s; -- it''s; -- it''s; -- it''s; -- it''s; -- it''s; -- it''s; -- it''s; -- it''s; -- it''s; -- it''s; -- it''s; -- it''s; -- it''s; -- it''s; -- it''s; -- it''s; -- it''s; -- it''s; -- it''s; -- it''s; -- it''s; -- it''s; -- it''s; -- it''s; -- it''s; -- it''s; -- it''s; -- it''s; -- it''s; -- it''s; -- it''s; -- it''s; -- it''s; -- it''s; -- it''s; -- it''s; -- it''s; -- it''s; -- it''s; -- it''s; -- it''s; -- it''s; -- it''s; -- it''s; -- it''s; -- it''s; -- it''s; -- it''s; -- it''s; -- it''s; -- it''s; -- it''s; -- it''s; -- it''s; -- it''s; -- it''s; -- it''s; -- it''s; -- it''s; -- it''s; -- it''s; -- it''s; -- it''s; -- it''s; -- it''s; -- it''s; -- it''s; -- it''s; -- it''s; -- it''s; -- it''s; -- it''s; -- it''s; -- it''s; -- it''s; -- it''s; -- it''s; -- it''s; -- it''s; -- it''s; -- it''s; -- it''s; -- it''s; -- it''s; -- it''s; -- it''s; -- it''s; -- it''s; -- it''s; -- it''s; -- it''s; -- it''s; -- it''s; -- it''s; -- it''s; -- it''s; -- it''s; -- it''s; -- it''s; -- it''s; -- it''s; -- it''s; -- it''s; -- it''s; -- it''s; -- it''s; -- it''s; -- it''s; -- it''s; -- it''s; -- it''s; -- it''s; -- it''s; -- it''s; -- it''s; -- it''s; -- it''s; -- it''s; -- it''s; -- it''s; -- it''s; -- it''s; -- it''s; -- it''s; -- it''s; -- it''s; -- it''s; -- it''s; -- it''s; -- it''s; -- it''s; -- it''s; -- it''s; -- it''s; -- it''s; -- it''s; -- it''s; -- it''s; -- it''s; -- it''s; -- it''s; -- it''s; -- it''s; -- it''s; -- it''s; -- it''s; -- it''s; -- it''s; -- it''s; -- it''s; -- it''s; -- it''s; -- it''s; -- it''s; -- it''s; -- it''s; -- it''s; -- it''s; -- it''s; -- it''s; -- it''s; -- it''s; -- it''s; -- it''s; -- it''s; -- it''s; -- it''s; -- it''s; -- it''s; -- it''s; -- it''s; -- it''s; -- it''s; -- it''s; -- it''s; -- it''s; -- it''s; -- it''s; -- it''s; -- it''s; -- it''s; -- it''s; -- it''s; -- it''s; -- it''s; -- it''s; -- it''s; -- it''s; -- it''s; -- it''s; -- it''s; -- it''s; -- it''s; -- it''s; -- it''s; -- it''s; -- it''s; -- it''s; -- it''s; -- it''s; -- it''s; -- it''s; -- it''s; -- it''s; -- it''s; -- it''s; -- it''s; -- it''s; -- it''s; -- it''s; -- it''s; -- it''s; -- it''s; -- it''s; -- it''s; -- it''s; -- it''s; -- it''s; -- it''s; -- it''s; -- it''s; -- it''s; -- it''s; -- it''s; -- it''s; -- it''s; -- it''s; -- it''s; -- it''s; -- it''s; -- it''s; -- it''s; -- it''s; -- it''s; -- it''s; -- it''s; -- it''s; -- it''s; -- it''s; -- it''s; -- it''s; -- it''s; -- it''s; -- it''s; -- it''s; -- it''s; -- it''s; -- it''s; -- it''s; -- it''s; -- it''s; -- it''s; -- it''s; -- it''s; -- it''s; -- it''s; -- it''s; -- it''s; -- it''s; -- it''s; -- it''s; -- it''s; -- it''s; -- it''s; -- it''s; -- it''s; -- it''s; -- it''s; -- it''s; -- it''s; -- it''s; -- it''s; -- it''s; -- it''s; -- it''s; -- it''s; -- it''s; -- it''s; -- it''s; -- it''s; -- it''s; -- it''s; -- it''s; -- it''s; -- it''s; -- it''s; -- it''s; -- it''s; -- it''s; -- it''s; -- it''s; -- it''s; -- it''s; -- it''s; -- it''s; -- it''s; -- it''s; -- it''s; -- it''s; -- it''s; -- it''s; -- it''s; -- it''s; -- it''s; -- it''s; -- it''s; -- it''s; -- it''s; -- it''s; -- it''s; -- it''s; -- it''s; -- it''s; -- it''s; -- it''s; -- it''s; -- it''s; -- it''s; -- it''s; -- it''s; -- it''s; -- it''s; -- it''s; -- it''s; -- it''s; -- it''s; -- it''s; -- it''s; -- it''s; -- it''s; -- it''s; -- it''s; -- it''s; -- it''s; -- it''s; -- it''s; -- it''s; -- it''s; -- it''s; -- it''s; -- it''s; -- it''s; -- it''s; -- it''s; -- it''s; -- it''s; -- it''s; -- it''s; -- it''s; -- it''s; -- it''s; -- it''s; -- it''s; -- it''s; -- it''s; -- it''s; -- it''s; -- it''s; -- it''s; -- it''s; -- it''s; -- it''s; -- it''s; -- it''s; -- it''s; -- it''s; -- it''s; -- it''s; -- it''s; -- it''s; -- it''s; -- it''s; -- it''s; -- it''s; -- it''s; -- it''s; -- it''s; -- it''s; -- it''s; -- it''s; -- it''s; -- it''s; -- it''s; -- it''s; -- it''s; -- it''s; -- it''s; -- it''s; -- it''s; -- it''s; -- it''s; -- it''s; -- it''s; -- it''s; -- it''s; -- it''s; -- it''s; -- it''s; -- it''s; -- it''s; -- it''s; -- it''s; -- it''s; -- it''s; -- it''s; -- it''s; -- it''s; -- it''s; -- it''s; -- it''s; -- it''s; -- it''s; -- it''s; -- it''s; -- it''s; -- it''s; -- it''s; -- it''s; -- it''s; -- it''s; -- it''s; -- it''s; -- it''s; -- it''s; -- it''s; -- it''s; -- it''s; -- it''s; -- it''s; -- it''s; -- it''s; -- it''s; -- it''s; -- it''s; -- it''s; -- it''s; -- it''s; -- it''s; -- it''s; -- it''s; -- it''s; -- it''s; -- it''s; -- it''s; -- it''s; -- it''s; -- it''s; -- it''s; -- it''s; -- it''s; -- it''s; -- it''s; -- it''s; -- it''s; -- it''s; -- it''s; -- it''s; -- it''s; -- it''s; -- it''s; -- it''s; -- it''s; -- it''s; -- it''s; -- it''s; -- it''s; -- it''s; -- it''s; -- it''s; -- it''s; -- it''s; -- it''s; -- it''s; -- it''s; -- it''s; -- it''s; -- it''s; -- it''s; -- it''s; -- it''s; -- it''s; -- it''s; -- it''s; -- it''s; -- it''s; -- it''s; -- it''s; -- it''s; -- it''s; -- it''s; -- it''s; -- it''s; -- it''s; -- it''s; -- it''s; -- it''s; -- it''s; -- it''s; -- it''s; -- it''s; -- it''s; -- it''s; -- it''s; -- it''s; -- it''s; -- it''s; -- it''s; -- it''s; -- it''s; -- it''s; -- it''s; -- it''s; -- it''s; -- it''s; -- it''s; -- it''s; -- it''s; -- it''s; -- it''s; -- it''s; -- it''s; -- it''s; -- it''s; -- it''s; -- it''s; -- it''s; -- it''s; -- it''s; -- it''s; -- it''s; -- it''s; -- it''s; -- it''s; -- it''s; -- it''s; -- it''s; -- it''s; -- it''s; -- it''s; -- it''s; -- it''s; -- it''s; -- it''s; -- it''s; -- it''s; -- it''s; -- it''s; -- it''s; -- it''s; -- it''s; -- it''s; -- it''s; -- it''s; -- it''s; -- it''s; -- it''s; -- it''s; -- it''s; -- it''s; -- it''s; -- it''s; -- it''s; -- it''s; -- it''s; -- it''s; -- it''s; -- it''s; -- it''s; -- it''s; -- it''s; -- it''s; -- it''s; -- it''s; -- it''s; -- it''s; -- it''s; -- it''s; -- ');
+-- more 0; 'of a long comment
+-- more 1; 'of a long comment
+-- more 2; 'of a long comment
+-- more 3; 'of a long comment
+-- more 4; 'of a long comment
+-- more 5; 'of a long comment
+-- more 6; 'of a long comment
+-- more 7; 'of a long comment
+-- more 8; 'of a long comment
+-- more 9; 'of a long comment
+-- more 10; 'of a long comment
+-- more 11; 'of a long comment
+-- more 12; 'of a long comment
+-- more 13; 'of a long comment
+-- more 14; 'of a long comment
+-- more 15; 'of a long comment
+-- more 16; 'of a long comment
+-- more 17; 'of a long comment
+-- more 18; 'of a long comment
+-- more 19; 'of a long comment
+-- more 20; 'of a long comment
+-- more 21; 'of a long comment
+-- more 22; 'of a long comment
+-- more 23; 'of a long comment
+-- more 24; 'of a long comment
+-- more 25; 'of a long comment
+-- more 26; 'of a long comment
+-- more 27; 'of a long comment
+-- more 28; 'of a long comment
+-- more 29; 'of a long comment
+-- more 30; 'of a long comment
+-- more 31; 'of a long comment
+-- more 32; 'of a long comment
+-- more 33; 'of a long comment
+-- more 34; 'of a long comment
+-- more 35; 'of a long comment
+-- more 36; 'of a long comment
+-- more 37; 'of a long comment
+-- more 38; 'of a long comment
+-- more 39; 'of a long comment
+-- more 40; 'of a long comment
+-- more 41; 'of a long comment
+-- more 42; 'of a long comment
+-- more 43; 'of a long comment
+-- more 44; 'of a long comment
+-- more 45; 'of a long comment
+-- more 46; 'of a long comment
+-- more 47; 'of a long comment
+-- more 48; 'of a long comment
+-- more 49; 'of a long comment
+-- more 50; 'of a long comment
+-- more 51; 'of a long comment
+-- more 52; 'of a long comment
+-- more 53; 'of a long comment
+-- more 54; 'of a long comment
+-- more 55; 'of a long comment
+-- more 56; 'of a long comment
+-- more 57; 'of a long comment
+-- more 58; 'of a long comment
+-- more 59; 'of a long comment
+-- more 60; 'of a long comment
+-- more 61; 'of a long comment
+-- more 62; 'of a long comment
+-- more 63; 'of a long comment
+-- more 64; 'of a long comment
+-- more 65; 'of a long comment
+-- more 66; 'of a long comment
+-- more 67; 'of a long comment
+-- more 68; 'of a long comment
+-- more 69; 'of a long comment
+-- more 70; 'of a long comment
+-- more 71; 'of a long comment
+-- more 72; 'of a long comment
+-- more 73; 'of a long comment
+-- more 74; 'of a long comment
+-- more 75; 'of a long comment
+-- more 76; 'of a long comment
+-- more 77; 'of a long comment
+-- more 78; 'of a long comment
+-- more 79; 'of a long comment
+-- more 80; 'of a long comment
+-- more 81; 'of a long comment
+-- more 82; 'of a long comment
+-- more 83; 'of a long comment
+-- more 84; 'of a long comment
+-- more 85; 'of a long comment
+-- more 86; 'of a long comment
+-- more 87; 'of a long comment
+-- more 88; 'of a long comment
+-- more 89; 'of a long comment
+-- more 90; 'of a long comment
+-- more 91; 'of a long comment
+-- more 92; 'of a long comment
+-- more 93; 'of a long comment
+-- more 94; 'of a long comment
+-- more 95; 'of a long comment
+-- more 96; 'of a long comment
+-- more 97; 'of a long comment
+-- more 98; 'of a long comment
+-- more 99; 'of a long comment
+-- more 100; 'of a long comment
+-- more 101; 'of a long comment
+-- more 102; 'of a long comment
+-- more 103; 'of a long comment
+-- more 104; 'of a long comment
+-- more 105; 'of a long comment
+-- more 106; 'of a long comment
+-- more 107; 'of a long comment
+-- more 108; 'of a long comment
+-- more 109; 'of a long comment
+-- more 110; 'of a long comment
+-- more 111; 'of a long comment
+-- more 112; 'of a long comment
+-- more 113; 'of a long comment
+-- more 114; 'of a long comment
+-- more 115; 'of a long comment
+-- more 116; 'of a long comment
+-- more 117; 'of a long comment
+-- more 118; 'of a long comment
+-- more 119; 'of a long comment
+-- more 120; 'of a long comment
+-- more 121; 'of a long comment
+-- more 122; 'of a long comment
+-- more 123; 'of a long comment
+-- more 124; 'of a long comment
+-- more 125; 'of a long comment
+-- more 126; 'of a long comment
+-- more 127; 'of a long comment
+-- more 128; 'of a long comment
+-- more 129; 'of a long comment
+-- more 130; 'of a long comment
+-- more 131; 'of a long comment
+-- more 132; 'of a long comment
+-- more 133; 'of a long comment
+-- more 134; 'of a long comment
+-- more 135; 'of a long comment
+-- more 136; 'of a long comment
+-- more 137; 'of a long comment
+-- more 138; 'of a long comment
+-- more 139; 'of a long comment
+-- more 140; 'of a long comment
+-- more 141; 'of a long comment
+-- more 142; 'of a long comment
+-- more 143; 'of a long comment
+-- more 144; 'of a long comment
+-- more 145; 'of a long comment
+-- more 146; 'of a long comment
+-- more 147; 'of a long comment
+-- more 148; 'of a long comment
+-- more 149; 'of a long comment
+-- more 150; 'of a long comment
+-- more 151; 'of a long comment
+-- more 152; 'of a long comment
+-- more 153; 'of a long comment
+-- more 154; 'of a long comment
+-- more 155; 'of a long comment
+-- more 156; 'of a long comment
+-- more 157; 'of a long comment
+-- more 158; 'of a long comment
+-- more 159; 'of a long comment
+-- more 160; 'of a long comment
+-- more 161; 'of a long comment
+-- more 162; 'of a long comment
+-- more 163; 'of a long comment
+-- more 164; 'of a long comment
+-- more 165; 'of a long comment
+-- more 166; 'of a long comment
+-- more 167; 'of a long comment
+-- more 168; 'of a long comment
+-- more 169; 'of a long comment
+-- more 170; 'of a long comment
+-- more 171; 'of a long comment
+-- more 172; 'of a long comment
+-- more 173; 'of a long comment
+-- more 174; 'of a long comment
+-- more 175; 'of a long comment
+-- more 176; 'of a long comment
+-- more 177; 'of a long comment
+-- more 178; 'of a long comment
+-- more 179; 'of a long comment
+-- more 180; 'of a long comment
+-- more 181; 'of a long comment
+-- more 182; 'of a long comment
+-- more 183; 'of a long comment
+-- more 184; 'of a long comment
+-- more 185; 'of a long comment
+-- more 186; 'of a long comment
+-- more 187; 'of a long comment
+-- more 188; 'of a long comment
+-- more 189; 'of a long comment
+-- more 190; 'of a long comment
+-- more 191; 'of a long comment
+-- more 192; 'of a long comment
+-- more 193; 'of a long comment
+-- more 194; 'of a long comment
+-- more 195; 'of a long comment
+-- more 196; 'of a long comment
+-- more 197; 'of a long comment
+-- more 198; 'of a long comment
+-- more 199; 'of a long comment
+-- more 200; 'of a long comment
+-- more 201; 'of a long comment
+-- more 202; 'of a long comment
+-- more 203; 'of a long comment
+-- more 204; 'of a long comment
+-- more 205; 'of a long comment
+-- more 206; 'of a long comment
+-- more 207; 'of a long comment
+-- more 208; 'of a long comment
+-- more 209; 'of a long comment
+-- more 210; 'of a long comment
+-- more 211; 'of a long comment
+-- more 212; 'of a long comment
+-- more 213; 'of a long comment
+-- more 214; 'of a long comment
+-- more 215; 'of a long comment
+-- more 216; 'of a long comment
+-- more 217; 'of a long comment
+-- more 218; 'of a long comment
+-- more 219; 'of a long comment
+-- more 220; 'of a long comment
+-- more 221; 'of a long comment
+-- more 222; 'of a long comment
+-- more 223; 'of a long comment
+-- more 224; 'of a long comment
+-- more 225; 'of a long comment
+-- more 226; 'of a long comment
+-- more 227; 'of a long comment
+-- more 228; 'of a long comment
+-- more 229; 'of a long comment
+-- more 230; 'of a long comment
+-- more 231; 'of a long comment
+-- more 232; 'of a long comment
+-- more 233; 'of a long comment
+-- more 234; 'of a long comment
+-- more 235; 'of a long comment
+-- more 236; 'of a long comment
+-- more 237; 'of a long comment
+-- more 238; 'of a long comment
+-- more 239; 'of a long comment
+-- more 240; 'of a long comment
+-- more 241; 'of a long comment
+-- more 242; 'of a long comment
+-- more 243; 'of a long comment
+-- more 244; 'of a long comment
+-- more 245; 'of a long comment
+-- more 246; 'of a long comment
+-- more 247; 'of a long comment
+-- more 248; 'of a long comment
+-- more 249; 'of a long comment
+-- more 250; 'of a long comment
+-- more 251; 'of a long comment
+-- more 252; 'of a long comment
+-- more 253; 'of a long comment
+-- more 254; 'of a long comment
+-- more 255; 'of a long comment
+-- more 256; 'of a long comment
+-- more 257; 'of a long comment
+-- more 258; 'of a long comment
+-- more 259; 'of a long comment
+-- more 260; 'of a long comment
+-- more 261; 'of a long comment
+-- more 262; 'of a long comment
+-- more 263; 'of a long comment
+-- more 264; 'of a long comment
+-- more 265; 'of a long comment
+-- more 266; 'of a long comment
+-- more 267; 'of a long comment
+-- more 268; 'of a long comment
+-- more 269; 'of a long comment
+-- more 270; 'of a long comment
+-- more 271; 'of a long comment
+-- more 272; 'of a long comment
+-- more 273; 'of a long comment
+-- more 274; 'of a long comment
+-- more 275; 'of a long comment
+-- more 276; 'of a long comment
+-- more 277; 'of a long comment
+-- more 278; 'of a long comment
+-- more 279; 'of a long comment
+-- more 280; 'of a long comment
+-- more 281; 'of a long comment
+-- more 282; 'of a long comment
+-- more 283; 'of a long comment
+-- more 284; 'of a long comment
+-- more 285; 'of a long comment
+-- more 286; 'of a long comment
+-- more 287; 'of a long comment
+-- more 288; 'of a long comment
+-- more 289; 'of a long comment
+-- more 290; 'of a long comment
+-- more 291; 'of a long comment
+-- more 292; 'of a long comment
+-- more 293; 'of a long comment
+-- more 294; 'of a long comment
+-- more 295; 'of a long comment
+-- more 296; 'of a long comment
+-- more 297; 'of a long comment
+-- more 298; 'of a long comment
+-- more 299; 'of a long comment
+SELECT id
+-- a quote ' and a semicolon ; in a comment
+-- a quote ' and a semicolon ; in a comment
+-- a quote ' and a semicolon ; in a comment
+-- a quote ' and a semicolon ; in a comment
+-- a quote ' and a semicolon ; in a comment
+-- a quote ' and a semicolon ; in a comment
+-- a quote ' and a semicolon ; in a comment
+-- a quote ' and a semicolon ; in a comment
+-- a quote ' and a semicolon ; in a comment
+-- a quote ' and a semicolon ; in a comment
+-- a quote ' and a semicolon ; in a comment
+-- a quote ' and a semicolon ; in a comment
+-- a quote ' and a semicolon ; in a comment
+-- a quote ' and a semicolon ; in a comment
+-- a quote ' and a semicolon ; in a comment
+-- a quote ' and a semicolon ; in a comment
+-- a quote ' and a semicolon ; in a comment
+-- a quote ' and a semicolon ; in a comment
+-- a quote ' and a semicolon ; in a comment
+-- a quote ' and a semicolon ; in a comment
+-- a quote ' and a semicolon ; in a comment
+-- a quote ' and a semicolon ; in a comment
+-- a quote ' and a semicolon ; in a comment
+-- a quote ' and a semicolon ; in a comment
+-- a quote ' and a semicolon ; in a comment
+-- a quote ' and a semicolon ; in a comment
+-- a quote ' and a semicolon ; in a comment
+-- a quote ' and a semicolon ; in a comment
+-- a quote ' and a semicolon ; in a comment
+-- a quote ' and a semicolon ; in a comment
+-- a quote ' and a semicolon ; in a comment
+-- a quote ' and a semicolon ; in a comment
+-- a quote ' and a semicolon ; in a comment
+-- a quote ' and a semicolon ; in a comment
+-- a quote ' and a semicolon ; in a comment
+-- a quote ' and a semicolon ; in a comment
+-- a quote ' and a semicolon ; in a comment
+-- a quote ' and a semicolon ; in a comment
+-- a quote ' and a semicolon ; in a comment
+-- a quote ' and a semicolon ; in a comment
+-- a quote ' and a semicolon ; in a comment
+-- a quote ' and a semicolon ; in a comment
+-- a quote ' and a semicolon ; in a comment
+-- a quote ' and a semicolon ; in a comment
+-- a quote ' and a semicolon ; in a comment
+-- a quote ' and a semicolon ; in a comment
+-- a quote ' and a semicolon ; in a comment
+-- a quote ' and a semicolon ; in a comment
+-- a quote ' and a semicolon ; in a comment
+-- a quote ' and a semicolon ; in a comment
+-- a quote ' and a semicolon ; in a comment
+-- a quote ' and a semicolon ; in a comment
+-- a quote ' and a semicolon ; in a comment
+-- a quote ' and a semicolon ; in a comment
+-- a quote ' and a semicolon ; in a comment
+-- a quote ' and a semicolon ; in a comment
+-- a quote ' and a semicolon ; in a comment
+-- a quote ' and a semicolon ; in a comment
+-- a quote ' and a semicolon ; in a comment
+-- a quote ' and a semicolon ; in a comment
+-- a quote ' and a semicolon ; in a comment
+-- a quote ' and a semicolon ; in a comment
+-- a quote ' and a semicolon ; in a comment
+-- a quote ' and a semicolon ; in a comment
+-- a quote ' and a semicolon ; in a comment
+-- a quote ' and a semicolon ; in a comment
+-- a quote ' and a semicolon ; in a comment
+-- a quote ' and a semicolon ; in a comment
+-- a quote ' and a semicolon ; in a comment
+-- a quote ' and a semicolon ; in a comment
+-- a quote ' and a semicolon ; in a comment
+-- a quote ' and a semicolon ; in a comment
+-- a quote ' and a semicolon ; in a comment
+-- a quote ' and a semicolon ; in a comment
+-- a quote ' and a semicolon ; in a comment
+-- a quote ' and a semicolon ; in a comment
+-- a quote ' and a semicolon ; in a comment
+-- a quote ' and a semicolon ; in a comment
+-- a quote ' and a semicolon ; in a comment
+-- a quote ' and a semicolon ; in a comment
+-- a quote ' and a semicolon ; in a comment
+-- a quote ' and a semicolon ; in a comment
+-- a quote ' and a semicolon ; in a comment
+-- a quote ' and a semicolon ; in a comment
+-- a quote ' and a semicolon ; in a comment
+-- a quote ' and a semicolon ; in a comment
+-- a quote ' and a semicolon ; in a comment
+-- a quote ' and a semicolon ; in a comment
+-- a quote ' and a semicolon ; in a comment
+-- a quote ' and a semicolon ; in a comment
+-- a quote ' and a semicolon ; in a comment
+-- a quote ' and a semicolon ; in a comment
+-- a quote ' and a semicolon ; in a comment
+-- a quote ' and a semicolon ; in a comment
+-- a quote ' and a semicolon ; in a comment
+-- a quote ' and a semicolon ; in a comment
+-- a quote ' and a semicolon ; in a comment
+-- a quote ' and a semicolon ; in a comment
+-- a quote ' and a semicolon ; in a comment
+-- a quote ' and a semicolon ; in a comment
+FROM t WHERE k = 1 AND note = 'it''s; -- it''s; -- it''s; -- it''s; -- it''s; -- it''s; -- it''s; -- it''s; -- it''s; -- it''s; -- it''s; -- it''s; -- it''s; -- it''s; -- it''s; -- it''s; -- it''s; -- it''s; -- it''s; -- it''s; -- it''s; -- it''s; -- it''s; -- it''s; -- it''s; -- it''s; -- it''s; -- it''s; -- it''s; -- it''s; -- it''s; -- it''s; -- it''s; -- it''s; -- it''s; -- it''s; -- it''s; -- it''s; -- it''s; -- it''s; -- it''s; -- it''s; -- it''s; -- it''s; -- it''s; -- it''s; -- it''s; -- it''s; -- it''s; -- it''s; -- it''s; -- it''s; -- it''s; -- it''s; -- it''s; -- it''s; -- it''s; -- it''s; -- it''s; -- it''s; -- it''s; -- it''s; -- it''s; -- it''s; -- it''s; -- it''s; -- it''s; -- it''s; -- it''s; -- it''s; -- it''s; -- it''s; -- it''s; -- it''s; -- it''s; -- it''s; -- it''s; -- it''s; -- it''s; -- it''s; -- it''s; -- it''s; -- it''s; -- it''s; -- it''s; -- it''s; -- it''s; -- it''s; -- it''s; -- it''s; -- it''s; -- it''s; -- it''s; -- it''s; -- it''s; -- it''s; -- it''s; -- it''s; -- it''s; -- it''s; -- it''s; -- it''s; -- it''s; -- it''s; -- it''s; -- it''s; -- it''s; -- it''s; -- it''s; -- it''s; -- it''s; -- it''s; -- it''s; -- it''s; -- it''s; -- it''s; -- it''s; -- it''s; -- it''s; -- it''s; -- it''s; -- it''s; -- it''s; -- it''s; -- it''s; -- it''s; -- it''s; -- it''s; -- it''s; -- it''s; -- it''s; -- it''s; -- it''s; -- it''s; -- it''s; -- it''s; -- it''s; -- it''s; -- it''s; -- it''s; -- it''s; -- it''s; -- it''s; -- it''s; -- it''s; -- it''s; -- it''s; -- it''s; -- it''s; -- it''s; -- it''s; -- it''s; -- it''s; -- it''s; -- it''s; -- it''s; -- it''s; -- it''s; -- it''s; -- it''s; -- it''s; -- it''s; -- it''s; -- it''s; -- it''s; -- it''s; -- it''s; -- it''s; -- it''s; -- it''s; -- it''s; -- it''s; -- it''s; -- it''s; -- it''s; -- it''s; -- it''s; -- it''s; -- it''s; -- it''s; -- it''s; -- it''s; -- it''s; -- it''s; -- it''s; -- it''s; -- it''s; -- it''s; -- it''s; -- it''s; -- it''s; -- it''s; -- it''s; -- it''s; -- it''s; -- it''s; -- it''s; -- it''s; -- it''s; -- it''s; -- it''s; -- it''s; -- it''s; -- it''s; -- it''s; -- it''s; -- it''s; -- it''s; -- it''s; -- it''s; -- it''s; -- it''s; -- it''s; -- it''s; -- it''s; -- it''s; -- it''s; -- it''s; -- it''s; -- it''s; -- it''s; -- it''s; -- it''s; -- it''s; -- it''s; -- it''s; -- it''s; -- it''s; -- it''s; -- it''s; -- it''s; -- it''s; -- it''s; -- it''s; -- it''s; -- it''s; -- it''s; -- it''s; -- it''s; -- it''s; -- it''s; -- it''s; -- it''s; -- it''s; -- it''s; -- it''s; -- it''s; -- it''s; -- it''s; -- it''s; -- it''s; -- it''s; -- it''s; -- it''s; -- it''s; -- it''s; -- it''s; -- it''s; -- it''s; -- it''s; -- it''s; -- it''s; -- it''s; -- it''s; -- it''s; -- it''s; -- it''s; -- it''s; -- it''s; -- it''s; -- it''s; -- it''s; -- it''s; -- it''s; -- it''s; -- it''s; -- it''s; -- it''s; -- it''s; -- it''s; -- it''s; -- it''s; -- it''s; -- it''s; -- it''s; -- it''s; -- it''s; -- it''s; -- it''s; -- it''s; -- it''s; -- it''s; -- it''s; -- it''s; -- it''s; -- it''s; -- it''s; -- it''s; -- it''s; -- it''s; -- it''s; -- it''s; -- it''s; -- it''s; -- it''s; -- it''s; -- it''s; -- it''s; -- it''s; -- it''s; -- it''s; -- it''s; -- it''s; -- it''s; -- it''s; -- it''s; -- it''s; -- it''s; -- it''s; -- it''s; -- it''s; -- it''s; -- it''s; -- it''s; -- it''s; -- it''s; -- it''s; -- it''s; -- it''s; -- it''s; -- it''s; -- it''s; -- it''s; -- it''s; -- it''s; -- it''s; -- it''s; -- it''s; -- it''s; -- it''s; -- it''s; -- it''s; -- it''s; -- it''s; -- it''s; -- it''s; -- it''s; -- it''s; -- it''s; -- it''s; -- it''s; -- it''s; -- it''s; -- it''s; -- it''s; -- it''s; -- it''s; -- it''s; -- it''s; -- it''s; -- it''s; -- it''s; -- it''s; -- it''s; -- it''s; -- it''s; -- it''s; -- it''s; -- it''s; -- it''s; -- it''s; -- it''s; -- it''s; -- it''s; -- it''s; -- it''s; -- it''s; -- it''s; -- it''s; -- it''s; -- it''s; -- it''s; -- it''s; -- it''s; -- it''s; -- it''s; -- it''s; -- it''s; -- it''s; -- it''s; -- it''s; -- it''s; -- it''s; -- it''s; -- it''s; -- it''s; -- it''s; -- it''s; -- it''s; -- it''s; -- it''s; -- it''s; -- it''s; -- it''s; -- it''s; -- it''s; -- it''s; -- it''s; -- it''s; -- it''s; -- it''s; -- it''s; -- it''s; -- it''s; -- it''s; -- it''s; -- it''s; -- it''s; -- it''s; -- it''s; -- it''s; -- it''s; -- it''s; -- it''s; -- it''s; -- it''s; -- it''s; -- it''s; -- it''s; -- it''s; -- it''s; -- it''s; -- it''s; -- it''s; -- it''s; -- it''s; -- it''s; -- it''s; -- it''s; -- it''s; -- it''s; -- it''s; -- it''s; -- it''s; -- it''s; -- it''s; -- it''s; -- it''s; -- it''s; -- it''s; -- it''s; -- it''s; -- it''s; -- it''s; -- it''s; -- it''s; -- it''s; -- it''s; -- it''s; -- it''s; -- it''s; -- it''s; -- it''s; -- it''s; -- it''s; -- it''s; -- it''s; -- it''s; -- it''s; -- it''s; -- it''s; -- it''s; -- it''s; -- it''s; -- it''s; -- it''s; -- it''s; -- it''s; -- it''s; -- it''s; -- it''s; -- it''s; -- it''s; -- it''s; -- it''s; -- it''s; -- it''s; -- it''s; -- it''s; -- it''s; -- it''s; -- it''s; -- it''s; -- it''s; -- it''s; -- it''s; -- it''s; -- it''s; -- it''s; -- it''s; -- it''s; -- it''s; -- it''s; -- it''s; -- it''s; -- it''s; -- it''s; -- it''s; -- it''s; -- it''s; -- it''s; -- it''s; -- it''s; -- it''s; -- it''s; -- it''s; -- it''s; -- it''s; -- it''s; -- it''s; -- it''s; -- it''s; -- it''s; -- it''s; -- it''s; -- it''s; -- it''s; -- it''s; -- it''s; -- it''s; -- it''s; -- it''s; -- it''s; -- it''s; -- it''s; -- it''s; -- it''s; -- it''s; -- it''s; -- it''s; -- it''s; -- it''s; -- it''s; -- it''s; -- it''s; -- it''s; -- it''s; -- it''s; -- it''s; -- it''s; -- it''s; -- it''s; -- it''s; -- it''s; -- it''s; -- it''s; -- it''s; -- it''s; -- it''s; -- it''s; -- it''s; -- it''s; -- it''s; -- it''s; -- it''s; -- it''s; -- it''s; -- it''s; -- it''s; -- it''s; -- it''s; -- it''s; -- it''s; -- it''s; -- it''s; -- it''s; -- it''s; -- it''s; -- it''s; -- it''s; -- it''s; -- it''s; -- it''s; -- it''s; -- it''s; -- it''s; -- it''s; -- it''s; -- it''s; -- it''s; -- it''s; -- it''s; -- it''s; -- it''s; -- it''s; -- it''s; -- it''s; -- it''s; -- it''s; -- it''s; -- it''s; -- it''s; -- it''s; -- it''s; -- it''s; -- it''s; -- it''s; -- it''s; -- it''s; -- it''s; -- it''s; -- it''s; -- it''s; -- it''s; -- it''s; -- it''s; -- it''s; -- it''s; -- it''s; -- it''s; -- it''s; -- it''s; -- it''s; -- it''s; -- it''s; -- it''s; -- it''s; -- it''s; -- it''s; -- it''s; -- it''s; -- it''s; -- it''s; -- it''s; -- it''s; -- it''s; -- it''s; -- it''s; -- it''s; -- it''s; -- it''s; -- it''s; -- it''s; -- it''s; -- it''s; -- it''s; -- it''s; -- it''s; -- it''s; -- it''s; -- it''s; -- it''s; -- it''s; -- it''s; -- it''s; -- it''s; -- it''s; -- it''s; -- it''s; -- it''s; -- it''s; -- it''s; -- it''s; -- it''s; -- it''s; -- it''s; -- it''s; -- it''s; -- it''s; -- it''s; -- it''s; -- it''s; -- it''s; -- it''s; -- it''s; -- it''s; -- it''s; -- it''s; -- it''s; -- it''s; -- it''s; -- it''s; -- it''s; -- it''s; -- it''s; -- it''s; -- it''s; -- it''s; -- it''s; -- it''s; -- it''s; -- it''s; -- it''s; -- it''s; -- it''s; -- it''s; -- it''s; -- it''s; -- it''s; -- it''s; -- it''s; -- it''s; -- it''s; -- it''s; -- it''s; -- it''s; -- it''s; -- it''s; -- it''s; -- it''s; -- it''s; -- it''s; -- it''s; -- it''s; -- it''s; -- it''s; -- it''s; -- it''s; -- it''s; -- it''s; -- it''s; -- it''s; -- it''s; -- it''s; -- it''s; -- it''s; -- it''s; -- it''s; -- it''s; -- it''s; -- it''s; -- it''s; -- it''s; -- it''s; -- it''s; -- it''s; -- it''s; -- it''s; -- it''s; -- it''s; -- it''s; -- it''s; -- it''s; -- it''s; -- it''s; -- it''s; -- it''s; -- it''s; -- it''s; -- it''s; -- it''s; -- it''s; -- it''s; -- it''s; -- it''s; -- it''s; -- it''s; -- it''s; -- it''s; -- it''s; -- it''s; -- it''s; -- it''s; -- it''s; -- it''s; -- it''s; -- it''s; -- it''s; -- it''s; -- it''s; -- it''s; -- it''s; -- it''s; -- it''s; -- it''s; -- it''s; -- it''s; -- it''s; -- it''s; -- it''s; -- it''s; -- it''s; -- it''s; -- it''s; -- it''s; -- it''s; -- it''s; -- it''s; -- it''s; -- it''s; -- it''s; -- it''s; -- it''s; -- it''s; -- it''s; -- it''s; -- it''s; -- it''s; -- it''s; -- it''s; -- it''s; -- it''s; -- it''s; -- it''s; -- it''s; -- it''s; -- it''s; -- it''s; -- it''s; -- it''s; -- it''s; -- it''s; -- it''s; -- it''s; -- it''s; -- it''s; -- it''s; -- it''s; -- it''s; -- it''s; -- it''s; -- it''s; -- it''s; -- it''s; -- it''s; -- it''s; -- it''s; -- it''s; -- it''s; -- it''s; -- it''s; -- it''s; -- it''s; -- it''s; -- it''s; -- it''s; -- it''s; -- it''s; -- it''s; -- it''s; -- it''s; -- it''s; -- it''s; -- it''s; -- it''s; -- it''s; -- it''s; -- it''s; -- it''s; -- it''s; -- it''s; -- it''s; -- it''s; -- it''s; -- it''s; -- it''s; -- it''s; -- it''s; -- it''s; -- it''s; -- it''s; -- it''s; -- it''s; -- it''s; -- it''s; -- it''s; -- it''s; -- it''s; -- it''s; -- it''s; -- it''s; -- it''s; -- it''s; -- it''s; -- it''s; -- it''s; -- it''s; -- it''s; -- it''s; -- it''s; -- it''s; -- it''s; -- it''s; -- it''s; -- it''s; -- it''s; -- it''s; -- it''s; -- it''s; -- it''s; -- it''s; -- it''s; -- it''s; -- it''s; -- it''s; -- it''s; -- it''s; -- it''s; -- it''s; -- it''s; -- it''s; -- it''s; -- it''s; -- it''s; -- it''s; -- it''s; -- it''s; -- it''s; -- it''s; -- it''s; -- it''s; -- it''s; -- it''s; -- it''s; -- it''s; -- it''s; -- it''s; -- it''s; -- it''s; -- it''s; -- it''s; -- it''s; -- it''s; -- it''s; -- it''s; -- it''s; -- it''s; -- it''s; -- it''s; -- it''s; -- it''s; -- it''s; -- it''s; -- it''s; -- it''s; -- it''s; -- it''s; -- it''s; -- it''s; -- it''s; -- it''s; -- it''s; -- it''s; -- it''s; -- it''s; -- it''s; -- it''s; -- it''s; -- it''s; -- it''s; -- ';
+SELECT id FROM t WHERE k = 1 AND note < 'it''s; -- it''s; -- it''s; -- it''s; -- it''s; -- it''s; -- it''s; -- it''s; -- it''s; -- it''s; -- it''s; -- it''s; -- it''s; -- it''s; -- it''s; -- it''s; -- it''s; -- it''s; -- it''s; -- it''s; -- it''s; -- it''s; -- it''s; -- it''s; -- it''s; -- it''s; -- it''s; -- it''s; -- it''s; -- it''s; -- it''s; -- it''s; -- it''s; -- it''s; -- it''s; -- it''s; -- it''s; -- it''s; -- it''s; -- it''s; -- it''s; -- it''s; -- it''s; -- it''s; -- it''s; -- it''s; -- it''s; -- it''s; -- it''s; -- it''s; -- it''s; -- it''s; -- it''s; -- it''s; -- it''s; -- it''s; -- it''s; -- it''s; -- it''s; -- it''s; -- it''s; -- it''s; -- it''s; -- it''s; -- it''s; -- it''s; -- it''s; -- it''s; -- it''s; -- it''s; -- it''s; -- it''s; -- it''s; -- it''s; -- it''s; -- it''s; -- it''s; -- it''s; -- it''s; -- it''s; -- it''s; -- it''s; -- it''s; -- it''s; -- it''s; -- it''s; -- it''s; -- it''s; -- it''s; -- it''s; -- it''s; -- it''s; -- it''s; -- it''s; -- it''s; -- it''s; -- it''s; -- it''s; -- it''s; -- it''s; -- it''s; -- it''s; -- it''s; -- it''s; -- it''s; -- it''s; -- it''s; -- it''s; -- it''s; -- it''s; -- it''s; -- it''s; -- it''s; -- it''s; -- it''s; -- it''s; -- it''s; -- it''s; -- it''s; -- it''s; -- it''s; -- it''s; -- it''s; -- it''s; -- it''s; -- it''s; -- it''s; -- it''s; -- it''s; -- it''s; -- it''s; -- it''s; -- it''s; -- it''s; -- it''s; -- it''s; -- it''s; -- it''s; -- it''s; -- it''s; -- it''s; -- it''s; -- it''s; -- it''s; -- it''s; -- it''s; -- it''s; -- it''s; -- it''s; -- it''s; -- it''s; -- it''s; -- it''s; -- it''s; -- it''s; -- it''s; -- it''s; -- it''s; -- it''s; -- it''s; -- it''s; -- it''s; -- it''s; -- it''s; -- it''s; -- it''s; -- it''s; -- it''s; -- it''s; -- it''s; -- it''s; -- it''s; -- it''s; -- it''s; -- it''s; -- it''s; -- it''s; -- it''s; -- it''s; -- it''s; -- it''s; -- it''s; -- it''s; -- it''s; -- it''s; -- it''s; -- it''s; -- it''s; -- it''s; -- it''s; -- it''s; -- it''s; -- it''s; -- it''s; -- it''s; -- it''s; -- it''s; -- it''s; -- it''s; -- it''s; -- it''s; -- it''s; -- it''s; -- it''s; -- it''s; -- it''s; -- it''s; -- it''s; -- it''s; -- it''s; -- it''s; -- it''s; -- it''s; -- it''s; -- it''s; -- it''s; -- it''s; -- it''s; -- it''s; -- it''s; -- it''s; -- it''s; -- it''s; -- it''s; -- it''s; -- it''s; -- it''s; -- it''s; -- it''s; -- it''s; -- it''s; -- it''s; -- it''s; -- it''s; -- it''s; -- it''s; -- it''s; -- it''s; -- it''s; -- it''s; -- it''s; -- it''s; -- it''s; -- it''s; -- it''s; -- it''s; -- it''s; -- it''s; -- it''s; -- it''s; -- it''s; -- it''s; -- it''s; -- it''s; -- it''s; -- it''s; -- it''s; -- it''s; -- it''s; -- it''s; -- it''s; -- it''s; -- it''s; -- it''s; -- it''s; -- it''s; -- it''s; -- it''s; -- it''s; -- it''s; -- it''s; -- it''s; -- it''s; -- it''s; -- it''s; -- it''s; -- it''s; -- it''s; -- it''s; -- it''s; -- it''s; -- it''s; -- it''s; -- it''s; -- it''s; -- it''s; -- it''s; -- it''s; -- it''s; -- it''s; -- it''s; -- it''s; -- it''s; -- it''s; -- it''s; -- it''s; -- it''s; -- it''s; -- it''s; -- it''s; -- it''s; -- it''s; -- it''s; -- it''s; -- it''s; -- it''s; -- it''s; -- it''s; -- it''s; -- it''s; -- it''s; -- it''s; -- it''s; -- it''s; -- it''s; -- it''s; -- it''s; -- it''s; -- it''s; -- it''s; -- it''s; -- it''s; -- it''s; -- it''s; -- it''s; -- it''s; -- it''s; -- it''s; -- it''s; -- it''s; -- it''s; -- it''s; -- it''s; -- it''s; -- it''s; -- it''s; -- it''s; -- it''s; -- it''s; -- it''s; -- it''s; -- it''s; -- it''s; -- it''s; -- it''s; -- it''s; -- it''s; -- it''s; -- it''s; -- it''s; -- it''s; -- it''s; -- it''s; -- it''s; -- it''s; -- it''s; -- it''s; -- it''s; -- it''s; -- it''s; -- it''s; -- it''s; -- it''s; -- it''s; -- it''s; -- it''s; -- it''s; -- it''s; -- it''s; -- it''s; -- it''s; -- it''s; -- it''s; -- it''s; -- it''s; -- it''s; -- it''s; -- it''s; -- it''s; -- it''s; -- it''s; -- it''s; -- it''s; -- it''s; -- it''s; -- it''s; -- it''s; -- it''s; -- it''s; -- it''s; -- it''s; -- it''s; -- it''s; -- it''s; -- it''s; -- it''s; -- it''s; -- it''s; -- it''s; -- it''s; -- it''s; -- it''s; -- it''s; -- it''s; -- it''s; -- it''s; -- it''s; -- it''s; -- it''s; -- it''s; -- it''s; -- it''s; -- it''s; -- it''s; -- it''s; -- it''s; -- it''s; -- it''s; -- it''s; -- it''s; -- it''s; -- it''s; -- it''s; -- it''s; -- it''s; -- it''s; -- it''s; -- it''s; -- it''s; -- it''s; -- it''s; -- it''s; -- it''s; -- it''s; -- it''s; -- it''s; -- it''s; -- it''s; -- it''s; -- it''s; -- it''s; -- it''s; -- it''s; -- it''s; -- it''s; -- it''s; -- it''s; -- it''s; -- it''s; -- it''s; -- it''s; -- it''s; -- it''s; -- it''s; -- it''s; -- it''s; -- it''s; -- it''s; -- it''s; -- it''s; -- it''s; -- it''s; -- it''s; -- it''s; -- it''s; -- it''s; -- it''s; -- it''s; -- it''s; -- it''s; -- it''s; -- it''s; -- it''s; -- it''s; -- it''s; -- it''s; -- it''s; -- it''s; -- it''s; -- it''s; -- it''s; -- it''s; -- it''s; -- it''s; -- it''s; -- it''s; -- it''s; -- it''s; -- it''s; -- it''s; -- it''s; -- it''s; -- it''s; -- it''s; -- it''s; -- it''s; -- it''s; -- it''s; -- it''s; -- it''s; -- it''s; -- it''s; -- it''s; -- it''s; -- it''s; -- it''s; -- it''s; -- it''s; -- it''s; -- it''s; -- it''s; -- it''s; -- it''s; -- it''s; -- it''s; -- it''s; -- it''s; -- it''s; -- it''s; -- it''s; -- it''s; -- it''s; -- it''s; -- it''s; -- it''s; -- it''s; -- it''s; -- it''s; -- it''s; -- it''s; -- it''s; -- it''s; -- it''s; -- it''s; -- it''s; -- it''s; -- it''s; -- it''s; -- it''s; -- it''s; -- it''s; -- it''s; -- it''s; -- it''s; -- it''s; -- it''s; -- it''s; -- it''s; -- it''s; -- it''s; -- it''s; -- it''s; -- it''s; -- it''s; -- it''s; -- it''s; -- it''s; -- it''s; -- it''s; -- it''s; -- it''s; -- it''s; -- it''s; -- it''s; -- it''s; -- it''s; -- it''s; -- it''s; -- it''s; -- it''s; -- it''s; -- it''s; -- it''s; -- it''s; -- it''s; -- it''s; -- it''s; -- it''s; -- it''s; -- it''s; -- it''s; -- it''s; -- it''s; -- it''s; -- it''s; -- it''s; -- it''s; -- it''s; -- it''s; -- it''s; -- it''s; -- it''s; -- it''s; -- it''s; -- it''s; -- it''s; -- it''s; -- it''s; -- it''s; -- it''s; -- it''s; -- it''s; -- it''s; -- it''s; -- it''s; -- it''s; -- it''s; -- it''s; -- it''s; -- it''s; -- it''s; -- it''s; -- it''s; -- it''s; -- it''s; -- it''s; -- it''s; -- it''s; -- it''s; -- it''s; -- it''s; -- it''s; -- it''s; -- it''s; -- it''s; -- it''s; -- it''s; -- it''s; -- it''s; -- it''s; -- it''s; -- it''s; -- it''s; -- it''s; -- it''s; -- it''s; -- it''s; -- it''s; -- it''s; -- it''s; -- it''s; -- it''s; -- it''s; -- it''s; -- it''s; -- it''s; -- it''s; -- it''s; -- it''s; -- it''s; -- it''s; -- it''s; -- it''s; -- it''s; -- it''s; -- it''s; -- it''s; -- it''s; -- it''s; -- it''s; -- it''s; -- it''s; -- it''s; -- it''s; -- it''s; -- it''s; -- it''s; -- it''s; -- it''s; -- it''s; -- it''s; -- it''s; -- it''s; -- it''s; -- it''s; -- it''s; -- it''s; -- it''s; -- it''s; -- it''s; -- it''s; -- it''s; -- it''s; -- it''s; -- it''s; -- it''s; -- it''s; -- it''s; -- it''s; -- it''s; -- it''s; -- it''s; -- it''s; -- it''s; -- it''s; -- it''s; -- it''s; -- it''s; -- it''s; -- it''s; -- it''s; -- it''s; -- it''s; -- it''s; -- it''s; -- it''s; -- it''s; -- it''s; -- it''s; -- it''s; -- it''s; -- it''s; -- it''s; -- it''s; -- it''s; -- it''s; -- it''s; -- it''s; -- it''s; -- it''s; -- it''s; -- it''s; -- it''s; -- it''s; -- it''s; -- it''s; -- it''s; -- it''s; -- it''s; -- it''s; -- it''s; -- it''s; -- it''s; -- it''s; -- it''s; -- it''s; -- it''s; -- it''s; -- it''s; -- it''s; -- it''s; -- it''s; -- it''s; -- it''s; -- it''s; -- it''s; -- it''s; -- it''s; -- it''s; -- it''s; -- it''s; -- it''s; -- it''s; -- it''s; -- it''s; -- it''s; -- it''s; -- it''s; -- it''s; -- it''s; -- it''s; -- it''s; -- it''s; -- it''s; -- it''s; -- it''s; -- it''s; -- it''s; -- it''s; -- it''s; -- it''s; -- it''s; -- it''s; -- it''s; -- it''s; -- it''s; -- it''s; -- it''s; -- it''s; -- it''s; -- it''s; -- it''s; -- it''s; -- it''s; -- it''s; -- it''s; -- it''s; -- it''s; -- it''s; -- it''s; -- it''s; -- it''s; -- it''s; -- it''s; -- it''s; -- it''s; -- it''s; -- it''s; -- it''s; -- it''s; -- it''s; -- it''s; -- it''s; -- it''s; -- it''s; -- it''s; -- it''s; -- it''s; -- it''s; -- it''s; -- it''s; -- it''s; -- it''s; -- it''s; -- it''s; -- it''s; -- it''s; -- it''s; -- it''s; -- it''s; -- it''s; -- it''s; -- it''s; -- it''s; -- it''s; -- it''s; -- it''s; -- it''s; -- it''s; -- it''s; -- it''s; -- it''s; -- it''s; -- it''s; -- it''s; -- it''s; -- it''s; -- it''s; -- it''s; -- it''s; -- it''s; -- it''s; -- it''s; -- it''s; -- it''s; -- it''s; -- it''s; -- it''s; -- it''s; -- it''s; -- it''s; -- it''s; -- it''s; -- it''s; -- it''s; -- it''s; -- it''s; -- it''s; -- it''s; -- it''s; -- it''s; -- it''s; -- it''s; -- it''s; -- it''s; -- it''s; -- it''s; -- it''s; -- it''s; -- it''s; -- it''s; -- it''s; -- it''s; -- it''s; -- it''s; -- it''s; -- it''s; -- it''s; -- it''s; -- it''s; -- it''s; -- it''s; -- it''s; -- it''s; -- it''s; -- it''s; -- it''s; -- it''s; -- it''s; -- it''s; -- it''s; -- it''s; -- it''s; -- it''s; -- it''s; -- it''s; -- it''s; -- it''s; -- it''s; -- it''s; -- it''s; -- it''s; -- it''s; -- it''s; -- it''s; -- it''s; -- it''s; -- it''s; -- it''s; -- it''s; -- it''s; -- it''s; -- it''s; -- it''s; -- it''s; -- it''s; -- it''s; -- it''s; -- it''s; -- it''s; -- it''s; -- it''s; -- it''s; -- it''s; -- it''s; -- it''s; -- it''s; -- it''s; -- it''s; -- it''s; -- it''s; -- it''s; -- it''s; -- it''s; -- it''s; -- it''s; -- it''s; -- it''s; -- it''s; -- it''s; -- it''s; -- it''s; -- it''s; -- it''s; -- it''s; -- it''s; -- it''s; -- it''s; -- it''s; -- it''s; -- ';
+SELECT id FROM t WHERE k = 1 AND note > 'it''s; -- it''s; -- it''s; -- it''s; -- it''s; -- it''s; -- it''s; -- it''s; -- it''s; -- it''s; -- it''s; -- it''s; -- it''s; -- it''s; -- it''s; -- it''s; -- it''s; -- it''s; -- it''s; -- it''s; -- it''s; -- it''s; -- it''s; -- it''s; -- it''s; -- it''s; -- it''s; -- it''s; -- it''s; -- it''s; -- it''s; -- it''s; -- it''s; -- it''s; -- it''s; -- it''s; -- it''s; -- it''s; -- it''s; -- it''s; -- it''s; -- it''s; -- it''s; -- it''s; -- it''s; -- it''s; -- it''s; -- it''s; -- it''s; -- it''s; -- it''s; -- it''s; -- it''s; -- it''s; -- it''s; -- it''s; -- it''s; -- it''s; -- it''s; -- it''s; -- it''s; -- it''s; -- it''s; -- it''s; -- it''s; -- it''s; -- it''s; -- it''s; -- it''s; -- it''s; -- it''s; -- it''s; -- it''s; -- it''s; -- it''s; -- it''s; -- it''s; -- it''s; -- it''s; -- it''s; -- it''s; -- it''s; -- it''s; -- it''s; -- it''s; -- it''s; -- it''s; -- it''s; -- it''s; -- it''s; -- it''s; -- it''s; -- it''s; -- it''s; -- it''s; -- it''s; -- it''s; -- it''s; -- it''s; -- it''s; -- it''s; -- it''s; -- it''s; -- it''s; -- it''s; -- it''s; -- it''s; -- it''s; -- it''s; -- it''s; -- it''s; -- it''s; -- it''s; -- it''s; -- it''s; -- it''s; -- it''s; -- it''s; -- it''s; -- it''s; -- it''s; -- it''s; -- it''s; -- it''s; -- it''s; -- it''s; -- it''s; -- it''s; -- it''s; -- it''s; -- it''s; -- it''s; -- it''s; -- it''s; -- it''s; -- it''s; -- it''s; -- it''s; -- it''s; -- it''s; -- it''s; -- it''s; -- it''s; -- it''s; -- it''s; -- it''s; -- it''s; -- it''s; -- it''s; -- it''s; -- it''s; -- it''s; -- it''s; -- it''s; -- it''s; -- it''s; -- it''s; -- it''s; -- it''s; -- it''s; -- it''s; -- it''s; -- it''s; -- it''s; -- it''s; -- it''s; -- it''s; -- it''s; -- it''s; -- it''s; -- it''s; -- it''s; -- it''s; -- it''s; -- it''s; -- it''s; -- it''s; -- it''s; -- it''s; -- it''s; -- it''s; -- it''s; -- it''s; -- it''s; -- it''s; -- it''s; -- it''s; -- it''s; -- it''s; -- it''s; -- it''s; -- it''s; -- it''s; -- it''s; -- it''s; -- it''s; -- it''s; -- it''s; -- it''s; -- it''s; -- it''s; -- it''s; -- it''s; -- it''s; -- it''s; -- it''s; -- it''s; -- it''s; -- it''s; -- it''s; -- it''s; -- it''s; -- it''s; -- it''s; -- it''s; -- it''s; -- it''s; -- it''s; -- it''s; -- it''s; -- it''s; -- it''s; -- it''s; -- it''s; -- it''s; -- it''s; -- it''s; -- it''s; -- it''s; -- it''s; -- it''s; -- it''s; -- it''s; -- it''s; -- it''s; -- it''s; -- it''s; -- it''s; -- it''s; -- it''s; -- it''s; -- it''s; -- it''s; -- it''s; -- it''s; -- it''s; -- it''s; -- it''s; -- it''s; -- it''s; -- it''s; -- it''s; -- it''s; -- it''s; -- it''s; -- it''s; -- it''s; -- it''s; -- it''s; -- it''s; -- it''s; -- it''s; -- it''s; -- it''s; -- it''s; -- it''s; -- it''s; -- it''s; -- it''s; -- it''s; -- it''s; -- it''s; -- it''s; -- it''s; -- it''s; -- it''s; -- it''s; -- it''s; -- it''s; -- it''s; -- it''s; -- it''s; -- it''s; -- it''s; -- it''s; -- it''s; -- it''s; -- it''s; -- it''s; -- it''s; -- it''s; -- it''s; -- it''s; -- it''s; -- it''s; -- it''s; -- it''s; -- it''s; -- it''s; -- it''s; -- it''s; -- it''s; -- it''s; -- it''s; -- it''s; -- it''s; -- it''s; -- it''s; -- it''s; -- it''s; -- it''s; -- it''s; -- it''s; -- it''s; -- it''s; -- it''s; -- it''s; -- it''s; -- it''s; -- it''s; -- it''s; -- it''s; -- it''s; -- it''s; -- it''s; -- it''s; -- it''s; -- it''s; -- it''s; -- it''s; -- it''s; -- it''s; -- it''s; -- it''s; -- it''s; -- it''s; -- it''s; -- it''s; -- it''s; -- it''s; -- it''s; -- it''s; -- it''s; -- it''s; -- it''s; -- it''s; -- it''s; -- it''s; -- it''s; -- it''s; -- it''s; -- it''s; -- it''s; -- it''s; -- it''s; -- it''s; -- it''s; -- it''s; -- it''s; -- it''s; -- it''s; -- it''s; -- it''s; -- it''s; -- it''s; -- it''s; -- it''s; -- it''s; -- it''s; -- it''s; -- it''s; -- it''s; -- it''s; -- it''s; -- it''s; -- it''s; -- it''s; -- it''s; -- it''s; -- it''s; -- it''s; -- it''s; -- it''s; -- it''s; -- it''s; -- it''s; -- it''s; -- it''s; -- it''s; -- it''s; -- it''s; -- it''s; -- it''s; -- it''s; -- it''s; -- it''s; -- it''s; -- it''s; -- it''s; -- it''s; -- it''s; -- it''s; -- it''s; -- it''s; -- it''s; -- it''s; -- it''s; -- it''s; -- it''s; -- it''s; -- it''s; -- it''s; -- it''s; -- it''s; -- it''s; -- it''s; -- it''s; -- it''s; -- it''s; -- it''s; -- it''s; -- it''s; -- it''s; -- it''s; -- it''s; -- it''s; -- it''s; -- it''s; -- it''s; -- it''s; -- it''s; -- it''s; -- it''s; -- it''s; -- it''s; -- it''s; -- it''s; -- it''s; -- it''s; -- it''s; -- it''s; -- it''s; -- it''s; -- it''s; -- it''s; -- it''s; -- it''s; -- it''s; -- it''s; -- it''s; -- it''s; -- it''s; -- it''s; -- it''s; -- it''s; -- it''s; -- it''s; -- it''s; -- it''s; -- it''s; -- it''s; -- it''s; -- it''s; -- it''s; -- it''s; -- it''s; -- it''s; -- it''s; -- it''s; -- it''s; -- it''s; -- it''s; -- it''s; -- it''s; -- it''s; -- it''s; -- it''s; -- it''s; -- it''s; -- it''s; -- it''s; -- it''s; -- it''s; -- it''s; -- it''s; -- it''s; -- it''s; -- it''s; -- it''s; -- it''s; -- it''s; -- it''s; -- it''s; -- it''s; -- it''s; -- it''s; -- it''s; -- it''s; -- it''s; -- it''s; -- it''s; -- it''s; -- it''s; -- it''s; -- it''s; -- it''s; -- it''s; -- it''s; -- it''s; -- it''s; -- it''s; -- it''s; -- it''s; -- it''s; -- it''s; -- it''s; -- it''s; -- it''s; -- it''s; -- it''s; -- it''s; -- it''s; -- it''s; -- it''s; -- it''s; -- it''s; -- it''s; -- it''s; -- it''s; -- it''s; -- it''s; -- it''s; -- it''s; -- it''s; -- it''s; -- it''s; -- it''s; -- it''s; -- it''s; -- it''s; -- it''s; -- it''s; -- it''s; -- it''s; -- it''s; -- it''s; -- it''s; -- it''s; -- it''s; -- it''s; -- it''s; -- it''s; -- it''s; -- it''s; -- it''s; -- it''s; -- it''s; -- it''s; -- it''s; -- it''s; -- it''s; -- it''s; -- it''s; -- it''s; -- it''s; -- it''s; -- it''s; -- it''s; -- it''s; -- it''s; -- it''s; -- it''s; -- it''s; -- it''s; -- it''s; -- it''s; -- it''s; -- it''s; -- it''s; -- it''s; -- it''s; -- it''s; -- it''s; -- it''s; -- it''s; -- it''s; -- it''s; -- it''s; -- it''s; -- it''s; -- it''s; -- it''s; -- it''s; -- it''s; -- it''s; -- it''s; -- it''s; -- it''s; -- it''s; -- it''s; -- it''s; -- it''s; -- it''s; -- it''s; -- it''s; -- it''s; -- it''s; -- it''s; -- it''s; -- it''s; -- it''s; -- it''s; -- it''s; -- it''s; -- it''s; -- it''s; -- it''s; -- it''s; -- it''s; -- it''s; -- it''s; -- it''s; -- it''s; -- it''s; -- it''s; -- it''s; -- it''s; -- it''s; -- it''s; -- it''s; -- it''s; -- it''s; -- it''s; -- it''s; -- it''s; -- it''s; -- it''s; -- it''s; -- it''s; -- it''s; -- it''s; -- it''s; -- it''s; -- it''s; -- it''s; -- it''s; -- it''s; -- it''s; -- it''s; -- it''s; -- it''s; -- it''s; -- it''s; -- it''s; -- it''s; -- it''s; -- it''s; -- it''s; -- it''s; -- it''s; -- it''s; -- it''s; -- it''s; -- it''s; -- it''s; -- it''s; -- it''s; -- it''s; -- it''s; -- it''s; -- it''s; -- it''s; -- it''s; -- it''s; -- it''s; -- it''s; -- it''s; -- it''s; -- it''s; -- it''s; -- it''s; -- it''s; -- it''s; -- it''s; -- it''s; -- it''s; -- it''s; -- it''s; -- it''s; -- it''s; -- it''s; -- it''s; -- it''s; -- it''s; -- it''s; -- it''s; -- it''s; -- it''s; -- it''s; -- it''s; -- it''s; -- it''s; -- it''s; -- it''s; -- it''s; -- it''s; -- it''s; -- it''s; -- it''s; -- it''s; -- it''s; -- it''s; -- it''s; -- it''s; -- it''s; -- it''s; -- it''s; -- it''s; -- it''s; -- it''s; -- it''s; -- it''s; -- it''s; -- it''s; -- it''s; -- it''s; -- it''s; -- it''s; -- it''s; -- it''s; -- it''s; -- it''s; -- it''s; -- it''s; -- it''s; -- it''s; -- it''s; -- it''s; -- it''s; -- it''s; -- it''s; -- it''s; -- it''s; -- it''s; -- it''s; -- it''s; -- it''s; -- it''s; -- it''s; -- it''s; -- it''s; -- it''s; -- it''s; -- it''s; -- it''s; -- it''s; -- it''s; -- it''s; -- it''s; -- it''s; -- it''s; -- it''s; -- it''s; -- it''s; -- it''s; -- it''s; -- it''s; -- it''s; -- it''s; -- it''s; -- it''s; -- it''s; -- it''s; -- it''s; -- it''s; -- it''s; -- it''s; -- it''s; -- it''s; -- it''s; -- it''s; -- it''s; -- it''s; -- it''s; -- it''s; -- it''s; -- it''s; -- it''s; -- it''s; -- it''s; -- it''s; -- it''s; -- it''s; -- it''s; -- it''s; -- it''s; -- it''s; -- it''s; -- it''s; -- it''s; -- it''s; -- it''s; -- it''s; -- it''s; -- it''s; -- it''s; -- it''s; -- it''s; -- it''s; -- it''s; -- it''s; -- it''s; -- it''s; -- it''s; -- it''s; -- it''s; -- it''s; -- it''s; -- it''s; -- it''s; -- it''s; -- it''s; -- it''s; -- it''s; -- it''s; -- it''s; -- it''s; -- it''s; -- it''s; -- it''s; -- it''s; -- it''s; -- it''s; -- it''s; -- it''s; -- it''s; -- it''s; -- it''s; -- it''s; -- it''s; -- it''s; -- it''s; -- it''s; -- it''s; -- it''s; -- it''s; -- it''s; -- it''s; -- it''s; -- it''s; -- it''s; -- it''s; -- it''s; -- it''s; -- it''s; -- it''s; -- it''s; -- it''s; -- it''s; -- it''s; -- it''s; -- it''s; -- it''s; -- it''s; -- it''s; -- it''s; -- it''s; -- it''s; -- it''s; -- it''s; -- it''s; -- it''s; -- it''s; -- it''s; -- it''s; -- it''s; -- it''s; -- it''s; -- it''s; -- it''s; -- it''s; -- it''s; -- it''s; -- it''s; -- it''s; -- it''s; -- it''s; -- it''s; -- it''s; -- it''s; -- it''s; -- it''s; -- it''s; -- it''s; -- it''s; -- it''s; -- it''s; -- it''s; -- it''s; -- it''s; -- it''s; -- it''s; -- it''s; -- it''s; -- it''s; -- it''s; -- it''s; -- it''s; -- it''s; -- it''s; -- it''s; -- it''s; -- it''s; -- it''s; -- it''s; -- it''s; -- it''s; -- it''s; -- it''s; -- it''s; -- it''s; -- it''s; -- it''s; -- it''s; -- it''s; -- it''s; -- it''s; -- it''s; -- it''s; -- it''s; -- it''s; -- it''s; -- it''s; -- it''s; -- it''s; -- it''s; -- it''s; -- it''s; -- it''s; -- it''s; -- it''s; -- it''s; -- it''s; -- it''s; -- it''s; -- it''s; -- it''s; -- it''s; -- it''s; -- ';
+SELECT id                                                                                                                                                                                                                                                                                                                                                                                                                                                                                                                                                                                                                                                                                                                                                                                                                                                                                                                                                                                                                                                                                                                                                                                                                                                                                                                                                                                                                                                                                                                                                                                                                                                                                                                                                                                                                                                                                                                                                                                                                                                                                                                                                                                                                                                                                                                                                                                                                                                                                                                                                                                                                                                                                                                                                                                                                                                                                                                                                                                                                                                                                                                                                                                                                                                                                                                                                                                                                                                                                                                                                                                                                                                                                                                                                                                                                                                                                                                                                                                                                                                                                                                                                                                                                                                                                                                                                                                                                                                                                                                                                                                                                                                                                                                                                                                                                                                                                                                                                                                                                                                                                                                                                                                                        FROM t WHERE k = 1 AND #;

@@ -1,0 +1,3 @@
+-- The program takes no words. Nothing is read.
+
+CREATE TABLE t (k bigint);
