@@ -1,15 +1,14 @@
-//! Small queries and writes whose answers were worked out by PostgreSQL's rules, and not by this code. `checked_query` and
-//! `checked_write` run them where their widths are kept; all else is tests.
+//! Tests of what no script through the program shows.
 #![tactic(auto)]
 
-#[cfg(test)]
-mod builder;
 mod checked;
 #[cfg(test)]
-mod database;
+mod engine;
 #[cfg(test)]
-mod queries;
+mod printing;
 #[cfg(test)]
-mod writes;
+mod tables;
+#[cfg(test)]
+mod tokens;
 
 pub use checked::{checked_query, checked_write};
