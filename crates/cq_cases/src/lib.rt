@@ -1,8 +1,19 @@
-//! What no script shows: journals and what stores hold at the end, and sources, sinks and stores that fail. All is tests; the scripts
-//! are in `tests/sql`.
+//! What no script through the program shows: journals and what stores hold at the end; sources, sinks and stores that fail; the engine's
+//! joins, subqueries and writes; the printer. All is tests; the scripts are in `tests/sql`.
 #![tactic(auto)]
 
+mod checked;
+#[cfg(test)]
+mod engine;
 #[cfg(test)]
 mod faults;
 #[cfg(test)]
+mod printing;
+#[cfg(test)]
 mod runs;
+#[cfg(test)]
+mod tables;
+#[cfg(test)]
+mod tokens;
+
+pub use checked::{checked_query, checked_write};

@@ -13,8 +13,6 @@ mod ends;
 mod error;
 mod info;
 mod named;
-#[cfg(test)]
-mod tests;
 
 pub use catalog::Catalog;
 pub use decision::{Decision, Target};

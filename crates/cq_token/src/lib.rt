@@ -7,8 +7,6 @@ mod lexer;
 mod piece;
 mod printer;
 mod sign;
-#[cfg(test)]
-mod tests;
 mod token;
 
 pub use error::LexError;

@@ -13,8 +13,6 @@ mod reserved;
 mod reserved_table;
 mod schema;
 mod size;
-#[cfg(test)]
-mod tests;
 mod text;
 mod value;
 

@@ -1,0 +1,32 @@
+-- All aggregates but count(*) leave NULL out.
+-- Each query reads the rows of tenant 1. The answers are those of PostgreSQL.
+SET citus.shard_count TO 4;
+CREATE TABLE t0 (o bigint, k bigint, v bigint, PRIMARY KEY (o, k));
+SELECT create_distributed_table('t0', 'o');
+CREATE TABLE t3 (o bigint, id bigint, name text, PRIMARY KEY (o, id));
+SELECT create_distributed_table('t3', 'o');
+CREATE TABLE t4 (o bigint, a bigint, b bigint);
+SELECT create_distributed_table('t4', 'o');
+INSERT INTO t0 VALUES (1, 1, 10);
+INSERT INTO t0 VALUES (1, 2, 20);
+INSERT INTO t0 VALUES (1, 3, NULL);
+INSERT INTO t0 VALUES (1, 4, 20);
+INSERT INTO t0 VALUES (2, 1, 15);
+INSERT INTO t0 VALUES (2, 9, 20);
+INSERT INTO t3 VALUES (1, 1, 'b');
+INSERT INTO t3 VALUES (1, 2, 'a');
+INSERT INTO t3 VALUES (1, 3, NULL);
+INSERT INTO t3 VALUES (1, 4, 'ab');
+INSERT INTO t3 VALUES (1, 5, 'a');
+INSERT INTO t3 VALUES (2, 6, 'a');
+INSERT INTO t4 VALUES (1, -7, 1);
+INSERT INTO t4 VALUES (1, 7, 2);
+INSERT INTO t4 VALUES (1, NULL, 3);
+INSERT INTO t4 VALUES (1, 0, 4);
+INSERT INTO t4 VALUES (2, 5, 5);
+SELECT count(*), count(v), sum(v) FROM t0 WHERE o = 1;
+SELECT min(v), max(v) FROM t0 WHERE o = 1;
+SELECT min(name), max(name), count(name) FROM t3 WHERE o = 1;
+SELECT min(a), max(a), sum(a) FROM t4 WHERE o = 1;
+SELECT sum(v * 2 - k) FROM t0 WHERE o = 1;
+SELECT sum(v) + count(*) FROM t0 WHERE o = 1;

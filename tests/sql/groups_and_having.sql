@@ -1,0 +1,35 @@
+-- GROUP BY, where NULL is a group, and HAVING.
+-- Each query reads the rows of tenant 1. The answers are those of PostgreSQL.
+SET citus.shard_count TO 4;
+CREATE TABLE t0 (o bigint, k bigint, v bigint, PRIMARY KEY (o, k));
+SELECT create_distributed_table('t0', 'o');
+CREATE TABLE t1 (o bigint, k bigint, w bigint);
+SELECT create_distributed_table('t1', 'o');
+CREATE TABLE t3 (o bigint, id bigint, name text, PRIMARY KEY (o, id));
+SELECT create_distributed_table('t3', 'o');
+INSERT INTO t0 VALUES (1, 1, 10);
+INSERT INTO t0 VALUES (1, 2, 20);
+INSERT INTO t0 VALUES (1, 3, NULL);
+INSERT INTO t0 VALUES (1, 4, 20);
+INSERT INTO t0 VALUES (2, 1, 15);
+INSERT INTO t0 VALUES (2, 9, 20);
+INSERT INTO t1 VALUES (1, 1, 100);
+INSERT INTO t1 VALUES (1, 1, NULL);
+INSERT INTO t1 VALUES (1, 3, 300);
+INSERT INTO t1 VALUES (1, 5, 500);
+INSERT INTO t1 VALUES (2, 3, 7);
+INSERT INTO t3 VALUES (1, 1, 'b');
+INSERT INTO t3 VALUES (1, 2, 'a');
+INSERT INTO t3 VALUES (1, 3, NULL);
+INSERT INTO t3 VALUES (1, 4, 'ab');
+INSERT INTO t3 VALUES (1, 5, 'a');
+INSERT INTO t3 VALUES (2, 6, 'a');
+SELECT v, count(*) FROM t0 WHERE o = 1 GROUP BY v ORDER BY v;
+SELECT v, count(v) FROM t0 WHERE o = 1 GROUP BY v ORDER BY v DESC;
+SELECT name, count(*) FROM t3 WHERE o = 1 GROUP BY name ORDER BY name;
+SELECT k, count(*), count(w), sum(w) FROM t1 WHERE o = 1 GROUP BY k ORDER BY k;
+SELECT v FROM t0 WHERE o = 1 GROUP BY v HAVING count(*) > 1;
+SELECT v FROM t0 WHERE o = 1 GROUP BY v HAVING sum(v) > 10 ORDER BY v;
+SELECT v FROM t0 WHERE o = 1 GROUP BY v HAVING NOT sum(v) > 10 ORDER BY v;
+SELECT v, k, count(*) FROM t0 WHERE o = 1 GROUP BY v, k ORDER BY k;
+SELECT v / 20, min(k) FROM t0 WHERE o = 1 GROUP BY v / 20 ORDER BY 1;

@@ -1,0 +1,32 @@
+-- IN lists and BETWEEN, where NULL is neither in nor out.
+-- Each query reads the rows of tenant 1. The answers are those of PostgreSQL.
+SET citus.shard_count TO 4;
+CREATE TABLE t0 (o bigint, k bigint, v bigint, PRIMARY KEY (o, k));
+SELECT create_distributed_table('t0', 'o');
+CREATE TABLE t3 (o bigint, id bigint, name text, PRIMARY KEY (o, id));
+SELECT create_distributed_table('t3', 'o');
+INSERT INTO t0 VALUES (1, 1, 10);
+INSERT INTO t0 VALUES (1, 2, 20);
+INSERT INTO t0 VALUES (1, 3, NULL);
+INSERT INTO t0 VALUES (1, 4, 20);
+INSERT INTO t0 VALUES (2, 1, 15);
+INSERT INTO t0 VALUES (2, 9, 20);
+INSERT INTO t3 VALUES (1, 1, 'b');
+INSERT INTO t3 VALUES (1, 2, 'a');
+INSERT INTO t3 VALUES (1, 3, NULL);
+INSERT INTO t3 VALUES (1, 4, 'ab');
+INSERT INTO t3 VALUES (1, 5, 'a');
+INSERT INTO t3 VALUES (2, 6, 'a');
+SELECT k FROM t0 WHERE o = 1 AND v IN (10, 20) ORDER BY k;
+SELECT k FROM t0 WHERE o = 1 AND v NOT IN (20) ORDER BY k;
+SELECT k FROM t0 WHERE o = 1 AND v NOT IN (20, NULL) ORDER BY k;
+SELECT k FROM t0 WHERE o = 1 AND v IN (10, NULL) ORDER BY k;
+SELECT k FROM t0 WHERE o = 1 AND NOT (v IN (10, NULL) AND k = 1) ORDER BY k;
+SELECT k FROM t0 WHERE o = 1 AND NULL IN (1, 2) ORDER BY k;
+SELECT k FROM t0 WHERE o = 1 AND v BETWEEN 10 AND 15 ORDER BY k;
+SELECT k FROM t0 WHERE o = 1 AND v NOT BETWEEN 10 AND 15 ORDER BY k;
+SELECT k FROM t0 WHERE o = 1 AND v BETWEEN 20 AND 10 ORDER BY k;
+SELECT k FROM t0 WHERE o = 1 AND v NOT BETWEEN NULL AND 10 ORDER BY k;
+SELECT k FROM t0 WHERE o = 1 AND k IN (v / 10, 4) ORDER BY k;
+SELECT id FROM t3 WHERE o = 1 AND name IN ('a', 'ab') ORDER BY id;
+SELECT id FROM t3 WHERE o = 1 AND name BETWEEN 'a' AND 'az' ORDER BY id;

@@ -1,0 +1,20 @@
+-- There are 512 shard groups at most. A table that joins the groups of another opens none.
+CREATE TABLE a (k bigint);
+CREATE TABLE b (k bigint);
+CREATE TABLE c (k bigint);
+CREATE TABLE d (k bigint);
+CREATE TABLE e (k bigint);
+CREATE TABLE f (k bigint);
+CREATE TABLE g (k bigint);
+SELECT create_distributed_table('a', 'k', shard_count => 128);
+SELECT create_distributed_table('b', 'k', shard_count => 128);
+SELECT create_distributed_table('c', 'k', shard_count => 128);
+SELECT create_distributed_table('d', 'k', shard_count => 127);
+SELECT create_distributed_table('e', 'k', shard_count => 2);
+SELECT create_distributed_table('f', 'k', shard_count => 129);
+SELECT create_distributed_table('f', 'k', colocate_with => 'd');
+SELECT create_distributed_table('e', 'k', shard_count => 1);
+SELECT create_distributed_table('g', 'k', shard_count => 1);
+SELECT create_distributed_table('g', 'k', colocate_with => 'd');
+INSERT INTO g VALUES (9);
+SELECT k FROM g WHERE k = 9;

@@ -1,0 +1,31 @@
+-- ORDER BY, where NULL is the greatest and texts go by their bytes, LIMIT and OFFSET.
+-- Each query reads the rows of tenant 1. The answers are those of PostgreSQL.
+SET citus.shard_count TO 4;
+CREATE TABLE t0 (o bigint, k bigint, v bigint, PRIMARY KEY (o, k));
+SELECT create_distributed_table('t0', 'o');
+CREATE TABLE t3 (o bigint, id bigint, name text, PRIMARY KEY (o, id));
+SELECT create_distributed_table('t3', 'o');
+INSERT INTO t0 VALUES (1, 1, 10);
+INSERT INTO t0 VALUES (1, 2, 20);
+INSERT INTO t0 VALUES (1, 3, NULL);
+INSERT INTO t0 VALUES (1, 4, 20);
+INSERT INTO t0 VALUES (2, 1, 15);
+INSERT INTO t0 VALUES (2, 9, 20);
+INSERT INTO t3 VALUES (1, 1, 'b');
+INSERT INTO t3 VALUES (1, 2, 'a');
+INSERT INTO t3 VALUES (1, 3, NULL);
+INSERT INTO t3 VALUES (1, 4, 'ab');
+INSERT INTO t3 VALUES (1, 5, 'a');
+INSERT INTO t3 VALUES (2, 6, 'a');
+SELECT k FROM t0 WHERE o = 1 ORDER BY v, k DESC;
+SELECT k FROM t0 WHERE o = 1 ORDER BY v DESC, k;
+SELECT id FROM t3 WHERE o = 1 ORDER BY name, id;
+SELECT id FROM t3 WHERE o = 1 ORDER BY name DESC, id DESC;
+SELECT k FROM t0 WHERE o = 1 ORDER BY k LIMIT 2;
+SELECT k FROM t0 WHERE o = 1 ORDER BY k OFFSET 3;
+SELECT k FROM t0 WHERE o = 1 ORDER BY k LIMIT 2 OFFSET 1;
+SELECT k FROM t0 WHERE o = 1 ORDER BY k LIMIT 2 OFFSET 3;
+SELECT k FROM t0 WHERE o = 1 ORDER BY k OFFSET 9;
+SELECT k FROM t0 WHERE o = 1 ORDER BY k LIMIT 0;
+SELECT k FROM t0 WHERE o = 1 ORDER BY k LIMIT 99;
+SELECT v FROM t0 WHERE o = 1 ORDER BY v DESC LIMIT 2;

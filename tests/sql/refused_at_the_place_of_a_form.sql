@@ -1,0 +1,33 @@
+-- The place of an expression of the wrong type: a chain of AND or OR at its middle word, a sum or product at its last sign.
+-- t, u, i and r are distributed, l is a local table.
+CREATE TABLE t (k bigint PRIMARY KEY, v bigint);
+CREATE TABLE u (k bigint, w bigint, name text, PRIMARY KEY (k, w));
+CREATE TABLE i (k bigint, n integer);
+CREATE TABLE r (id bigint PRIMARY KEY, name text);
+CREATE TABLE l (a bigint);
+SELECT create_distributed_table('t', 'k');
+SELECT create_distributed_table('u', 'k');
+SELECT create_distributed_table('i', 'k');
+SELECT create_distributed_table('r', 'id');
+SELECT k FROM t WHERE 1;
+SELECT k FROM t WHERE (k);
+SELECT k FROM t WHERE NULL;
+SELECT k FROM t WHERE t.v;
+SELECT k FROM t WHERE - k;
+SELECT k FROM t WHERE k + v - 1 + 2;
+SELECT k FROM t WHERE k * 2 * 3;
+SELECT k FROM t WHERE k * 2 + v * 2;
+SELECT k FROM t WHERE CASE WHEN k = 1 THEN 1 END;
+SELECT k FROM t WHERE coalesce(k, 1);
+SELECT k FROM t HAVING max(k);
+SELECT k IN (1, 2) FROM t;
+SELECT k NOT BETWEEN 1 AND 2 FROM t;
+SELECT k IS NULL FROM t;
+SELECT NOT k = 1 FROM t;
+SELECT k = 1 OR k = 2 FROM t;
+SELECT k = 1 OR k = 2 OR k = 3 FROM t;
+SELECT k = 1 OR k = 2 OR k = 3 OR k = 4 FROM t;
+SELECT k = 1 OR k = 2 OR k = 3 OR k = 4 OR k = 5 FROM t;
+SELECT k = 1 OR k = 2 OR k = 3 OR k = 4 OR k = 5 OR k = 6 FROM t;
+SELECT k = 1 AND k = 2 AND k = 3 FROM t;
+SELECT k FROM t WHERE k IS NULL IS NOT NULL;

@@ -1,0 +1,32 @@
+-- Names that are taken, and tables and columns that are not there, each told by its name.
+-- t, u, i and r are distributed, l is a local table.
+CREATE TABLE t (k bigint PRIMARY KEY, v bigint);
+CREATE TABLE u (k bigint, w bigint, name text, PRIMARY KEY (k, w));
+CREATE TABLE i (k bigint, n integer);
+CREATE TABLE r (id bigint PRIMARY KEY, name text);
+CREATE TABLE l (a bigint);
+SELECT create_distributed_table('t', 'k');
+SELECT create_distributed_table('u', 'k');
+SELECT create_distributed_table('i', 'k');
+SELECT create_distributed_table('r', 'id');
+SELECT 1 FROM t, t;
+SELECT t.k FROM t JOIN u t ON 1 = 1;
+WITH c AS (SELECT k FROM t), c AS (SELECT zz FROM t) SELECT k FROM c;
+CREATE TABLE t (k BIGINT);
+CREATE TABLE z (a BIGINT, a BIGINT);
+SELECT k FROM (SELECT k FROM t) u, u;
+SELECT k FROM nope;
+SELECT zz FROM nope;
+SELECT k FROM t, nope;
+SELECT k FROM t WHERE k IN (SELECT k FROM nope);
+SELECT k FROM (SELECT k FROM nope) s;
+WITH c AS (SELECT k FROM c) SELECT k FROM c;
+WITH c AS (SELECT k FROM d), d AS (SELECT k FROM t) SELECT k FROM c;
+INSERT INTO nope VALUES (1);
+UPDATE nope SET a = 1;
+DELETE FROM nope;
+COPY nope FROM STDIN;
+INSERT INTO t (zz) VALUES (1);
+UPDATE t SET zz = yy;
+COPY t (zz) FROM STDIN;
+CREATE TABLE z (a BIGINT, PRIMARY KEY (b));

@@ -1,0 +1,34 @@
+-- Names and places that stand for nothing, each told where it stands.
+-- t, u, i and r are distributed, l is a local table.
+CREATE TABLE t (k bigint PRIMARY KEY, v bigint);
+CREATE TABLE u (k bigint, w bigint, name text, PRIMARY KEY (k, w));
+CREATE TABLE i (k bigint, n integer);
+CREATE TABLE r (id bigint PRIMARY KEY, name text);
+CREATE TABLE l (a bigint);
+SELECT create_distributed_table('t', 'k');
+SELECT create_distributed_table('u', 'k');
+SELECT create_distributed_table('i', 'k');
+SELECT create_distributed_table('r', 'id');
+SELECT zz FROM t;
+SELECT k FROM t WHERE zz = 1;
+SELECT x.k FROM t;
+SELECT t.zz FROM t;
+SELECT x.* FROM t;
+SELECT k FROM t ORDER BY zz;
+SELECT k FROM t ORDER BY 2;
+SELECT k FROM t ORDER BY 0;
+SELECT count(*) FROM t GROUP BY zz;
+SELECT count(*) FROM t GROUP BY 9;
+SELECT count(*) FROM t HAVING zz = 1;
+SELECT k FROM t WHERE k IN (SELECT v FROM u);
+SELECT k FROM (SELECT k FROM u) s WHERE w = 1;
+WITH c AS (SELECT k FROM t) SELECT v FROM c;
+SELECT t.k FROM t JOIN u ON t.k = r.id JOIN r ON r.id = u.k;
+UPDATE t SET v = zz;
+DELETE FROM t WHERE zz = 1;
+INSERT INTO t VALUES (k, 1);
+SET citus.foo TO 1;
+SET foo.shard_count TO 1;
+SELECT create_distributed_table('t', 'k', foo => 1);
+SELECT rebalance_table_shards(rebalance_strategy => 'x');
+SELECT get_rebalance_table_shards_plan(strategy => 'by_disk_size');

@@ -1,0 +1,27 @@
+-- Texts that are no statement, each told at the first token that begins none.
+foo;
+1;
+(SELECT a FROM t);
+VALUES (1);
+EXPLAIN INSERT INTO t VALUES (1);
+EXPLAIN EXPLAIN SELECT a FROM t;
+SET = 1;
+SET citus TO 1;
+SET citus.1;
+SET citus.shard_count 32;
+SET citus.shard_count TO '32';
+SET citus.shard_count TO -1;
+SET citus.shard_count = 32 33;
+SELECT foo(1);
+SELECT create_reference_table('t') FROM x;
+SELECT create_reference_table(a);
+SELECT create_reference_table('t',);
+SELECT create_distributed_table('t', 'a', shard_count 32);
+SELECT create_distributed_table('t', 'a', shard_count => a);
+SELECT create_reference_table();
+SELECT create_reference_table(1);
+SELECT create_distributed_table('t', colocate_with => 'u', 'a');
+SELECT create_distributed_table('t', 'a', shard_count => 'x');
+SELECT create_distributed_table('t', 'a', shard_count => 1, shard_count => 2);
+SELECT citus_move_shard_placement(1, 2);
+SELECT rebalance_table_shards('by_disk_size');

@@ -1,0 +1,34 @@
+-- WHERE keeps a row only where the condition is true, not where it is NULL.
+-- Each query reads the rows of tenant 1. The answers are those of PostgreSQL.
+SET citus.shard_count TO 4;
+CREATE TABLE t0 (o bigint, k bigint, v bigint, PRIMARY KEY (o, k));
+SELECT create_distributed_table('t0', 'o');
+CREATE TABLE t3 (o bigint, id bigint, name text, PRIMARY KEY (o, id));
+SELECT create_distributed_table('t3', 'o');
+INSERT INTO t0 VALUES (1, 1, 10);
+INSERT INTO t0 VALUES (1, 2, 20);
+INSERT INTO t0 VALUES (1, 3, NULL);
+INSERT INTO t0 VALUES (1, 4, 20);
+INSERT INTO t0 VALUES (2, 1, 15);
+INSERT INTO t0 VALUES (2, 9, 20);
+INSERT INTO t3 VALUES (1, 1, 'b');
+INSERT INTO t3 VALUES (1, 2, 'a');
+INSERT INTO t3 VALUES (1, 3, NULL);
+INSERT INTO t3 VALUES (1, 4, 'ab');
+INSERT INTO t3 VALUES (1, 5, 'a');
+INSERT INTO t3 VALUES (2, 6, 'a');
+SELECT k FROM t0 WHERE o = 1 AND v > 10 ORDER BY 1;
+SELECT k FROM t0 WHERE o = 1 AND NOT v > 10;
+SELECT k FROM t0 WHERE o = 1 AND (v > 10 OR k = 3) ORDER BY 1;
+SELECT k FROM t0 WHERE o = 1 AND v > 10 AND k = 3;
+SELECT k FROM t0 WHERE o = 1 AND NOT (v > 10 AND k = 3) ORDER BY 1;
+SELECT k FROM t0 WHERE o = 1 AND (NOT (v > 10 OR k = 4));
+SELECT k FROM t0 WHERE o = 1 AND v = v ORDER BY 1;
+SELECT k FROM t0 WHERE o = 1 AND v <> v;
+SELECT k FROM t0 WHERE o = 1 AND v IS NULL;
+SELECT k FROM t0 WHERE o = 1 AND NOT v IS NULL ORDER BY 1;
+SELECT k FROM t0 WHERE o = 1 AND (NULL = 1 OR k = 2);
+SELECT k FROM t0 WHERE o = 1 AND v >= 20 ORDER BY 1;
+SELECT k FROM t0 WHERE o = 1 AND (v <= 10 OR v < 0);
+SELECT id FROM t3 WHERE o = 1 AND name < 'b' ORDER BY 1;
+SELECT id FROM t3 WHERE o = 1 AND name <> 'a' ORDER BY 1;
