@@ -79,5 +79,9 @@ done
 ./run.sh examples/tenants.sql >"$work/out" 2>"$work/err" || { cat "$work/err"; fail 'run.sh: the example has another status than 0'; }
 diff examples/tenants.out "$work/out" || fail 'run.sh: another output than examples/tenants.out'
 
+# A script of one byte too many is no file of tests/sql.
+head -c 16777217 /dev/zero | tr '\0' ' ' | "$program" >"$work/out"
+[ $? -eq 6 ] && echo 'FATAL limit bytes 16777216' | cmp -s - "$work/out" || fail 'a script of 16,777,217 bytes is not answered by FATAL limit bytes 16777216 and status 6'
+
 pass_scripts
 exit "$status"

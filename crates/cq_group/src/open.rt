@@ -69,7 +69,7 @@ impl<S: Store> GroupState<S> {
         let Some(stores) = self.room.capacity().checked_add(more) else {
             return Err(NoMemory);
         };
-        if self.room.reserve(stores).is_err() || self.tables.reserve(1).is_err() {
+        if self.room.reserve_exact(stores).is_err() || self.tables.reserve(1).is_err() {
             return Err(NoMemory);
         }
         Ok(())
