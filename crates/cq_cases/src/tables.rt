@@ -29,10 +29,9 @@ fn create(alloc: Global, catalog: &mut Catalog, text: &'static str) -> Result<()
     }
 }
 
-fn distribute(alloc: Global, catalog: &mut Catalog, name: &str) -> Result<(), CatalogError> {
-    let table = Text::of_str(alloc, name)?;
+fn distribute(alloc: Global, catalog: &mut Catalog, table: &Text) -> Result<(), CatalogError> {
     let column = Text::of_str(alloc, "k")?;
-    catalog.distribute(&table, &column, None, &With::Default, 4)?;
+    catalog.distribute(table, &column, None, &With::Default, 4)?;
     Ok(())
 }
 
@@ -42,9 +41,9 @@ pub fn catalog(alloc: Global) -> Result<Catalog, Fail> {
     for text in TABLES {
         create(alloc, &mut catalog, text)?;
     }
-    for name in ["t", "a", "b"] {
-        distribute(alloc, &mut catalog, name)?;
-    }
+    distribute(alloc, &mut catalog, &Text::of_str(alloc, "t")?)?;
+    distribute(alloc, &mut catalog, &Text::of_str(alloc, "a")?)?;
+    distribute(alloc, &mut catalog, &Text::of_str(alloc, "b")?)?;
     catalog.reference(&Text::of_str(alloc, "r")?)?;
     Ok(catalog)
 }
