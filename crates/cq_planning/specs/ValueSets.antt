@@ -1,6 +1,7 @@
 -- The value set of a class of columns: the values that its columns can have in a row that is kept.
-use Rattle.std.specs.Prelude.{ℕ, List, [], ◌∷◌, ◌++◌, filter, filter_map, fold, Bool, true, false, if◌then◌else◌, nat_eq, Option, None, Some, option_map}
-use Rattle.std.specs.List.{list_any}
+use Rattle.std.specs.Prelude.{◌≡◌, ⊤, ℕ, List, [], ◌∷◌, ◌++◌, filter, filter_map, fold, Bool, true, false, if◌then◌else◌, nat_eq, Option, None, Some, option_map}
+use Rattle.std.specs.List.{list_any, AllByRecursion}
+use Rattle.std.specs.declared.cmp.Ordering.TheVariants.{Less}
 use Rattle.std.specs.Ordering.{is_lt}
 use Rattle.cq_value.specs.declared.value.Value.{Value}
 use Rattle.cq_value.specs.declared.value.Value.TheVariants.{Null, Int, Text}
@@ -22,6 +23,11 @@ put_value v (w ∷ ws) = if same_value v w then w ∷ ws else (if is_lt (value_c
 abbrev pub ascending : List Value → List Value
 ascending [] = []
 ascending (v ∷ vs) = put_value v (ascending vs)
+
+-- ascending values, each once
+abbrev pub IsAscending : List Value → Type 0
+IsAscending [] = ⊤
+IsAscending (v ∷ vs) = AllByRecursion (λ w. value_cmp v w ≡ Less) vs × IsAscending vs
 
 -- NULL is left out
 abbrev pub known_values : ℕ × List Value → ℕ × List Value

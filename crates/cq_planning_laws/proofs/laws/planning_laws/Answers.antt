@@ -1,0 +1,28 @@
+use Rattle.cq_planning.proofs.Ascending.{ascends, ascending_has, has_ascending}
+use Rattle.cq_planning_laws.proofs.Laid.{bound_is_laid}
+use Rattle.cq_planning_laws.proofs.Halves.{ins_are_found}
+use Rattle.cq_planning_laws.proofs.Classes.{classes_connect}
+use Rattle.cq_planning_laws.proofs.Whole.{queries_narrow, large_narrow}
+use Rattle.cq_planning_laws.proofs.Writes.{writes_touch}
+use Rattle.cq_planning_laws.proofs.laws.planning_laws.Goals as goal
+
+pub returns-clause-writes : goal.returns-clause-writes
+returns-clause-writes c = writes_touch
+
+pub returns-clause-queries : goal.returns-clause-queries
+returns-clause-queries c = queries_narrow
+
+pub returns-clause-large : goal.returns-clause-large
+returns-clause-large c = large_narrow
+
+pub returns-clause-classes : goal.returns-clause-classes
+returns-clause-classes c = classes_connect
+
+pub returns-clause-ins : goal.returns-clause-ins
+returns-clause-ins c = ins_are_found
+
+pub returns-clause-laid : goal.returns-clause-laid
+returns-clause-laid c = bound_is_laid
+
+pub returns-clause-ascending : goal.returns-clause-ascending
+returns-clause-ascending c vs = (ascends vs, λ v. (ascending_has v vs, has_ascending v vs))

@@ -1,0 +1,65 @@
+-- The laws.
+use Rattle.std.specs.Prelude.{◌≡◌, ◌↔◌, true, ℕ, map, List, [], ◌∷◌, length, Some, slice_index_or}
+use Rattle.cq_value.specs.declared.value.Value.{Value}
+use Rattle.cq_tree.specs.declared.expression.Op.TheVariants.{Eq}
+use Rattle.cq_tree.specs.declared.expression.Expr.{Column, Literal}
+use Rattle.cq_tree.specs.declared.expression.Cond.{Compare}
+use Rattle.cq_tree.specs.declared.query.Query.{Query}
+use Rattle.cq_tree.specs.declared.write.ShardOp.{ShardOp}
+use Rattle.cq_tree.specs.declared.statement.Statement.TheVariants as statement
+use Rattle.cq_meaning.specs.Lists.{Has}
+use Rattle.cq_meaning.specs.Values.{Row, Tables}
+use Rattle.cq_meaning.specs.Effects.{table_of}
+use Rattle.cq_meaning.specs.Limits.{is_large}
+use Rattle.cq_meaning.specs.Results.{Answers, results_of}
+use Rattle.cq_meaning.specs.declared.Columns.{Columns}
+use Rattle.cq_meaning.specs.Widths.{table_bits}
+use Rattle.cq_meaning_laws.specs.WholeRules.{IsBoundStatement}
+use Rattle.cq_catalog.specs.Contents.{Contents}
+use Rattle.cq_catalog.specs.Placement.{place_at}
+use Rattle.cq_catalog.specs.Whole.{IsWhole}
+use Rattle.cq_catalog.specs.declared.info.Place.TheVariants.{Local}
+use Rattle.cq_reading.specs.Rules.{halved}
+use Rattle.cq_planning.specs.Conjuncts.{in_list}
+use Rattle.cq_planning.specs.Classes.{Connected, first_of_class}
+use Rattle.cq_planning.specs.ValueSets.{ascending, IsAscending}
+use Rattle.cq_planning.specs.Touched.{touched}
+use Rattle.cq_planning_laws.specs.Database.{Narrows, shape_in}
+use Rattle.cq_planning_laws.specs.Reaching.{IsTouchedBy}
+use Rattle.cq_planning_laws.specs.Laid.{IsColumnOf, IsLaidStatement}
+use Rattle.cq_planning_laws.specs.Simple.{GivesSimply}
+
+-- what the binder makes of `x IN (literals)` is recognised, with its values
+abbrev pub InsAreFound : Type 0
+InsAreFound = (x : ℕ) (v : Value) (vs : List Value) → in_list (halved true (map (λ w. Compare Eq (Column x) (Literal w)) (v ∷ vs))) ≡ Some (x, v ∷ vs)
+
+-- the values that a conjunct says are in ascending order, each once
+abbrev pub ValuesAscend : Type 0
+ValuesAscend = (vs : List Value) → IsAscending (ascending vs) × ((v : Value) → Has (ascending vs) v ↔ Has vs v)
+
+-- two columns have the same first column exactly where equalities connect them
+abbrev pub ClassesConnect : Type 0
+ClassesConnect = (pairs : List (ℕ × ℕ)) (x y : ℕ) → (first_of_class pairs x ≡ first_of_class pairs y) ↔ Connected pairs x y
+
+-- the groups that a write touches are groups of its table, of which are all rows that it inserts or keeps
+abbrev pub WritesTouch : Type 0
+WritesTouch = (c : Contents) (op : ShardOp) → IsWhole c → (place_at c (table_of op) ≡ Local → ⊥) → IsTouchedBy c (touched c (statement.Write op)) op
+
+-- what the binder lets through is laid over the catalogue, where distribution columns are columns of their tables
+abbrev pub BoundIsLaid : Type 0
+BoundIsLaid = (cs : Columns) (c : Contents) (q : Query) → ((t : ℕ) → length (table_bits cs.tables t) ≡ length (shape_in c t).kinds) → ((t : ℕ) → IsColumnOf (length (shape_in c t).kinds) (place_at c t)) →
+    IsBoundStatement cs q → IsLaidStatement c (λ i. length (slice_index_or cs.results i [])) q
+
+-- the groups that a query doesn't touch don't matter: its answers are the same, whatever legal contents they have
+abbrev pub QueriesNarrow : Type 0
+QueriesNarrow = (c : Contents) (widths : ℕ → ℕ) (q : Query) → IsWhole c → IsLaidStatement c widths q →
+    (rows : List Row) → Narrows c (touched c (statement.Select q)) (λ db. Answers q db rows)
+
+-- the query has a group of more rows than the limit
+abbrev pub IsLarge : Query → Tables → Type 0
+IsLarge q db = is_large q db (results_of q db) ≡ true
+
+-- nor do they make a large group small
+abbrev pub LargeNarrows : Type 0
+LargeNarrows = (c : Contents) (widths : ℕ → ℕ) (q : Query) → IsWhole c → IsLaidStatement c widths q → GivesSimply c q →
+    Narrows c (touched c (statement.Select q)) (IsLarge q)

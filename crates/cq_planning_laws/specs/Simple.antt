@@ -1,0 +1,47 @@
+-- Queries none of whose FROM subqueries groups under a set that it is given, unless it reads one table alone.
+use Rattle.std.specs.Prelude.{◌≡◌, ◌+◌, ◌⊎◌, ⊤, false, ℕ, []}
+use Rattle.cq_tree.specs.declared.query.FromTree.{FromTree, Table, Sub', Result, Cross', Inner', Left', end_of-FromTree, more_of-FromTree, end_of-Query, more_of-Query}
+use Rattle.cq_tree.specs.declared.query.Query.{Query, Query'}
+use Rattle.cq_meaning.specs.Queries.{columns_in}
+use Rattle.cq_catalog.specs.Contents.{Contents}
+use Rattle.cq_planning.specs.Conjuncts.{conjuncts_of}
+use Rattle.cq_planning.specs.ValueSets.{ValueSet, value_set}
+use Rattle.cq_planning.specs.Pushable.{pushable}
+use Rattle.cq_planning.specs.Narrowing.{distribution_in, right_sets, sets_in, given_to}
+
+abbrev mutual
+  -- no query of a FROM groups, at any depth
+  pub GroupsNowhereFrom : FromTree → Type 0
+  GroupsNowhereFrom (Table t n) = ⊤
+  GroupsNowhereFrom (Sub' p (more_of-Query q end_of-Query)) = GroupsNowhere q
+  GroupsNowhereFrom (Result i n) = ⊤
+  GroupsNowhereFrom (Cross' p (more_of-FromTree a end_of-FromTree) q (more_of-FromTree b end_of-FromTree)) = GroupsNowhereFrom a × GroupsNowhereFrom b
+  GroupsNowhereFrom (Inner' p (more_of-FromTree a end_of-FromTree) q (more_of-FromTree b end_of-FromTree) on) = GroupsNowhereFrom a × GroupsNowhereFrom b
+  GroupsNowhereFrom (Left' p (more_of-FromTree a end_of-FromTree) q (more_of-FromTree b end_of-FromTree) on) = GroupsNowhereFrom a × GroupsNowhereFrom b
+
+  pub GroupsNowhere : Query → Type 0
+  GroupsNowhere (Query' cs ctes ss subs from filter_ grouped keys aggs having items shown distinct order limit offset names) =
+      GroupsNowhereFrom from × (grouped ≡ false)
+
+-- it reads one table alone, or groups nowhere
+abbrev pub IsSimple : Query → Type 0
+IsSimple (Query' cs ctes ss subs (Table t n) filter_ grouped keys aggs having items shown distinct order limit offset names) = ⊤
+IsSimple q = GroupsNowhere q
+
+abbrev mutual
+  -- a subquery of a FROM, at any depth, that is given a set from outside is simple
+  pub GivesSimplyFrom : Contents → (ℕ → ValueSet) → FromTree → ℕ → Type 0
+  GivesSimplyFrom c sets (Table t n) start = ⊤
+  GivesSimplyFrom c sets (Sub' p (more_of-Query q end_of-Query)) start = ((given_to sets start (pushable c q) ≡ []) × GivesSimply c q) ⊎ IsSimple q
+  GivesSimplyFrom c sets (Result i n) start = ⊤
+  GivesSimplyFrom c sets (Cross' p (more_of-FromTree a end_of-FromTree) q (more_of-FromTree b end_of-FromTree)) start =
+      GivesSimplyFrom c sets a start × GivesSimplyFrom c sets b (start + columns_in a)
+  GivesSimplyFrom c sets (Inner' p (more_of-FromTree a end_of-FromTree) q (more_of-FromTree b end_of-FromTree) on) start =
+      GivesSimplyFrom c sets a start × GivesSimplyFrom c sets b (start + columns_in a)
+  GivesSimplyFrom c sets (Left' p (more_of-FromTree a end_of-FromTree) q (more_of-FromTree b end_of-FromTree) on) start =
+      GivesSimplyFrom c sets a start
+      × GivesSimplyFrom c (right_sets sets (sets_in c sets a start) (distribution_in c b (start + columns_in a)) start (start + columns_in a) on) b (start + columns_in a)
+
+  pub GivesSimply : Contents → Query → Type 0
+  GivesSimply c (Query' cs ctes ss subs from filter_ grouped keys aggs having items shown distinct order limit offset names) =
+      GivesSimplyFrom c (value_set [] (conjuncts_of filter_ from)) from 0
