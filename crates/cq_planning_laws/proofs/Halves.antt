@@ -6,9 +6,8 @@ use Rattle.cq_tree.specs.declared.expression.Op.TheVariants.{Eq}
 use Rattle.cq_tree.specs.declared.expression.Expr.{Literal, Column}
 use Rattle.cq_tree.specs.declared.expression.Cond.{Cond, Compare, Or}
 use Rattle.cq_tree.proofs.Opened.{or_is}
-use Rattle.cq_reading.specs.Rules.{halves}
+use Rattle.cq_reading.specs.Rules.{halves, halved}
 use Rattle.cq_planning.specs.Conjuncts.{in_list, both_halves}
-use Rattle.cq_planning_laws.specs.Laws.{InsAreFound}
 
 in_list_or : (a b : Cond) → in_list (Or a b) ≡ both_halves (in_list a) (in_list b)
 in_list_or a b = ap in_list (or_is a b)
@@ -63,7 +62,7 @@ in_list_halves (suc fuel) y (v ∷ (w ∷ ws)) some few =
         ∙ (ap (λ m. both_halves m (in_list (halves fuel true (map (equal_to y) (drop k xs))))) l ∙ (ap (λ m. both_halves (Some (y, take k xs)) m) r
         ∙ (joined y (take k xs) (drop k xs) t ∙ ap (λ us. Some (y, us)) (take-append-drop k xs))))))
 
-pub ins_are_found : InsAreFound
-ins_are_found y v vs =
+pub in_is_found : (y : ℕ) (v : Value) (vs : List Value) → in_list (halved true (map (equal_to y) (v ∷ vs))) ≡ Some (y, v ∷ vs)
+in_is_found y v vs =
     let long : length (map (equal_to y) (v ∷ vs)) ≡ length (v ∷ vs) = length-map (v ∷ vs) (equal_to y) in
     in_list_halves (length (map (equal_to y) (v ∷ vs))) y (v ∷ vs) (omega arith) (omega (arith, long))

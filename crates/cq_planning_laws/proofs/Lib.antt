@@ -3,6 +3,7 @@ pub mod Numbers
 pub mod Rows
 pub mod Classes
 pub mod Halves
+pub mod InLists
 pub mod Writes
 pub mod Columns
 pub mod Joins

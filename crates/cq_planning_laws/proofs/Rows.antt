@@ -62,7 +62,7 @@ one (Text s) (Int y) e = cc
 one (Text s) Null e = cc
 one Null v e = cc
 
-chosen : {X : Type 0} (b : Bool) (r p : X) → (if b then Some r else None) ≡ Some p → (b ≡ true) × (r ≡ p)
+pub chosen : {X : Type 0} (b : Bool) (r p : X) → (if b then Some r else None) ≡ Some p → (b ≡ true) × (r ≡ p)
 chosen true r p e = (refl, cc)
 chosen false r p e = cc
 
@@ -73,7 +73,7 @@ and_true false b e = cc
 pub same_number : (a b : ℕ) → nat_eq a b ≡ true → a ≡ b
 same_number a b e = elim (eqb_tells a b) [ inl y ↦ y.1 | inr n ↦ (let bad : true ≡ false = sym e ∙ n.0 in cc) ]
 
-both_found : {X Y : Type 0} (m : Option X) (n : Option Y) (p : X × Y) → both_of m n ≡ Some p → (m ≡ Some p.0) × (n ≡ Some p.1)
+pub both_found : {X Y : Type 0} (m : Option X) (n : Option Y) (p : X × Y) → both_of m n ≡ Some p → (m ≡ Some p.0) × (n ≡ Some p.1)
 both_found (Some x) (Some y) p e = let f : (x, y) ≡ p = cc in (ap (λ q. Some q.0) f, ap (λ q. Some q.1) f)
 both_found (Some x) None p e = cc
 both_found None n p e = cc

@@ -3,7 +3,7 @@ use Rattle.std.specs.Prelude.{◌≡◌, ◌↔◌, true, ℕ, map, List, [], �
 use Rattle.cq_value.specs.declared.value.Value.{Value}
 use Rattle.cq_tree.specs.declared.expression.Op.TheVariants.{Eq}
 use Rattle.cq_tree.specs.declared.expression.Expr.{Column, Literal}
-use Rattle.cq_tree.specs.declared.expression.Cond.{Compare}
+use Rattle.cq_tree.specs.declared.expression.Cond.{Cond, Compare}
 use Rattle.cq_tree.specs.declared.query.Query.{Query}
 use Rattle.cq_tree.specs.declared.write.ShardOp.{ShardOp}
 use Rattle.cq_tree.specs.declared.statement.Statement.TheVariants as statement
@@ -29,9 +29,14 @@ use Rattle.cq_planning_laws.specs.Reaching.{IsTouchedBy}
 use Rattle.cq_planning_laws.specs.Laid.{IsColumnOf, IsLaidStatement}
 use Rattle.cq_planning_laws.specs.Simple.{GivesSimply}
 
--- what the binder makes of `x IN (literals)` is recognised, with its values
-abbrev pub InsAreFound : Type 0
-InsAreFound = (x : ℕ) (v : Value) (vs : List Value) → in_list (halved true (map (λ w. Compare Eq (Column x) (Literal w)) (v ∷ vs))) ≡ Some (x, v ∷ vs)
+-- a condition is what the binder makes of `x IN (literals)`, with these values
+abbrev pub IsIn : Cond → ℕ → List Value → Type 0
+IsIn c x [] = ⊥
+IsIn c x (v ∷ vs) = c ≡ halved true (map (λ w. Compare Eq (Column x) (Literal w)) (v ∷ vs))
+
+-- that, and nothing else, counts as an IN
+abbrev pub InsAreExact : Type 0
+InsAreExact = (c : Cond) (x : ℕ) (vs : List Value) → (in_list c ≡ Some (x, vs)) ↔ IsIn c x vs
 
 -- the values that a conjunct says are in ascending order, each once
 abbrev pub ValuesAscend : Type 0

@@ -1,6 +1,6 @@
 use Rattle.cq_planning.proofs.Ascending.{ascends, ascending_has, has_ascending}
 use Rattle.cq_planning_laws.proofs.Laid.{bound_is_laid}
-use Rattle.cq_planning_laws.proofs.Halves.{ins_are_found}
+use Rattle.cq_planning_laws.proofs.InLists.{ins_are_exact}
 use Rattle.cq_planning_laws.proofs.Classes.{classes_connect}
 use Rattle.cq_planning_laws.proofs.Whole.{queries_narrow, large_narrow}
 use Rattle.cq_planning_laws.proofs.Writes.{writes_touch}
@@ -19,7 +19,7 @@ pub returns-clause-classes : goal.returns-clause-classes
 returns-clause-classes c = classes_connect
 
 pub returns-clause-ins : goal.returns-clause-ins
-returns-clause-ins c = ins_are_found
+returns-clause-ins c = ins_are_exact
 
 pub returns-clause-laid : goal.returns-clause-laid
 returns-clause-laid c = bound_is_laid
