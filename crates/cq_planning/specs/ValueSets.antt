@@ -51,6 +51,10 @@ sets_said cs = filter_map values_said cs
 abbrev pub ValueSet : Type 0
 ValueSet = Option (List Value)
 
+abbrev pub IsAscendingSet : ValueSet → Type 0
+IsAscendingSet None = ⊤
+IsAscendingSet (Some vs) = IsAscending vs
+
 -- what two sets have in common
 abbrev pub meet : ValueSet → ValueSet → ValueSet
 meet None t = t

@@ -1,5 +1,5 @@
 -- What counts as an IN of literals is what the binder makes of one.
-use Rattle.std.proofs.Common.{◌≡◌, ◌+◌, ◌-◌, ◌/◌, ◌<◌, ◌≤◌, ◌⊎◌, inl, inr, ℕ, zero, suc, Bool, true, false, List, [], ◌∷◌, ◌++◌, map, length, take, drop, ◌&&◌, ◌||◌, if◌then◌else◌, nat_eq, Option, None, Some, refl, sym, ap, subst, ◌∙◌, arith, length-append}
+use Rattle.std.proofs.Common.{◌≡◌, ◌+◌, ◌-◌, ◌/◌, ◌<◌, ◌≤◌, ℕ, zero, suc, true, List, [], ◌∷◌, ◌++◌, map, length, take, drop, ◌&&◌, ◌||◌, nat_eq, Option, None, Some, refl, sym, ap, subst, ◌∙◌, arith, length-append}
 use Rattle.cq_value.specs.declared.value.Value.{Value}
 use Rattle.cq_tree.specs.declared.expression.Op.TheVariants.{Eq}
 use Rattle.cq_tree.specs.declared.expression.Expr.{Expr, Literal, Column}
@@ -8,8 +8,8 @@ use Rattle.cq_tree.specs.declared.expression.Cond.TheBlock.{shown-the_row-Cond-0
 use denote.Hole.Carrier.{roll, out, shown}
 use Rattle.cq_reading.specs.Rules.{halves}
 use Rattle.cq_planning.specs.Conjuncts.{column_of, literal_of, both_of, one_value, both_halves, in_list}
-use Rattle.cq_planning_laws.specs.Laws.{IsIn, InsAreExact}
-use Rattle.cq_planning_laws.proofs.Halves.{equal_to, in_list_halves, in_is_found}
+use Rattle.cq_planning_laws.specs.Laws.{InsAreExact}
+use Rattle.cq_planning_laws.proofs.Halves.{equal_to, in_is_found}
 use Rattle.cq_planning_laws.proofs.Rows.{and_true, same_number, both_found, chosen}
 
 -- equalities on one column, at least one, halved in so many steps at least as they need

@@ -8,6 +8,7 @@ pub mod Writes
 pub mod Columns
 pub mod Joins
 pub mod Laid
+pub mod Ascends
 pub mod Good
 pub mod Kept
 pub mod Sifting

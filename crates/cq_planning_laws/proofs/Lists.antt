@@ -1,5 +1,5 @@
 -- Facts about lists.
-use Rattle.std.proofs.Common.{suc, zero, ◌≡◌, ◌<◌, ◌⊎◌, inl, inr, ℕ, Bool, true, false, List, [], ◌∷◌, ◌++◌, length, filter, refl, ap, arith, Some, slice_get, eq-eqb}
+use Rattle.std.proofs.Common.{suc, zero, ◌≡◌, ◌<◌, ◌⊎◌, inl, inr, ℕ, Bool, true, false, List, [], ◌∷◌, ◌++◌, length, filter, refl, arith, Some, slice_get, eq-eqb}
 use Rattle.std.specs.Prelude.{nat_eq}
 use Rattle.std.specs.List.{AllByRecursion}
 use Rattle.std.proofs.lemmas.Bool.Decides.{eqb_tells}

@@ -2,7 +2,6 @@
 use Rattle.std.proofs.Common.{◌≡◌, ℕ, suc, List, [], ◌∷◌, ◌++◌, filter, fold, length, Bool, true, false, cond, ◌&&◌, ◌||◌, if◌then◌else◌, nat_eq, min, max, Option, None, Some, refl, sym, ap, ◌∙◌, arith, ◌⊎◌, inl, inr, filter_map, option_map, subst}
 use Rattle.std.specs.List.{list_any, cons_option, AllByRecursion}
 use Rattle.std.specs.declared.cmp.Ordering.{Ordering}
-use Rattle.std.specs.Ordering.{is_eq, is_lt}
 use Rattle.std.specs.declared.cmp.Ordering.TheVariants.{Less, Equal, Greater}
 use Rattle.std.proofs.lemmas.Bool.Decides.{eqb_tells}
 use Rattle.cq_value.specs.declared.value.Value.{Value}
@@ -24,7 +23,7 @@ use Rattle.cq_planning.proofs.Ascending.{one_of, has_ascending}
 use Rattle.cq_planning_laws.proofs.Lists.{two_ways, all_append}
 use Rattle.cq_planning.specs.Classes.{merged, itself, first_of_class}
 use Rattle.cq_planning.specs.Conjuncts.{conjuncts, column_of, literal_of, both_of, equality, both_halves, one_value, in_list, turned_equality, equalities}
-use Rattle.cq_planning.specs.ValueSets.{put_value, ascending, or_else, known_values, values_said, sets_said, ValueSet, meet, met_by, value_set, has_value}
+use Rattle.cq_planning.specs.ValueSets.{ascending, or_else, known_values, values_said, sets_said, ValueSet, meet, met_by, value_set, has_value}
 
 -- ---- truth
 

@@ -1,5 +1,6 @@
 -- The laws.
 use Rattle.std.specs.Prelude.{◌≡◌, ◌↔◌, true, ℕ, map, List, [], ◌∷◌, length, Some, slice_index_or}
+use Rattle.std.specs.List.{AllByRecursion}
 use Rattle.cq_value.specs.declared.value.Value.{Value}
 use Rattle.cq_tree.specs.declared.expression.Op.TheVariants.{Eq}
 use Rattle.cq_tree.specs.declared.expression.Expr.{Column, Literal}
@@ -22,7 +23,8 @@ use Rattle.cq_catalog.specs.declared.info.Place.TheVariants.{Local}
 use Rattle.cq_reading.specs.Rules.{halved}
 use Rattle.cq_planning.specs.Conjuncts.{in_list}
 use Rattle.cq_planning.specs.Classes.{Connected, first_of_class}
-use Rattle.cq_planning.specs.ValueSets.{ascending, IsAscending}
+use Rattle.cq_planning.specs.ValueSets.{ascending, IsAscending, IsAscendingSet}
+use Rattle.cq_planning.specs.Occurrences.{Occurrence, occurrences_of}
 use Rattle.cq_planning.specs.Touched.{touched}
 use Rattle.cq_planning_laws.specs.Database.{Narrows, shape_in}
 use Rattle.cq_planning_laws.specs.Reaching.{IsTouchedBy}
@@ -41,6 +43,10 @@ InsAreExact = (c : Cond) (x : ℕ) (vs : List Value) → (in_list c ≡ Some (x,
 -- the values that a conjunct says are in ascending order, each once
 abbrev pub ValuesAscend : Type 0
 ValuesAscend = (vs : List Value) → IsAscending (ascending vs) × ((v : Value) → Has (ascending vs) v ↔ Has vs v)
+
+-- so are those of the value set of each occurrence of a table
+abbrev pub SetsAscend : Type 0
+SetsAscend = (c : Contents) (q : Query) → AllByRecursion (λ (o : Occurrence). IsAscendingSet o.values) (occurrences_of c q)
 
 -- two columns have the same first column exactly where equalities connect them
 abbrev pub ClassesConnect : Type 0

@@ -1,4 +1,4 @@
-ghost use Rattle.cq_planning_laws.specs.Laws.{BoundIsLaid, ClassesConnect, InsAreExact, LargeNarrows, QueriesNarrow, ValuesAscend, WritesTouch};
+ghost use Rattle.cq_planning_laws.specs.Laws.{BoundIsLaid, ClassesConnect, InsAreExact, LargeNarrows, QueriesNarrow, SetsAscend, ValuesAscend, WritesTouch};
 
 /// An IN of literals gives its values, and classes are what equalities connect. The rows that a write inserts or keeps are in the
 /// groups that it touches. What the binder lets through is laid over the catalogue, and for such a query the groups that it doesn't touch
@@ -6,6 +6,7 @@ ghost use Rattle.cq_planning_laws.specs.Laws.{BoundIsLaid, ClassesConnect, InsAr
 pub fn planning_laws()
     ensures ins { InsAreExact }
     ensures ascending { ValuesAscend }
+    ensures sets { SetsAscend }
     ensures classes { ClassesConnect }
     ensures writes { WritesTouch }
     ensures laid { BoundIsLaid }

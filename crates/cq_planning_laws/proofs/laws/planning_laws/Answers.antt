@@ -1,3 +1,4 @@
+use Rattle.cq_planning_laws.proofs.Ascends.{sets_ascend}
 use Rattle.cq_planning.proofs.Ascending.{ascends, ascending_has, has_ascending}
 use Rattle.cq_planning_laws.proofs.Laid.{bound_is_laid}
 use Rattle.cq_planning_laws.proofs.InLists.{ins_are_exact}
@@ -26,3 +27,6 @@ returns-clause-laid c = bound_is_laid
 
 pub returns-clause-ascending : goal.returns-clause-ascending
 returns-clause-ascending c vs = (ascends vs, λ v. (ascending_has v vs, has_ascending v vs))
+
+pub returns-clause-sets : goal.returns-clause-sets
+returns-clause-sets c = sets_ascend
