@@ -1,5 +1,5 @@
 -- The definitions say what the rules say: t and u in groups 0 to 3, by their first columns, and v in groups 4 and 5.
-use Rattle.std.proofs.Common.{◌≡◌, ℕ, map, Bool, true, false, List, [], ◌∷◌, refl, Some, None, Option}
+use Rattle.std.proofs.Common.{◌≡◌, ℕ, map, Bool, true, false, List, [], ◌∷◌, ◌++◌, refl, Some, None, Option}
 use Rattle.std.specs.Prelude.{pos}
 use Rattle.std.specs.List.{flat_map}
 use Rattle.cq_value.specs.declared.value.Value.TheVariants.{Null, Int}
@@ -140,6 +140,17 @@ pushed_join (Query' cs ctes ss subs from filter_ grouped keys aggs having items 
 
 not_colocated : (q : Query) → groups (sub (of_parts q (inner (Table 0 2) (Table 2 2) (equal 0 2)) Always false [] (Column 0 ∷ Column 1 ∷ []) None)) (is 0 1) ≡ 0 ∷ 1 ∷ 2 ∷ 3 ∷ 4 ∷ 5 ∷ []
 not_colocated (Query' cs ctes ss subs from filter_ grouped keys aggs having items shown distinct order limit offset names) = refl
+
+-- with a reference table, 3, of group 6
+abbrev four : Contents
+four = record three { tables = three.tables ++ record { name = []; columns = []; key = []; place = Reference 6 10 } ∷ []; groups = 7; next_shard = 11 }
+
+-- of `r LEFT JOIN t ON r.a = t.k JOIN v ON r.a = v.k` under `v.k = 1` the right side t is narrowed too, although it isn't co-located with v
+narrowed_alone : (q : Query) →
+    in_order four (flat_map (groups_of four) (occurrences_from four (value_set [] (is 0 1 ∷ []))
+    (sub (of_parts q (inner (left (Table 3 2) (Table 0 2) (equal 0 2)) (Table 2 2) (equal 0 4)) Always false [] (Column 4 ∷ Column 3 ∷ []) None)) 0))
+    ≡ 0 ∷ 4 ∷ 6 ∷ []
+narrowed_alone (Query' cs ctes ss subs from filter_ grouped keys aggs having items shown distinct order limit offset names) = refl
 
 -- ---- whole statements
 

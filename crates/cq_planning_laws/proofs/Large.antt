@@ -25,9 +25,9 @@ use Rattle.cq_planning_laws.specs.Database.{shape_in}
 use Rattle.cq_planning_laws.specs.Laid.{IsLaidFrom, IsLaid, IsColumnOf}
 use Rattle.cq_planning_laws.specs.Simple.{GroupsNowhereFrom, GroupsNowhere, IsSimple, GivesSimplyFrom, GivesSimply}
 use Rattle.cq_planning_laws.proofs.Lists.{two_ways}
-use Rattle.cq_planning_laws.proofs.Kept.{PushesThrough}
+use Rattle.cq_planning_laws.proofs.SameRows.{PushesThrough}
 use Rattle.cq_planning_laws.proofs.Columns.{filter_twice}
-use Rattle.cq_planning_laws.proofs.Good.{IsWide}
+use Rattle.cq_planning_laws.proofs.RowFacts.{IsWide}
 use Rattle.cq_planning_laws.proofs.Narrowing.{Reach, Covers, covers_left, covers_right, kept_alone, kept_same}
 
 -- ---- fewer rows

@@ -1,5 +1,5 @@
 pub mod Lists
-pub mod Numbers
+pub mod GroupLists
 pub mod Rows
 pub mod Classes
 pub mod Halves
@@ -9,12 +9,12 @@ pub mod Columns
 pub mod Joins
 pub mod Laid
 pub mod Ascends
-pub mod Good
-pub mod Kept
-pub mod Sifting
+pub mod RowFacts
+pub mod SameRows
+pub mod Tests
 pub mod Pushing
 pub mod Narrowing
 pub mod Blocks
 pub mod Large
-pub mod Whole
+pub mod Statements
 pub mod Examples

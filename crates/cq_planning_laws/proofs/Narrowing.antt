@@ -30,13 +30,13 @@ use Rattle.cq_planning_laws.specs.Database.{shape_in}
 use Rattle.cq_planning_laws.specs.Laid.{IsLaidFrom, IsLaid, IsColumnOf}
 use Rattle.cq_planning_laws.proofs.Lists.{two_ways, all_append, all_weaker, all_left, all_right}
 use Rattle.cq_planning_laws.proofs.Lists.{among_here}
-use Rattle.cq_planning_laws.proofs.Kept.{is_given, SameKept, PushesThrough}
-use Rattle.cq_planning_laws.proofs.Numbers.{Cut, cut_there, placed}
+use Rattle.cq_planning_laws.proofs.SameRows.{is_given, SameKept, PushesThrough}
+use Rattle.cq_planning_laws.proofs.GroupLists.{Cut, cut_there, placed}
 use Rattle.cq_planning_laws.proofs.Rows.{Says, IsOneOf, kept_says, set_has, and_true, known_has, value_there}
 use Rattle.cq_planning_laws.proofs.Writes.{groups_has, group_below}
 use Rattle.cq_planning_laws.proofs.Columns.{pad, column_pad, column_nulls, in_left, in_right, fits, FitsEach, fits_each, each_fits, null_in, left_fits, right_fits, filter_twice, restricted}
 use Rattle.cq_planning_laws.proofs.Joins.{joined_restricted, left_restricted}
-use Rattle.cq_planning_laws.proofs.Good.{IsWide, Good, all_good, right_has}
+use Rattle.cq_planning_laws.proofs.RowFacts.{IsWide, HasFacts, all_facts, right_has}
 
 -- what a test that needs the touched groups alone says of a row
 abbrev pub Reach : Contents → List ℕ → ℕ → Place → (Row → Bool) → Type 0
@@ -136,11 +136,11 @@ module _ (c : Contents) (w : IsWhole c) (touched : List ℕ) (widths : ℕ → �
           all_rows ok f [] = tt
           all_rows ok f (row ∷ rows) = (f row, all_rows ok f rows)
 
-  good_db : (f : FromTree) (sets : ℕ → ValueSet) (start : ℕ) → IsLaidFrom c widths f → AllByRecursion (Good c widths db rs sets f start) (from_rows f start db rs)
-  good_db = all_good c widths db rs tables_db results
+  facts_db : (f : FromTree) (sets : ℕ → ValueSet) (start : ℕ) → IsLaidFrom c widths f → AllByRecursion (HasFacts c widths db rs sets f start) (from_rows f start db rs)
+  facts_db = all_facts c widths db rs tables_db results
 
-  good_dn : (f : FromTree) (sets : ℕ → ValueSet) (start : ℕ) → IsLaidFrom c widths f → AllByRecursion (Good c widths dn rs sets f start) (from_rows f start dn rs)
-  good_dn = all_good c widths dn rs tables_dn results
+  facts_dn : (f : FromTree) (sets : ℕ → ValueSet) (start : ℕ) → IsLaidFrom c widths f → AllByRecursion (HasFacts c widths dn rs sets f start) (from_rows f start dn rs)
+  facts_dn = all_facts c widths dn rs tables_dn results
 
   -- joins, by what holds of both sides
   product_same : (sets : ℕ → ValueSet) (start wa wb : ℕ) (on : Row → Bool) (us us2 bs bs2 : List Row) → AllByRecursion (IsWide wa) us → AllByRecursion (IsWide wa) us2 →
@@ -195,8 +195,8 @@ module _ (c : Contents) (w : IsWhole c) (touched : List ℕ) (widths : ℕ → �
     from_same (Cross' p (more_of-FromTree a end_of-FromTree) q (more_of-FromTree b end_of-FromTree)) sets start h cov =
         let wa : ℕ = columns_in a in
         product_same sets start wa (columns_in b) (λ x. true) (from_rows a start db rs) (from_rows a start dn rs) (from_rows b (start + wa) db rs) (from_rows b (start + wa) dn rs)
-        (all_weaker (Good c widths db rs sets a start) (IsWide wa) (λ r g. g.0) (from_rows a start db rs) (good_db a sets start h.0))
-        (all_weaker (Good c widths dn rs sets a start) (IsWide wa) (λ r g. g.0) (from_rows a start dn rs) (good_dn a sets start h.0))
+        (all_weaker (HasFacts c widths db rs sets a start) (IsWide wa) (λ r g. g.0) (from_rows a start db rs) (facts_db a sets start h.0))
+        (all_weaker (HasFacts c widths dn rs sets a start) (IsWide wa) (λ r g. g.0) (from_rows a start dn rs) (facts_dn a sets start h.0))
         (from_same a sets start h.0 (covers_left c touched (occurrences_from c sets a start) (occurrences_from c sets b (start + wa)) cov))
         (from_same b sets (start + wa) h.1 (covers_right c touched (occurrences_from c sets a start) (occurrences_from c sets b (start + wa)) cov))
     from_same (Inner' p (more_of-FromTree a end_of-FromTree) q (more_of-FromTree b end_of-FromTree) on) sets start h cov =
@@ -204,8 +204,8 @@ module _ (c : Contents) (w : IsWhole c) (touched : List ℕ) (widths : ℕ → �
         let f : Row → Bool = fits sets start (wa + columns_in b) in
         filter_twice f (joins on rs start) (product (from_rows a start db rs) (from_rows b (start + wa) db rs))
         ∙ product_same sets start wa (columns_in b) (joins on rs start) (from_rows a start db rs) (from_rows a start dn rs) (from_rows b (start + wa) db rs) (from_rows b (start + wa) dn rs)
-        (all_weaker (Good c widths db rs sets a start) (IsWide wa) (λ r g. g.0) (from_rows a start db rs) (good_db a sets start h.0))
-        (all_weaker (Good c widths dn rs sets a start) (IsWide wa) (λ r g. g.0) (from_rows a start dn rs) (good_dn a sets start h.0))
+        (all_weaker (HasFacts c widths db rs sets a start) (IsWide wa) (λ r g. g.0) (from_rows a start db rs) (facts_db a sets start h.0))
+        (all_weaker (HasFacts c widths dn rs sets a start) (IsWide wa) (λ r g. g.0) (from_rows a start dn rs) (facts_dn a sets start h.0))
         (from_same a sets start h.0 (covers_left c touched (occurrences_from c sets a start) (occurrences_from c sets b (start + wa)) cov))
         (from_same b sets (start + wa) h.1 (covers_right c touched (occurrences_from c sets a start) (occurrences_from c sets b (start + wa)) cov))
         ∙ sym (filter_twice f (joins on rs start) (product (from_rows a start dn rs) (from_rows b (start + wa) dn rs)))
@@ -213,8 +213,8 @@ module _ (c : Contents) (w : IsWhole c) (touched : List ℕ) (widths : ℕ → �
         let wa : ℕ = columns_in a in
         let sa : ℕ → ValueSet = sets_in c sets a start in
         let sb : ℕ → ValueSet = right_sets sets sa (distribution_in c b (start + wa)) start (start + wa) on in
-        left_same sets sa sb start wa (columns_in b) (Good c widths db rs sets a start) (joins on rs start) (from_rows a start db rs) (from_rows a start dn rs) (from_rows b (start + wa) db rs) (from_rows b (start + wa) dn rs)
-        (good_db a sets start h.0) (good_dn a sets start h.0) (λ l g. g.0)
+        left_same sets sa sb start wa (columns_in b) (HasFacts c widths db rs sets a start) (joins on rs start) (from_rows a start db rs) (from_rows a start dn rs) (from_rows b (start + wa) db rs) (from_rows b (start + wa) dn rs)
+        (facts_db a sets start h.0) (facts_dn a sets start h.0) (λ l g. g.0)
         (λ l r g o given y k. right_has sets sa (distribution_in c b (start + wa)) start (start + wa) on rs (pad start (l ++ r)) o
         (λ z zl zh zk. (let one : column (pad start (l ++ r)) z ≡ column (pad start l) z = in_left start l r wa g.0 z zh in
         subst (λ v. has_value (sa z) v ≡ true) (sym one) (g.2 given z zl zh (ap is_known (sym one) ∙ zk)))) y k)
@@ -231,6 +231,6 @@ module _ (c : Contents) (w : IsWhole c) (touched : List ℕ) (widths : ℕ → �
         (let t = and_true (keeps filter_ rs row) (is_given outer row) k in
         each_fits sets 0 (columns_in from) row (λ x lo hi.
         set_has row outer all (given_says row outer t.1) (all_append (Says row) (conjuncts filter_) (inner_conjuncts from) (kept_says row rs filter_ t.0) says) x)) in
-        restricted keep fit (from_rows from 0 db rs) (all_weaker (Good c widths db rs sets from 0) (λ row. keep row ≡ true → fit row ≡ true) (λ row g. needs row g.1) (from_rows from 0 db rs) (good_db from sets 0 h.0))
+        restricted keep fit (from_rows from 0 db rs) (all_weaker (HasFacts c widths db rs sets from 0) (λ row. keep row ≡ true → fit row ≡ true) (λ row g. needs row g.1) (from_rows from 0 db rs) (facts_db from sets 0 h.0))
         ∙ ap (filter keep) (from_same from sets 0 h.0 cov)
-        ∙ sym (restricted keep fit (from_rows from 0 dn rs) (all_weaker (Good c widths dn rs sets from 0) (λ row. keep row ≡ true → fit row ≡ true) (λ row g. needs row g.1) (from_rows from 0 dn rs) (good_dn from sets 0 h.0)))
+        ∙ sym (restricted keep fit (from_rows from 0 dn rs) (all_weaker (HasFacts c widths dn rs sets from 0) (λ row. keep row ≡ true → fit row ≡ true) (λ row g. needs row g.1) (from_rows from 0 dn rs) (facts_dn from sets 0 h.0)))

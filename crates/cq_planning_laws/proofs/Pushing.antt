@@ -25,10 +25,10 @@ use Rattle.cq_planning.specs.Conjuncts.{conjuncts_of, equalities, column_of}
 use Rattle.cq_planning.specs.Pushable.{Pushable, column_behind, number_or_0, pushable_by, pushable_over, pushable, relations}
 use Rattle.cq_planning.specs.Relations.{Distribution, Relation, distributions, is_left_in_block, is_plain}
 use Rattle.cq_planning.specs.ValueSets.{has_value}
-use Rattle.cq_planning_laws.proofs.Kept.{is_given, SameKept, PushesThrough}
+use Rattle.cq_planning_laws.proofs.SameRows.{is_given, SameKept, PushesThrough}
 use Rattle.cq_planning_laws.proofs.Rows.{and_true, same_number}
 use Rattle.cq_planning_laws.proofs.Columns.{column_left, filter_twice}
-use Rattle.cq_planning_laws.proofs.Sifting.{sifted_same, exchanged, all_sure, sort_sifted, distinct_if_sifted, groups_sifted}
+use Rattle.cq_planning_laws.proofs.Tests.{sifted_same, exchanged, all_sure, sort_sifted, distinct_if_sifted, groups_sifted}
 
 -- ---- what is pushable
 

@@ -22,7 +22,7 @@ use Rattle.cq_planning_laws.specs.Laws.{WritesTouch}
 use Rattle.cq_planning_laws.specs.Reaching.{RowsReach, RowsAreOf, Reaches, IsTouchedBy}
 use Rattle.cq_planning_laws.proofs.Lists.{among_here, among_more, among_only}
 use Rattle.cq_planning_laws.proofs.Lists.{two_ways}
-use Rattle.cq_planning_laws.proofs.Numbers.{ascends, among_numbers, numbers_only, in_order_has, in_order_only, placed, Cut, cut_there, group_range, groups_below}
+use Rattle.cq_planning_laws.proofs.GroupLists.{ascends, among_numbers, numbers_only, in_order_has, in_order_only, placed, Cut, cut_there, group_range, groups_below}
 use Rattle.cq_planning_laws.proofs.Rows.{kept_says, set_has, value_there, same_number}
 
 among_map : {X : Type 0} (f : X → ℕ) (x : X) (xs : List X) → Has xs x → among (f x) (map f xs) ≡ true

@@ -70,7 +70,7 @@ QueriesNarrow = (c : Contents) (widths : ℕ → ℕ) (q : Query) → IsWhole c 
 abbrev pub IsLarge : Query → Tables → Type 0
 IsLarge q db = is_large q db (results_of q db) ≡ true
 
--- nor do they make a large group small
+-- a group that is too large over the touched groups alone is too large over the whole
 abbrev pub LargeNarrows : Type 0
 LargeNarrows = (c : Contents) (widths : ℕ → ℕ) (q : Query) → IsWhole c → IsLaidStatement c widths q → GivesSimply c q →
     Narrows c (touched c (statement.Select q)) (IsLarge q)

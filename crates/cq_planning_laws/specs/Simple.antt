@@ -1,4 +1,6 @@
--- Queries none of whose FROM subqueries groups under a set that it is given, unless it reads one table alone.
+-- Queries none of whose FROM subqueries groups under a set that it is given, unless it reads one table alone. Otherwise a group can be larger
+-- over the touched groups than over the whole: a row of a LEFT JOIN may find no partner there, where its right side stands in other
+-- groups than the left side and is narrowed, and rows without a partner make one group.
 use Rattle.std.specs.Prelude.{◌≡◌, ◌+◌, ◌⊎◌, ⊤, false, ℕ, []}
 use Rattle.cq_tree.specs.declared.query.FromTree.{FromTree, Table, Sub', Result, Cross', Inner', Left', end_of-FromTree, more_of-FromTree, end_of-Query, more_of-Query}
 use Rattle.cq_tree.specs.declared.query.Query.{Query, Query'}

@@ -3,7 +3,7 @@ use Rattle.cq_planning.proofs.Ascending.{ascends, ascending_has, has_ascending}
 use Rattle.cq_planning_laws.proofs.Laid.{bound_is_laid}
 use Rattle.cq_planning_laws.proofs.InLists.{ins_are_exact}
 use Rattle.cq_planning_laws.proofs.Classes.{classes_connect}
-use Rattle.cq_planning_laws.proofs.Whole.{queries_narrow, large_narrow}
+use Rattle.cq_planning_laws.proofs.Statements.{queries_narrow, large_narrow}
 use Rattle.cq_planning_laws.proofs.Writes.{writes_touch}
 use Rattle.cq_planning_laws.proofs.laws.planning_laws.Goals as goal
 

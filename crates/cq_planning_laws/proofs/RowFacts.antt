@@ -34,21 +34,21 @@ IsWide n row = length row ≡ n
 
 -- ---- sets that hold of a column that isn't NULL
 
-abbrev pub Weak : (ℕ → ValueSet) → (ℕ → ValueSet) → ℕ → ℕ → Row → Type 0
-Weak sets s start n r = FitsEach sets start n r → (x : ℕ) → start ≤ x → x < start + n → is_known (column (pad start r) x) ≡ true → has_value (s x) (column (pad start r) x) ≡ true
+abbrev pub FitsKnown : (ℕ → ValueSet) → (ℕ → ValueSet) → ℕ → ℕ → Row → Type 0
+FitsKnown sets s start n r = FitsEach sets start n r → (x : ℕ) → start ≤ x → x < start + n → is_known (column (pad start r) x) ≡ true → has_value (s x) (column (pad start r) x) ≡ true
 
-weak_join : (sets sa sb : ℕ → ValueSet) (start wa wb : ℕ) (l r : Row) → length l ≡ wa → Weak sets sa start wa l →
+join_known : (sets sa sb : ℕ → ValueSet) (start wa wb : ℕ) (l r : Row) → length l ≡ wa → FitsKnown sets sa start wa l →
     (FitsEach sets start (wa + wb) (l ++ r) → (x : ℕ) → start + wa ≤ x → x < start + wa + wb → is_known (column (pad start (l ++ r)) x) ≡ true → has_value (sb x) (column (pad start (l ++ r)) x) ≡ true) →
-    Weak sets (λ x. if nat_lt x (start + wa) then sa x else sb x) start (wa + wb) (l ++ r)
-weak_join sets sa sb start wa wb l r long left right given x lo hi k = elim (below_or_not x (start + wa)) [
+    FitsKnown sets (λ x. if nat_lt x (start + wa) then sa x else sb x) start (wa + wb) (l ++ r)
+join_known sets sa sb start wa wb l r long left right given x lo hi k = elim (below_or_not x (start + wa)) [
   | inl y ↦ (let same : column (pad start (l ++ r)) x ≡ column (pad start l) x = in_left start l r wa long x y.1 in
       rw y.0 (subst (λ v. has_value (sa x) v ≡ true) (sym same) (left (left_fits sets start l r wa wb long given) x lo y.1 (ap is_known (sym same) ∙ k))))
   | inr n ↦ rw n.0 (right given x n.1 (omega (arith, hi)) k)
 ]
 
-weak_right : (sets sb : ℕ → ValueSet) (start wa wb : ℕ) (l r : Row) → length l ≡ wa → Weak sets sb (start + wa) wb r →
+right_known : (sets sb : ℕ → ValueSet) (start wa wb : ℕ) (l r : Row) → length l ≡ wa → FitsKnown sets sb (start + wa) wb r →
     FitsEach sets start (wa + wb) (l ++ r) → (x : ℕ) → start + wa ≤ x → x < start + wa + wb → is_known (column (pad start (l ++ r)) x) ≡ true → has_value (sb x) (column (pad start (l ++ r)) x) ≡ true
-weak_right sets sb start wa wb l r long right given x lo hi k =
+right_known sets sb start wa wb l r long right given x lo hi k =
     let same : column (pad start (l ++ r)) x ≡ column (pad (start + wa) r) x = in_right start l r wa long x lo in
     subst (λ v. has_value (sb x) v ≡ true) (sym same) (right (right_fits sets start l r wa wb long given) x lo hi (ap is_known (sym same) ∙ k))
 
@@ -118,46 +118,46 @@ module _ (c : Contents) (widths : ℕ → ℕ) (db : Tables) (rs : Results) wher
 
   -- ---- each row
 
-  abbrev pub Good : (ℕ → ValueSet) → FromTree → ℕ → Row → Type 0
-  Good sets f start r = (length r ≡ columns_in f) × AllByRecursion (Says (pad start r)) (inner_conjuncts f) × Weak sets (sets_in c sets f start) start (columns_in f) r
+  abbrev pub HasFacts : (ℕ → ValueSet) → FromTree → ℕ → Row → Type 0
+  HasFacts sets f start r = (length r ≡ columns_in f) × AllByRecursion (Says (pad start r)) (inner_conjuncts f) × FitsKnown sets (sets_in c sets f start) start (columns_in f) r
 
   module _ (wide_tables : (t n : ℕ) → IsColumnOf n (place_at c t) → AllByRecursion (IsWide (length (shape_in c t).kinds)) (table_rows db t)) (wide_results : (i : ℕ) → AllByRecursion (IsWide (widths i)) (result_at rs i)) where
-    pub all_good : (f : FromTree) (sets : ℕ → ValueSet) (start : ℕ) → IsLaidFrom c widths f → AllByRecursion (Good sets f start) (from_rows f start db rs)
-    all_good (Table t n) sets start h = all_weaker (IsWide (length (shape_in c t).kinds)) (Good sets (Table t n) start) (λ r w. (w ∙ h.0, tt, λ given x lo hi k. given x lo hi)) (table_rows db t) (wide_tables t n h.1)
-    all_good (Sub' p (more_of-Query q end_of-Query)) sets start h = all_weaker (IsWide (outputs_of q)) (Good sets (Sub' p (more_of-Query q end_of-Query)) start) (λ r w. (w, tt, λ given x lo hi k. given x lo hi)) (meaning q db rs) (mean_wide q h)
-    all_good (Result i n) sets start h = all_weaker (IsWide (widths i)) (Good sets (Result i n) start) (λ r w. (w ∙ h, tt, λ given x lo hi k. given x lo hi)) (result_at rs i) (wide_results i)
-    all_good (Cross' p (more_of-FromTree a end_of-FromTree) q (more_of-FromTree b end_of-FromTree)) sets start h =
+    pub all_facts : (f : FromTree) (sets : ℕ → ValueSet) (start : ℕ) → IsLaidFrom c widths f → AllByRecursion (HasFacts sets f start) (from_rows f start db rs)
+    all_facts (Table t n) sets start h = all_weaker (IsWide (length (shape_in c t).kinds)) (HasFacts sets (Table t n) start) (λ r w. (w ∙ h.0, tt, λ given x lo hi k. given x lo hi)) (table_rows db t) (wide_tables t n h.1)
+    all_facts (Sub' p (more_of-Query q end_of-Query)) sets start h = all_weaker (IsWide (outputs_of q)) (HasFacts sets (Sub' p (more_of-Query q end_of-Query)) start) (λ r w. (w, tt, λ given x lo hi k. given x lo hi)) (meaning q db rs) (mean_wide q h)
+    all_facts (Result i n) sets start h = all_weaker (IsWide (widths i)) (HasFacts sets (Result i n) start) (λ r w. (w ∙ h, tt, λ given x lo hi k. given x lo hi)) (result_at rs i) (wide_results i)
+    all_facts (Cross' p (more_of-FromTree a end_of-FromTree) q (more_of-FromTree b end_of-FromTree)) sets start h =
         let wa : ℕ = columns_in a in
-        all_product (Good sets a start) (Good sets b (start + wa)) (Good sets (Cross' p (more_of-FromTree a end_of-FromTree) q (more_of-FromTree b end_of-FromTree)) start)
+        all_product (HasFacts sets a start) (HasFacts sets b (start + wa)) (HasFacts sets (Cross' p (more_of-FromTree a end_of-FromTree) q (more_of-FromTree b end_of-FromTree)) start)
         (λ l r L R. (
           length-append l r ∙ (λ i. L.0 i + R.0 i),
           all_append (Says (pad start (l ++ r))) (inner_conjuncts a) (inner_conjuncts b) (says_left start l r wa L.0 (inner_conjuncts a) L.1) (says_right start l r wa L.0 (inner_conjuncts b) R.1),
-          weak_join sets (sets_in c sets a start) (sets_in c sets b (start + wa)) start wa (columns_in b) l r L.0 L.2 (weak_right sets (sets_in c sets b (start + wa)) start wa (columns_in b) l r L.0 R.2),
+          join_known sets (sets_in c sets a start) (sets_in c sets b (start + wa)) start wa (columns_in b) l r L.0 L.2 (right_known sets (sets_in c sets b (start + wa)) start wa (columns_in b) l r L.0 R.2),
         ))
-        (from_rows a start db rs) (from_rows b (start + wa) db rs) (all_good a sets start h.0) (all_good b sets (start + wa) h.1)
-    all_good (Inner' p (more_of-FromTree a end_of-FromTree) q (more_of-FromTree b end_of-FromTree) on) sets start h =
+        (from_rows a start db rs) (from_rows b (start + wa) db rs) (all_facts a sets start h.0) (all_facts b sets (start + wa) h.1)
+    all_facts (Inner' p (more_of-FromTree a end_of-FromTree) q (more_of-FromTree b end_of-FromTree) on) sets start h =
         let wa : ℕ = columns_in a in
-        let cross : AllByRecursion (Good sets (Cross' p (more_of-FromTree a end_of-FromTree) q (more_of-FromTree b end_of-FromTree)) start) (product (from_rows a start db rs) (from_rows b (start + wa) db rs)) =
-        all_product (Good sets a start) (Good sets b (start + wa)) (Good sets (Cross' p (more_of-FromTree a end_of-FromTree) q (more_of-FromTree b end_of-FromTree)) start)
+        let cross : AllByRecursion (HasFacts sets (Cross' p (more_of-FromTree a end_of-FromTree) q (more_of-FromTree b end_of-FromTree)) start) (product (from_rows a start db rs) (from_rows b (start + wa) db rs)) =
+        all_product (HasFacts sets a start) (HasFacts sets b (start + wa)) (HasFacts sets (Cross' p (more_of-FromTree a end_of-FromTree) q (more_of-FromTree b end_of-FromTree)) start)
         (λ l r L R. (
           length-append l r ∙ (λ i. L.0 i + R.0 i),
           all_append (Says (pad start (l ++ r))) (inner_conjuncts a) (inner_conjuncts b) (says_left start l r wa L.0 (inner_conjuncts a) L.1) (says_right start l r wa L.0 (inner_conjuncts b) R.1),
-          weak_join sets (sets_in c sets a start) (sets_in c sets b (start + wa)) start wa (columns_in b) l r L.0 L.2 (weak_right sets (sets_in c sets b (start + wa)) start wa (columns_in b) l r L.0 R.2),
+          join_known sets (sets_in c sets a start) (sets_in c sets b (start + wa)) start wa (columns_in b) l r L.0 L.2 (right_known sets (sets_in c sets b (start + wa)) start wa (columns_in b) l r L.0 R.2),
         ))
-        (from_rows a start db rs) (from_rows b (start + wa) db rs) (all_good a sets start h.0) (all_good b sets (start + wa) h.1) in
+        (from_rows a start db rs) (from_rows b (start + wa) db rs) (all_facts a sets start h.0) (all_facts b sets (start + wa) h.1) in
         all_passed (joins on rs start) (λ r g k. (g.0, all_append (Says (pad start r)) (inner_conjuncts a ++ inner_conjuncts b) (conjuncts on) g.1 (kept_says (pad start r) rs on k), g.2))
         (product (from_rows a start db rs) (from_rows b (start + wa) db rs)) cross
-    all_good (Left' p (more_of-FromTree a end_of-FromTree) q (more_of-FromTree b end_of-FromTree) on) sets start h =
+    all_facts (Left' p (more_of-FromTree a end_of-FromTree) q (more_of-FromTree b end_of-FromTree) on) sets start h =
         let wa : ℕ = columns_in a in
         let wb : ℕ = columns_in b in
         let sa : ℕ → ValueSet = sets_in c sets a start in
         let sb : ℕ → ValueSet = right_sets sets sa (distribution_in c b (start + wa)) start (start + wa) on in
-        all_left_join (Good sets a start) (Good sets b (start + wa)) (Good sets (Left' p (more_of-FromTree a end_of-FromTree) q (more_of-FromTree b end_of-FromTree) on) start)
+        all_left_join (HasFacts sets a start) (HasFacts sets b (start + wa)) (HasFacts sets (Left' p (more_of-FromTree a end_of-FromTree) q (more_of-FromTree b end_of-FromTree) on) start)
         (joins on rs start) wb
         (λ l r L R o. (
           length-append l r ∙ (λ i. L.0 i + R.0 i),
           says_left start l r wa L.0 (inner_conjuncts a) L.1,
-          weak_join sets sa sb start wa wb l r L.0 L.2 (λ given x lo hi k.
+          join_known sets sa sb start wa wb l r L.0 L.2 (λ given x lo hi k.
               right_has sets sa (distribution_in c b (start + wa)) start (start + wa) on rs (pad start (l ++ r)) o
               (λ z zl zh zk. (let same : column (pad start (l ++ r)) z ≡ column (pad start l) z = in_left start l r wa L.0 z zh in
               subst (λ v. has_value (sa z) v ≡ true) (sym same) (L.2 (left_fits sets start l r wa wb L.0 given) z zl zh (ap is_known (sym same) ∙ zk))))
@@ -166,8 +166,8 @@ module _ (c : Contents) (widths : ℕ → ℕ) (db : Tables) (rs : Results) wher
         (λ l L. (
           length-append l (replicate wb Null) ∙ (λ i. L.0 i + length_nulls wb i),
           says_left start l (replicate wb Null) wa L.0 (inner_conjuncts a) L.1,
-          weak_join sets sa sb start wa wb l (replicate wb Null) L.0 L.2 (λ given x lo hi k.
+          join_known sets sa sb start wa wb l (replicate wb Null) L.0 L.2 (λ given x lo hi k.
               (let nothing : column (pad start (l ++ replicate wb Null)) x ≡ Null = in_right start l (replicate wb Null) wa L.0 x lo ∙ column_nulls (start + wa) wb x in
               let bad : false ≡ true = sym (ap is_known nothing) ∙ k in cc)),
         ))
-        (from_rows a start db rs) (from_rows b (start + wa) db rs) (all_good a sets start h.0) (all_good b sets (start + wa) h.1)
+        (from_rows a start db rs) (from_rows b (start + wa) db rs) (all_facts a sets start h.0) (all_facts b sets (start + wa) h.1)

@@ -29,10 +29,10 @@ use Rattle.cq_planning_laws.specs.Laws.{QueriesNarrow, LargeNarrows}
 use Rattle.cq_planning_laws.specs.Simple.{GivesSimply}
 use Rattle.cq_planning_laws.proofs.Lists.{two_ways, all_weaker, all_append, filter_none}
 use Rattle.std.proofs.lemmas.Bool.Decides.{eqb_tells}
-use Rattle.cq_planning_laws.proofs.Kept.{SameKept, PushesThrough}
+use Rattle.cq_planning_laws.proofs.SameRows.{SameKept, PushesThrough}
 use Rattle.cq_planning_laws.proofs.Pushing.{pushes_through}
-use Rattle.cq_planning_laws.proofs.Numbers.{in_order_has, among_left, among_right}
-use Rattle.cq_planning_laws.proofs.Good.{IsWide, mean_wide}
+use Rattle.cq_planning_laws.proofs.GroupLists.{in_order_has, among_left, among_right}
+use Rattle.cq_planning_laws.proofs.RowFacts.{IsWide, mean_wide}
 use Rattle.cq_planning_laws.proofs.Narrowing.{Reach, AreTouched, Covers, covers_left, covers_right, items_same, kept_alone, mean_same, kept_same}
 use Rattle.cq_planning_laws.proofs.Blocks.{in_statement}
 use Rattle.cq_planning_laws.proofs.Large.{Fewer, large_same}
