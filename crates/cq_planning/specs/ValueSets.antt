@@ -33,6 +33,7 @@ IsAscending (v ∷ vs) = AllByRecursion (λ w. value_cmp v w ≡ Less) vs × IsA
 abbrev pub known_values : ℕ × List Value → ℕ × List Value
 known_values p = (p.0, ascending (filter is_known p.1))
 
+-- the first, or the second where there is no first
 abbrev pub or_else : {X : Type 0} → Option X → Option X → Option X
 or_else (Some x) o = Some x
 or_else None o = o
@@ -51,6 +52,7 @@ sets_said cs = filter_map values_said cs
 abbrev pub ValueSet : Type 0
 ValueSet = Option (List Value)
 
+-- all values, or ascending ones
 abbrev pub IsAscendingSet : ValueSet → Type 0
 IsAscendingSet None = ⊤
 IsAscendingSet (Some vs) = IsAscending vs

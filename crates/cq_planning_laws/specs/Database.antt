@@ -31,6 +31,7 @@ whole_at c held table (Distributed column colocation first_shard) =
     let g = slice_get c.colocations colocation in joined held table (first_group_in g) (count_in g)
 whole_at c held table (Reference group shard) = held group table
 
+-- the rows of these tables, of which the first has the number `table`
 abbrev pub whole_from : Contents → Held → ℕ → List TableInfo → Tables
 whole_from c held table [] = []
 whole_from c held table (t ∷ ts) = (table, whole_at c held table t.place) ∷ whole_from c held (table + 1) ts

@@ -27,6 +27,7 @@ abbrev mutual
   IsLaidFrom c widths (Inner' p (more_of-FromTree a end_of-FromTree) q (more_of-FromTree b end_of-FromTree) on) = IsLaidFrom c widths a × IsLaidFrom c widths b
   IsLaidFrom c widths (Left' p (more_of-FromTree a end_of-FromTree) q (more_of-FromTree b end_of-FromTree) on) = IsLaidFrom c widths a × IsLaidFrom c widths b
 
+  -- so have those of a query, which shows no more outputs than it has
   pub IsLaid : Contents → (ℕ → ℕ) → Query → Type 0
   IsLaid c widths (Query' cs ctes ss subs from filter_ grouped keys aggs having items shown distinct order limit offset names) =
       IsLaidFrom c widths from × (shown ≤ length items)
@@ -35,5 +36,6 @@ abbrev mutual
 abbrev pub IsLaidStep : Contents → (ℕ → ℕ) → Step → Type 0
 IsLaidStep c widths s = IsLaid c widths s.query × (widths s.number ≡ outputs_of s.query)
 
+-- so have those of a whole statement
 abbrev pub IsLaidStatement : Contents → (ℕ → ℕ) → Query → Type 0
 IsLaidStatement c widths q = IsLaid c widths q × AllByRecursion (IsLaidStep c widths) (steps_of q)

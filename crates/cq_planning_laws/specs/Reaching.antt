@@ -30,6 +30,7 @@ RowsAreOf c touched table Local rows = ⊥
 RowsAreOf c touched table (Distributed at colocation first_shard) rows = AllByRecursion (λ (row : Row). among (group_of c table (column row at)) touched ≡ true) rows
 RowsAreOf c touched table (Reference group shard) rows = AllByRecursion (λ (row : Row). among group touched ≡ true) rows
 
+-- the rows that a write inserts or keeps are of touched groups
 abbrev pub Reaches : Contents → List ℕ → Place → ShardOp → Type 0
 Reaches c touched place (Insert table rows) = RowsAreOf c touched table place rows
 Reaches c touched place (Update table filter_ sets) = RowsReach c touched table place filter_

@@ -21,6 +21,7 @@ abbrev mutual
   GroupsNowhereFrom (Inner' p (more_of-FromTree a end_of-FromTree) q (more_of-FromTree b end_of-FromTree) on) = GroupsNowhereFrom a × GroupsNowhereFrom b
   GroupsNowhereFrom (Left' p (more_of-FromTree a end_of-FromTree) q (more_of-FromTree b end_of-FromTree) on) = GroupsNowhereFrom a × GroupsNowhereFrom b
 
+  -- nor does the query itself
   pub GroupsNowhere : Query → Type 0
   GroupsNowhere (Query' cs ctes ss subs from filter_ grouped keys aggs having items shown distinct order limit offset names) =
       GroupsNowhereFrom from × (grouped ≡ false)
@@ -44,6 +45,7 @@ abbrev mutual
       GivesSimplyFrom c sets a start
       × GivesSimplyFrom c (right_sets sets (sets_in c sets a start) (distribution_in c b (start + columns_in a)) start (start + columns_in a) on) b (start + columns_in a)
 
+  -- so is each such subquery of a query
   pub GivesSimply : Contents → Query → Type 0
   GivesSimply c (Query' cs ctes ss subs from filter_ grouped keys aggs having items shown distinct order limit offset names) =
       GivesSimplyFrom c (value_set [] (conjuncts_of filter_ from)) from 0
