@@ -35,7 +35,8 @@ use Rattle.cq_planning_laws.proofs.GroupLists.{in_order_has, among_left, among_r
 use Rattle.cq_planning_laws.proofs.RowFacts.{IsWide, mean_wide}
 use Rattle.cq_planning_laws.proofs.Narrowing.{Reach, AreTouched, Covers, covers_left, covers_right, items_same, kept_alone, mean_same, kept_same}
 use Rattle.cq_planning_laws.proofs.Blocks.{in_statement}
-use Rattle.cq_planning_laws.proofs.Large.{Fewer, large_same}
+use Rattle.cq_planning_laws.proofs.Large.{large_same}
+use Rattle.cq_planning_laws.proofs.Fewer.{Fewer}
 
 -- ---- a table of the undistributed database
 
