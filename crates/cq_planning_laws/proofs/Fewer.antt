@@ -1,5 +1,5 @@
 -- Where tables have fewer rows, so have inner joins of them, and queries that neither group nor cut.
-use Rattle.std.proofs.Common.{◌≡◌, ◌+◌, ◌≤◌, inl, inr, ℕ, zero, suc, Bool, true, false, ◌&&◌, List, [], ◌∷◌, ◌++◌, length, map, filter, take, refl, ◌∙◌, ap, arith, length-append, Some, None, Option}
+use Rattle.std.proofs.Common.{◌≡◌, ◌+◌, ◌<◌, ◌≤◌, inl, inr, ℕ, zero, suc, Bool, true, false, not, ◌&&◌, List, [], ◌∷◌, ◌++◌, length, map, filter, take, refl, ◌∙◌, ap, subst, arith, length-append, Some, None, Option}
 use Rattle.std.specs.Ordering.{is_lt}
 use Rattle.std.proofs.lemmas.List.{length-map}
 use Rattle.std.proofs.lemmas.List.Elements.{filter-append}
@@ -9,18 +9,18 @@ use Rattle.cq_tree.specs.declared.query.Agg.{Agg}
 use Rattle.cq_tree.specs.declared.query.Key.{Key}
 use Rattle.cq_tree.specs.declared.query.FromTree.{FromTree, Table, Sub', Result, Cross', Inner', Left', end_of-FromTree, more_of-FromTree, end_of-Query, more_of-Query}
 use Rattle.cq_tree.specs.declared.query.Query.{Query, Query'}
-use Rattle.cq_meaning.specs.Values.{Row, Tables, Results, table_rows}
+use Rattle.cq_meaning.specs.Values.{Row, Tables, Results, table_rows, same_row}
 use Rattle.cq_meaning.specs.Expressions.{keeps, items_of}
-use Rattle.cq_meaning.specs.Groups.{distinct_if}
+use Rattle.cq_meaning.specs.Groups.{differs, distinct, distinct_if}
 use Rattle.cq_meaning.specs.Joins.{product}
 use Rattle.cq_meaning.specs.Sorting.{placed, sorted_by, sorted, keys_cmp, cut}
 use Rattle.cq_meaning.specs.Queries.{item_rows, columns_in, joins, from_rows, meaning}
-use Rattle.cq_meaning.proofs.RowLaws.{filter_map}
+use Rattle.cq_meaning.proofs.RowLaws.{filter_map, same_from}
 use Rattle.cq_meaning.proofs.KeyLaws.{keys_weak}
 use Rattle.cq_planning_laws.specs.Simple.{IsSteadyFrom, IsSteady}
 use Rattle.cq_planning_laws.proofs.Lists.{two_ways}
 use Rattle.cq_planning_laws.proofs.Columns.{filter_twice}
-use Rattle.cq_planning_laws.proofs.Tests.{sort_sifted}
+use Rattle.cq_planning_laws.proofs.Tests.{sort_sifted, distinct_sifted}
 
 -- how many rows pass a test
 abbrev count : (Row → Bool) → List Row → ℕ
@@ -102,6 +102,48 @@ fewer_product xs ys us vs f g p =
     let b = fewer_left xs ys vs f p in
     omega (arith, a, b)
 
+-- ---- DISTINCT
+
+parts : (q : Row → Bool) (zs : List Row) → length zs ≡ length (filter q zs) + length (filter (λ z. not (q z)) zs)
+parts q [] = refl
+parts q (z ∷ zs) = elim (two_ways (q z)) [
+  | inl y ↦ (let rest = parts q zs in rw y (omega (arith, rest)))
+  | inr n ↦ (let rest = parts q zs in rw n (omega (arith, rest)))
+]
+
+no_longer : (q : Row → Bool) (zs : List Row) → length (filter q zs) ≤ length zs
+no_longer q zs = let a = parts q zs in omega (arith, a)
+
+some_distinct : (zs : List Row) → 0 < length zs → 0 < length (distinct zs)
+some_distinct [] h = h
+some_distinct (z ∷ zs) h = omega arith
+
+fewer_apart : (n : ℕ) (xs ys : List Row) → length xs ≤ n → Fewer xs ys → length (distinct xs) ≤ length (distinct ys)
+fewer_apart n [] ys l f = omega arith
+fewer_apart zero (x ∷ xs) ys l f = absurd (omega (arith, l))
+fewer_apart (suc n) (x ∷ xs) ys l f =
+    let itself : same_row x x ≡ true = same_from x x refl in
+    let beside : filter (differs x) (x ∷ xs) ≡ filter (differs x) xs = rw itself refl in
+    let mine : length (filter (differs x) (distinct xs)) ≡ length (distinct (filter (differs x) xs)) = ap length (distinct_sifted (differs x) xs) in
+    let others : length (filter (differs x) (distinct ys)) ≡ length (distinct (filter (differs x) ys)) = ap length (distinct_sifted (differs x) ys) in
+    let same : length (filter (same_row x) (distinct ys)) ≡ length (distinct (filter (same_row x) ys)) = ap length (distinct_sifted (same_row x) ys) in
+    let all : length (distinct ys) ≡ length (filter (same_row x) (distinct ys)) + length (filter (differs x) (distinct ys)) = parts (same_row x) (distinct ys) in
+    let here : 0 < length (filter (same_row x) (x ∷ xs)) = rw itself (omega arith) in
+    let there : length (filter (same_row x) (x ∷ xs)) ≤ length (filter (same_row x) ys) = f (same_row x) in
+    let some : 0 < length (distinct (filter (same_row x) ys)) = some_distinct (filter (same_row x) ys) (omega (arith, here, there)) in
+    let short = no_longer (differs x) xs in
+    let fewer : Fewer (filter (differs x) xs) (filter (differs x) ys) = subst (λ zs. Fewer zs (filter (differs x) ys)) beside (fewer_kept (differs x) (x ∷ xs) ys f) in
+    let rest = fewer_apart n (filter (differs x) xs) (filter (differs x) ys) (omega (arith, short, l)) fewer in
+    omega (arith, mine, others, same, all, some, rest)
+
+fewer_distinct : (d : Bool) (xs ys : List Row) → Fewer xs ys → Fewer (distinct_if d xs) (distinct_if d ys)
+fewer_distinct false xs ys f p = f p
+fewer_distinct true xs ys f p =
+    let a : length (filter p (distinct xs)) ≡ length (distinct (filter p xs)) = ap length (distinct_sifted p xs) in
+    let b : length (filter p (distinct ys)) ≡ length (distinct (filter p ys)) = ap length (distinct_sifted p ys) in
+    let d = fewer_apart (length (filter p xs)) (filter p xs) (filter p ys) (omega arith) (fewer_kept p xs ys f) in
+    omega (arith, a, b, d)
+
 -- ---- queries
 
 placed_long : (lt : Row → Row → Bool) (x : Row) (ys : List Row) → length (placed lt x ys) ≡ suc (length ys)
@@ -127,12 +169,13 @@ fewer_items : (filter_ : Cond) (grouped : Bool) (keys : List Expr) (aggs : List 
 fewer_items filter_ true keys aggs having items rs xs ys e f = cc
 fewer_items filter_ false keys aggs having items rs xs ys e f = fewer_map (items_of items rs) (filter (keeps filter_ rs) xs) (filter (keeps filter_ rs) ys) (fewer_kept (keeps filter_ rs) xs ys f)
 
-fewer_cut : (order : List Key) (shown : ℕ) (distinct : Bool) (limit : Option ℕ) (offset : ℕ) (xs ys : List Row) → distinct ≡ false → limit ≡ None → offset ≡ 0 → Fewer xs ys →
+fewer_cut : (order : List Key) (shown : ℕ) (distinct : Bool) (limit : Option ℕ) (offset : ℕ) (xs ys : List Row) → limit ≡ None → offset ≡ 0 → Fewer xs ys →
     Fewer (cut shown limit offset (sorted (keys_cmp order) (distinct_if distinct xs))) (cut shown limit offset (sorted (keys_cmp order) (distinct_if distinct ys)))
-fewer_cut order shown true limit offset xs ys d l o f = cc
-fewer_cut order shown false (Some n) offset xs ys d l o f = cc
-fewer_cut order shown false None (suc n) xs ys d l o f = absurd (omega (arith, o))
-fewer_cut order shown false None zero xs ys d l o f = fewer_map (λ row. take shown row) (sorted (keys_cmp order) xs) (sorted (keys_cmp order) ys) (fewer_sorted order xs ys f)
+fewer_cut order shown distinct (Some n) offset xs ys l o f = cc
+fewer_cut order shown distinct None (suc n) xs ys l o f = absurd (omega (arith, o))
+fewer_cut order shown distinct None zero xs ys l o f =
+    fewer_map (λ row. take shown row) (sorted (keys_cmp order) (distinct_if distinct xs)) (sorted (keys_cmp order) (distinct_if distinct ys))
+    (fewer_sorted order (distinct_if distinct xs) (distinct_if distinct ys) (fewer_distinct distinct xs ys f))
 
 module _ (db dn : Tables) (rs : Results) (few : (t : ℕ) → Fewer (table_rows dn t) (table_rows db t)) where
   mutual
@@ -151,5 +194,5 @@ module _ (db dn : Tables) (rs : Results) (few : (t : ℕ) → Fewer (table_rows 
 
     fewer_mean : (q : Query) → IsSteady q → Fewer (meaning q dn rs) (meaning q db rs)
     fewer_mean (Query' cs ctes ss subs from filter_ grouped keys aggs having items shown distinct order limit offset names) h =
-        fewer_cut order shown distinct limit offset (item_rows filter_ grouped keys aggs having items rs (from_rows from 0 dn rs)) (item_rows filter_ grouped keys aggs having items rs (from_rows from 0 db rs)) h.2 h.3 h.4
+        fewer_cut order shown distinct limit offset (item_rows filter_ grouped keys aggs having items rs (from_rows from 0 dn rs)) (item_rows filter_ grouped keys aggs having items rs (from_rows from 0 db rs)) h.2 h.3
         (fewer_items filter_ grouped keys aggs having items rs (from_rows from 0 dn rs) (from_rows from 0 db rs) h.1 (fewer_from from 0 h.0))

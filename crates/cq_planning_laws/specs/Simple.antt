@@ -21,10 +21,10 @@ abbrev mutual
   IsSteadyFrom (Inner' p (more_of-FromTree a end_of-FromTree) q (more_of-FromTree b end_of-FromTree) on) = IsSteadyFrom a × IsSteadyFrom b
   IsSteadyFrom (Left' p (more_of-FromTree a end_of-FromTree) q (more_of-FromTree b end_of-FromTree) on) = ⊥
 
-  -- a query that neither groups nor leaves out rows that are the same, nor cuts: where its tables have fewer rows, so has it
+  -- a query that neither groups nor cuts: where its tables have fewer rows, so has it
   pub IsSteady : Query → Type 0
   IsSteady (Query' cs ctes ss subs from filter_ grouped keys aggs having items shown distinct order limit offset names) =
-      IsSteadyFrom from × (grouped ≡ false) × (distinct ≡ false) × (limit ≡ None) × (offset ≡ 0)
+      IsSteadyFrom from × (grouped ≡ false) × (limit ≡ None) × (offset ≡ 0)
 
 abbrev mutual
   -- so is each query of a FROM
