@@ -1,0 +1,9 @@
+pub mod Conjuncts
+pub mod Classes
+pub mod ValueSets
+pub mod Relations
+pub mod Components
+pub mod Pushable
+pub mod Narrowing
+pub mod Occurrences
+pub mod Touched
