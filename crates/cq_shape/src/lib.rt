@@ -1,0 +1,14 @@
+//! What the conjuncts of a query say: which columns they make equal, the classes that these make, and the values that they leave to the
+//! columns of a class. Each function gives what the definitions of `cq_planning` give.
+#![tactic(auto)]
+
+mod ascending;
+mod conjuncts;
+mod labels;
+mod said;
+mod value_sets;
+
+pub use conjuncts::{column_of, put_equalities, put_inner_equalities};
+pub use labels::{label_at, labels_of};
+pub use said::{Said, put_inner_said, put_said};
+pub use value_sets::{ValueSet, class_set, copy_set, meet};
