@@ -7,7 +7,7 @@ use Rattle.cq_tree.specs.declared.query.FromTree.{FromTree, Cross, Inner, Left}
 use Rattle.cq_tree.specs.declared.query.FromTree.TheBlock.{hidden-the_row-FromTree-1}
 use Rattle.cq_value.specs.declared.value.Value.{Value}
 use Rattle.cq_tree.proofs.Opened.{and_is, or_is}
-use Rattle.cq_planning.specs.Conjuncts.{conjuncts, inner_conjuncts, equality, equalities, in_list, both_halves}
+use Rattle.cq_planning.specs.Conjuncts.{conjuncts, inner_conjuncts, conjuncts_of, equality, equalities, in_list, both_halves}
 use Rattle.cq_planning.specs.ValueSets.{values_said, sets_said}
 
 pub equalities_and : (a b : Cond) → equalities (conjuncts (And a b)) ≡ equalities (conjuncts a) ++ equalities (conjuncts b)
@@ -43,3 +43,10 @@ module _ (a b : FromTree) where
   pub said_left : (on : Cond) → sets_said (inner_conjuncts (Left a b on)) ≡ sets_said (inner_conjuncts a)
   unfolding hidden-the_row-FromTree-1 hidden
   said_left on = refl
+
+module _ (filter_ : Cond) (from : FromTree) where
+  pub equalities_whole : equalities (conjuncts_of filter_ from) ≡ equalities (conjuncts filter_) ++ equalities (inner_conjuncts from)
+  equalities_whole = filter_map-append equality (conjuncts filter_) (inner_conjuncts from)
+
+  pub said_whole : sets_said (conjuncts_of filter_ from) ≡ sets_said (conjuncts filter_) ++ sets_said (inner_conjuncts from)
+  said_whole = filter_map-append values_said (conjuncts filter_) (inner_conjuncts from)

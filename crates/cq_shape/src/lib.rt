@@ -7,8 +7,10 @@ mod conjuncts;
 mod labels;
 mod said;
 mod value_sets;
+mod whole;
 
-pub use conjuncts::{column_of, put_equalities, put_inner_equalities};
-pub use labels::{label_at, labels_of};
-pub use said::{Said, put_inner_said, put_said};
+pub use conjuncts::{column_of, put_equalities};
+pub use labels::label_at;
+pub use said::{Said, put_said};
 pub use value_sets::{ValueSet, class_set, copy_set, meet};
+pub use whole::{labels_in, put_all_said};
