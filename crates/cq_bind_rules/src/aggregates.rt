@@ -37,7 +37,10 @@ fn place_in(found: &mut Found, agg: Agg) -> Result<u64, BindError>
     ensures { PlacedIn found.old agg result found.new }
 {
     match agg_place(found.aggs.as_slice(), &agg) {
-        Some(i) => Ok(i as u64),
+        Some(i) => {
+            drop(agg);
+            Ok(i as u64)
+        }
         None => {
             let place = found.aggs.len();
             found.aggs.put(agg)?;
@@ -158,6 +161,11 @@ pub fn summed(
 ) -> Result<Bound, BindError>
     ensures { Binds (rule.summed scope.now function a at found.old) result found.new }
 {
-    let width = judged(scope, function, &a, at)?;
-    placed(found, scope, function, a, width)
+    match judged(scope, function, &a, at) {
+        Ok(width) => placed(found, scope, function, a, width),
+        Err(e) => {
+            drop(a);
+            Err(e)
+        }
+    }
 }

@@ -11,6 +11,7 @@ ghost use Rattle.cq_reading.specs.Rules as rule;
 ghost use Rattle.cq_grammar.specs.declared.expr.MultiplyOperator.TheVariants as multiply;
 ghost use Rattle.cq_bind_rules.specs.Trees.{sum_of};
 
+use crate::boxes::boxed_two;
 use crate::operands::{are_numbers, both_numeric, expr, numeric, width};
 use cq_grammar::{AddOperator, MultiplyOperator};
 use cq_reading::{BindError, Bound, Type};
@@ -37,6 +38,7 @@ fn within(e: Expr, width: u64, at: u64) -> Result<Bound, BindError>
     if width <= 127 {
         Ok(Bound::Value(e, Type::Number, width as u32))
     } else {
+        drop(e);
         Err(BindError::TooWide { at })
     }
 }
@@ -44,7 +46,7 @@ fn within(e: Expr, width: u64, at: u64) -> Result<Bound, BindError>
 fn sum(alloc: Global, operator: AddOperator, a: Expr, b: Expr) -> Result<Expr, NoMemory>
     ensures { IfOk result (λ e. e ≡ sum_of operator a b) }
 {
-    let (a, b) = (Boxed::new(alloc, a)?, Boxed::new(alloc, b)?);
+    let (a, b) = boxed_two(alloc, a, b)?;
     match operator {
         AddOperator::Plus => Ok(Expr::Add(a, b)),
         AddOperator::Minus => Ok(Expr::Sub(a, b)),
@@ -54,7 +56,8 @@ fn sum(alloc: Global, operator: AddOperator, a: Expr, b: Expr) -> Result<Expr, N
 fn product(alloc: Global, a: Expr, b: Expr) -> Result<Expr, NoMemory>
     ensures { IfOk result (λ e. e ≡ Mul a b) }
 {
-    Ok(Expr::Mul(Boxed::new(alloc, a)?, Boxed::new(alloc, b)?))
+    let (a, b) = boxed_two(alloc, a, b)?;
+    Ok(Expr::Mul(a, b))
 }
 
 /// `a + b` or `a - b`. At the place of the sign it is refused with 14 where one of them is no number, and with 16 where the width
@@ -96,7 +99,10 @@ fn quotient(alloc: Global, a: Bound, divisor: Option<i64>, at: u64) -> Result<Bo
 {
     let bits = u64::from(width(&a)) + 1;
     match divisor {
-        None | Some(0) => Err(BindError::Divisor { at }),
+        None | Some(0) => {
+            drop(a);
+            Err(BindError::Divisor { at })
+        }
         Some(c) => within(Expr::Div(Boxed::new(alloc, expr(a))?, c), bits, at),
     }
 }
@@ -106,7 +112,10 @@ fn remainder(alloc: Global, a: Bound, divisor: Option<i64>, at: u64) -> Result<B
 {
     let bits = u64::from(width(&a));
     match divisor {
-        None | Some(0) => Err(BindError::Divisor { at }),
+        None | Some(0) => {
+            drop(a);
+            Err(BindError::Divisor { at })
+        }
         Some(c) => within(Expr::Rem(Boxed::new(alloc, expr(a))?, c), bits, at),
     }
 }
@@ -121,6 +130,7 @@ fn quotient_if(
     ensures { Judges (provided fit (error.Type at) (rule.divided_by Div (width_of a + 1) a at divisor)) result }
 {
     if !fit {
+        drop(a);
         return Err(BindError::Type { at });
     }
     quotient(alloc, a, divisor, at)
@@ -136,6 +146,7 @@ fn divided(
     ensures { Judges (rule.multiplied multiply.Divide a b divisor at) result }
 {
     let fit = are_numbers(&a, &b);
+    drop(b);
     quotient_if(alloc, fit, a, divisor, at)
 }
 
@@ -149,6 +160,7 @@ fn remainder_if(
     ensures { Judges (provided fit (error.Type at) (rule.divided_by Rem (width_of a) a at divisor)) result }
 {
     if !fit {
+        drop(a);
         return Err(BindError::Type { at });
     }
     remainder(alloc, a, divisor, at)
@@ -164,6 +176,7 @@ fn left_over(
     ensures { Judges (rule.multiplied multiply.Remainder a b divisor at) result }
 {
     let fit = are_numbers(&a, &b);
+    drop(b);
     remainder_if(alloc, fit, a, divisor, at)
 }
 

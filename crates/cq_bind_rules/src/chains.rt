@@ -10,17 +10,18 @@ ghost use Rattle.cq_reading.specs.Rules as rule;
 ghost use Rattle.cq_reading.specs.Rules.{chain_of, halved, place_after};
 ghost use Rattle.cq_bind_rules.specs.Chains.{JoinedOr, part_of, equality};
 
+use crate::boxes::{boxed_two, copied};
 use crate::conditions::negated_if;
 use crate::operands::{are_alike, both, both_truths, cond, expr};
 use cq_reading::{BindError, Bound};
 use cq_tree::{Cond, Expr, Op};
-use cq_value::{Boxed, Items, NoMemory};
+use cq_value::{Items, NoMemory};
 use std::alloc::Global;
 
 fn joint(alloc: Global, any: bool, a: Cond, b: Cond) -> Result<Cond, NoMemory>
     ensures { IfOk result (λ c. c ≡ rule.joined_by any a b) }
 {
-    let (a, b) = (Boxed::new(alloc, a)?, Boxed::new(alloc, b)?);
+    let (a, b) = boxed_two(alloc, a, b)?;
     if any {
         Ok(Cond::Or(a, b))
     } else {
@@ -112,7 +113,8 @@ fn all_alike(x: &Bound, items: &[Bound]) -> bool
 fn equal_to(alloc: Global, x: &Expr, item: Bound) -> Result<Bound, NoMemory>
     ensures { IfOk result (λ b. b ≡ Truth (equality x.now item)) }
 {
-    Ok(Bound::Truth(Cond::Compare(Op::Eq, x.copy(alloc)?, expr(item))))
+    let (x, item) = copied(alloc, x, item)?;
+    Ok(Bound::Truth(Cond::Compare(Op::Eq, x, expr(item))))
 }
 
 fn equalities(alloc: Global, x: &Expr, items: Items<Bound>) -> Result<Items<(Bound, u64)>, NoMemory>
@@ -163,8 +165,11 @@ pub fn listed(
     ensures { Judges (rule.listed negate x items at) result }
 {
     if !all_alike(&x, items.as_slice()) {
+        drop(x);
         return Err(BindError::Type { at });
     }
     let x = expr(x);
-    listed_in(alloc, negate, &x, items)
+    let bound = listed_in(alloc, negate, &x, items);
+    drop(x);
+    bound
 }

@@ -57,7 +57,10 @@ fn of_type(kind: Option<Type>, e: Expr, width: u32, at: u64) -> Result<Bound, Bi
 {
     match kind {
         Some(kind) => Ok(Bound::Value(e, kind, width)),
-        None => Err(BindError::Type { at }),
+        None => {
+            drop(e);
+            Err(BindError::Type { at })
+        }
     }
 }
 
@@ -132,8 +135,8 @@ fn arms_of(alloc: Global, arms: Items<(Bound, Bound)>) -> Result<Arms, NoMemory>
 fn case(alloc: Global, arms: Items<(Bound, Bound)>, other: Bound) -> Result<Expr, NoMemory>
     ensures { IfOk result (λ e. e ≡ Case (map arm_of arms) (expr_of other)) }
 {
-    let arms = arms_of(alloc, arms)?;
-    Ok(Expr::Case(arms, Boxed::new(alloc, expr(other))?))
+    let other = Boxed::new(alloc, expr(other))?;
+    Ok(Expr::Case(arms_of(alloc, arms)?, other))
 }
 
 /// CASE: its arms, each a condition and a result, and what stands behind ELSE, which is NULL where there is none. It is refused
@@ -147,6 +150,7 @@ pub fn chosen(
     ensures { Judges (rule.chosen arms other at) result }
 {
     if !have_conditions(arms.as_slice()) {
+        drop(other);
         return Err(BindError::Type { at });
     }
     let kind = common_of_case(arms.as_slice(), &other);

@@ -4,6 +4,7 @@ ghost use Rattle.cq_tree.specs.declared.expression.Cond.{And, Compare, Not};
 ghost use Rattle.cq_reading.specs.Outcomes.{Judges};
 ghost use Rattle.cq_reading.specs.Rules as rule;
 
+use crate::boxes::{boxed_two, twice};
 use crate::operands::{are_alike, cond, expr, is_truth, is_value};
 use cq_grammar::Comparison;
 use cq_reading::{BindError, Bound};
@@ -41,6 +42,7 @@ pub fn compared(operator: Comparison, a: Bound, b: Bound, at: u64) -> Result<Bou
     ensures { Judges (rule.compared operator a b at) result }
 {
     if !are_alike(&a, &b) {
+        drop((a, b));
         return Err(BindError::Type { at });
     }
     Ok(Bound::Truth(Cond::Compare(op_of(operator), expr(a), expr(b))))
@@ -51,6 +53,7 @@ pub fn negated(alloc: Global, a: Bound, at: u64) -> Result<Bound, BindError>
     ensures { Judges (rule.negated a at) result }
 {
     if !is_truth(&a) {
+        drop(a);
         return Err(BindError::Type { at });
     }
     Ok(Bound::Truth(denied(alloc, cond(a))?))
@@ -61,6 +64,7 @@ pub fn null_tested(alloc: Global, not_null: bool, a: Bound, at: u64) -> Result<B
     ensures { Judges (rule.null_tested not_null a at) result }
 {
     if !is_value(&a) {
+        drop(a);
         return Err(BindError::Type { at });
     }
     Ok(Bound::Truth(negated_if(alloc, not_null, Cond::IsNull(expr(a)))?))
@@ -70,9 +74,10 @@ pub fn null_tested(alloc: Global, not_null: bool, a: Bound, at: u64) -> Result<B
 fn within(alloc: Global, x: Expr, a: Expr, b: Expr) -> Result<Cond, NoMemory>
     ensures { IfOk result (λ c. c ≡ And (Compare op.Ge x a) (Compare op.Le x b)) }
 {
-    let again = x.copy(alloc)?;
-    let least = Boxed::new(alloc, Cond::Compare(Op::Ge, again, a))?;
-    let most = Boxed::new(alloc, Cond::Compare(Op::Le, x, b))?;
+    let ((x, again), (a, b)) = twice(alloc, x, (a, b))?;
+    let least = Cond::Compare(Op::Ge, again, a);
+    let most = Cond::Compare(Op::Le, x, b);
+    let (least, most) = boxed_two(alloc, least, most)?;
     Ok(Cond::And(least, most))
 }
 
@@ -88,6 +93,7 @@ pub fn between(
     ensures { Judges (rule.between negate x a b at) result }
 {
     if !are_alike(&x, &a) || !are_alike(&x, &b) {
+        drop((x, (a, b)));
         return Err(BindError::Type { at });
     }
     let test = within(alloc, expr(x), expr(a), expr(b))?;

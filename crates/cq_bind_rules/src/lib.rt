@@ -1,9 +1,13 @@
 //! The rules by which the nodes of expressions are bound, each over what its operands stand for: a function for each kind of node.
 //! The walk over syntax trees stands in a crate above.
+//!
+//! A tree that isn't used is let go by `drop`, a call. At the end of a scope a function has all of the tree's destructor, and its
+//! proof goes through each variant of it.
 #![tactic(auto)]
 
 mod aggregates;
 mod arithmetic;
+mod boxes;
 mod chains;
 mod choices;
 mod columns;

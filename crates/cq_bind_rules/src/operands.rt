@@ -33,6 +33,7 @@ pub fn value(b: Bound, at: u64) -> Result<Bound, BindError>
     if is_value(&b) {
         Ok(b)
     } else {
+        drop(b);
         Err(BindError::Type { at })
     }
 }
@@ -43,7 +44,10 @@ pub fn condition(b: Bound, at: u64) -> Result<Cond, BindError>
 {
     match b {
         Bound::Truth(c) => Ok(c),
-        Bound::Value(..) => Err(BindError::Type { at }),
+        Bound::Value(e, ..) => {
+            drop(e);
+            Err(BindError::Type { at })
+        }
     }
 }
 
@@ -53,7 +57,10 @@ pub fn expr(b: Bound) -> Expr
 {
     match b {
         Bound::Value(e, ..) => e,
-        Bound::Truth(_) => Expr::Literal(Value::Null),
+        Bound::Truth(c) => {
+            drop(c);
+            Expr::Literal(Value::Null)
+        }
     }
 }
 
@@ -63,7 +70,10 @@ pub fn cond(b: Bound) -> Cond
 {
     match b {
         Bound::Truth(c) => c,
-        Bound::Value(..) => Cond::Always,
+        Bound::Value(e, ..) => {
+            drop(e);
+            Cond::Always
+        }
     }
 }
 
@@ -133,7 +143,10 @@ pub(crate) fn numeric(b: Bound, at: u64) -> Result<(Expr, u32), BindError>
 {
     match b {
         Bound::Value(e, Type::Number | Type::Null, width) => Ok((e, width)),
-        _ => Err(BindError::Type { at }),
+        other => {
+            drop(other);
+            Err(BindError::Type { at })
+        }
     }
 }
 
@@ -145,7 +158,9 @@ pub(crate) fn both_numeric(
 ) -> Result<((Expr, u32), (Expr, u32)), BindError>
     ensures { BothNumbersOr a b at result }
 {
-    Ok((numeric(a, at)?, numeric(b, at)?))
+    let first = numeric(a, at);
+    let second = numeric(b, at);
+    both(first, second)
 }
 
 /// Both, or the first error.
@@ -167,7 +182,10 @@ fn truth(b: Bound, at: u64) -> Result<Cond, BindError>
 {
     match b {
         Bound::Truth(c) => Ok(c),
-        Bound::Value(..) => Err(BindError::Type { at }),
+        Bound::Value(e, ..) => {
+            drop(e);
+            Err(BindError::Type { at })
+        }
     }
 }
 

@@ -1,6 +1,10 @@
-ghost use Rattle.std.specs.Prelude.{◌≡◌, MatchResult};
+ghost use Rattle.std.specs.Prelude.{Ok, ◌≡◌, IfOk, MatchResult};
+ghost use Rattle.cq_tree.specs.declared.expression.Cond.{InResult};
 ghost use Rattle.cq_reading.specs.declared.error.BindError.TheVariants.{Memory};
+ghost use Rattle.cq_reading.specs.declared.bound.Bound.TheVariants.{Truth};
 ghost use Rattle.cq_reading.specs.Outcomes.{Binds};
+ghost use Rattle.cq_reading.specs.Widths.{expr_of};
+ghost use Rattle.cq_reading.specs.Rules as rule;
 ghost use Rattle.cq_reading.specs.Expressions as expression;
 ghost use Rattle.cq_bind_rules.specs.Placing.{AmongOr};
 
@@ -9,7 +13,8 @@ use crate::literals::null;
 use crate::operands::{are_alike, expr};
 use cq_reading::{BindError, Block, Bound, Found, Output, Scope};
 use cq_tree::{Cond, Expr, Query};
-use cq_value::Value;
+use cq_value::{NoMemory, Value};
+use std::alloc::Global;
 
 /// The number of the next result. The only error is want of memory, where there are 4294967295.
 pub fn numbered(found: &mut Found) -> Result<u32, BindError>
@@ -40,12 +45,43 @@ fn is_one(outputs: &[Output]) -> bool
     matches!(outputs, [_])
 }
 
-/// Puts the query of a subquery with those of its SELECT.
-fn put_sub(found: &mut Found, query: Query) -> Result<(), BindError>
-    ensures { MatchResult result (λ _. found.new ≡ expression.with_sub query found.old) (λ e. e ≡ Memory) }
+/// The condition that `x` is among the subquery's rows, and what is kept meanwhile.
+fn tested<A: Drop>(
+    alloc: Global,
+    negate: bool,
+    x: Bound,
+    k: u32,
+    kept: A,
+) -> Result<(Cond, A), NoMemory>
+    ensures { IfOk result (λ p. (p.0 ≡ rule.negated_if negate (InResult (expr_of x) k)) × (p.1 ≡ kept)) }
+{
+    let test = negated_if(alloc, negate, Cond::InResult(expr(x), k))?;
+    Ok((test, kept))
+}
+
+/// Puts the query of a subquery with those of its SELECT, and gives what is kept meanwhile.
+fn put_sub<A: Drop>(found: &mut Found, query: Query, kept: A) -> Result<A, BindError>
+    ensures { MatchResult result (λ k. (k ≡ kept) × (found.new ≡ expression.with_sub query found.old)) (λ e. e ≡ Memory) }
 {
     found.subs.put(query)?;
-    Ok(())
+    Ok(kept)
+}
+
+/// `x` among the rows of a subquery that may stand here.
+fn put_among(
+    found: &mut Found,
+    alloc: Global,
+    x: Bound,
+    negate: bool,
+    k: u32,
+    block: Block,
+) -> Result<Bound, BindError>
+    ensures { Binds (Ok (Truth (rule.negated_if negate (InResult (expr_of x) k)), expression.with_sub block.query found.old)) result found.new }
+{
+    let (test, block) = tested(alloc, negate, x, k, block)?;
+    let Block { query, .. } = block;
+    let test = put_sub(found, query, test)?;
+    Ok(Bound::Truth(test))
 }
 
 /// Whether the subquery may stand here.
@@ -58,7 +94,10 @@ fn judged(scope: &Scope<'_>, x: &Bound, at: u64, block: &Block) -> Result<(), Bi
     if !is_one(block.outputs.as_slice()) {
         return Err(BindError::WrongCount { at });
     }
-    if !are_alike(x, &output_bound(block.outputs.as_slice())) {
+    let output = output_bound(block.outputs.as_slice());
+    let fits = are_alike(x, &output);
+    drop(output);
+    if !fits {
         return Err(BindError::Type { at });
     }
     Ok(())
@@ -77,10 +116,14 @@ pub fn among(
 ) -> Result<Bound, BindError>
     ensures { Binds (expression.among scope.now x negate at k block found.old) result found.new }
 {
-    judged(scope, &x, at, &block)?;
-    let world = scope.world;
-    let test = negated_if(world.alloc, negate, Cond::InResult(expr(x), k))?;
-    let Block { query, .. } = block;
-    put_sub(found, query)?;
-    Ok(Bound::Truth(test))
+    match judged(scope, &x, at, &block) {
+        Ok(()) => {
+            let world = scope.world;
+            put_among(found, world.alloc, x, negate, k, block)
+        }
+        Err(e) => {
+            drop((x, block));
+            Err(e)
+        }
+    }
 }

@@ -1,5 +1,5 @@
 use Rattle.cq_bind_rules.proofs.Placed.{placed}
 use Rattle.cq_bind_rules.proofs.aggregates.summed.Goals as goal
 
-pub returns : goal.returns
-returns c = placed c.args.scope.now c.args.function c.args.a c.args.at _ _ _ _ c.in_ok-width.ensures c.placed.ensures
+pub returns-in-Ok : goal.returns-in-Ok
+returns-in-Ok c = placed c.args.scope.now c.args.function c.args.a c.args.at _ _ _ _ c.in-Ok.ensures c.placed.ensures
