@@ -2,6 +2,7 @@
 use Rattle.std.specs.Prelude.{ℕ, min, max, List, fold, if◌then◌else◌, nat_eq}
 use Rattle.cq_meaning.specs.Lists.{Has}
 
+-- at first each column is a class alone
 abbrev pub itself : ℕ → ℕ
 itself x = x
 

@@ -4,9 +4,11 @@ use Rattle.std.specs.List.{list_any}
 use Rattle.cq_planning.specs.Relations.{Distribution, Relation, distribution_of, distributions, is_distributed, is_right, is_plain, is_left_in_block, partners}
 
 module _ (first : ℕ → ℕ) where
+  -- whether two columns are of one class
   abbrev pub is_one_class : ℕ → ℕ → Bool
   is_one_class x y = nat_eq (first x) (first y)
 
+  -- whether there is a column, and it is of the class of `at`
   abbrev pub is_of_class : ℕ → Option ℕ → Bool
   is_of_class at (Some x) = is_one_class x at
   is_of_class at None = false

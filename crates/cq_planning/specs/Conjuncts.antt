@@ -31,14 +31,17 @@ conjuncts_of filter_ from = conjuncts filter_ ++ inner_conjuncts from
 
 -- ---- bare columns and literals
 
+-- the number of a bare column
 abbrev pub column_of : Expr → Option ℕ
 column_of (Column at) = Some at
 column_of _ = None
 
+-- the value of a literal
 abbrev pub literal_of : Expr → Option Value
 literal_of (Literal v) = Some v
 literal_of _ = None
 
+-- two things, where there are both
 abbrev pub both_of : {X Y : Type 0} → Option X → Option Y → Option (X × Y)
 both_of (Some x) (Some y) = Some (x, y)
 both_of _ _ = None
@@ -56,6 +59,7 @@ equalities cs = filter_map equality cs
 
 -- ---- column = literal, and column IN (literals)
 
+-- a column with a list of one value
 abbrev pub one_value : Option (ℕ × Value) → Option (ℕ × List Value)
 one_value (Some p) = Some (p.0, p.1 ∷ [])
 one_value None = None

@@ -19,10 +19,12 @@ distribution_in c (Table t n) start = distribution_at start (place_at c t)
 distribution_in c (Sub' p (more_of-Query q end_of-Query)) start = distribution_by start (pushable c q)
 distribution_in c _ start = None
 
+-- whether that is the column y
 abbrev pub is_at : Option Distribution → ℕ → Bool
 is_at (Some d) y = nat_eq d.column y
 is_at None y = false
 
+-- a set, met with that of a column of the left side where there is one
 abbrev pub met_with : (ℕ → ValueSet) → Option ℕ → ValueSet → ValueSet
 met_with left (Some x) s = meet s (left x)
 met_with left None s = s

@@ -24,6 +24,7 @@ abbrev pub key_values : (ℕ → ValueSet) → ℕ → Place → ValueSet
 key_values sets start (Distributed at colocation first_shard) = sets (start + at)
 key_values sets start _ = None
 
+-- the occurrence of a table whose first column has the number `start`
 abbrev pub occurrence_of : Contents → (ℕ → ValueSet) → ℕ → ℕ → Occurrence
 occurrence_of c sets start table = record { table = table; values = key_values sets start (place_at c table) }
 
@@ -53,6 +54,7 @@ abbrev mutual
   pub ins_of : Query → List Query
   ins_of (Query' cs ctes ss subs from filter_ grouped keys aggs having items shown distinct order limit offset names) = ins_of_from from ++ ins_of_all subs
 
+  -- those in the subqueries of a FROM
   pub ins_of_from : FromTree → List Query
   ins_of_from (Table t n) = []
   ins_of_from (Sub' p (more_of-Query q end_of-Query)) = ins_of q
@@ -61,6 +63,7 @@ abbrev mutual
   ins_of_from (Inner' p (more_of-FromTree a end_of-FromTree) q (more_of-FromTree b end_of-FromTree) on) = ins_of_from a ++ ins_of_from b
   ins_of_from (Left' p (more_of-FromTree a end_of-FromTree) q (more_of-FromTree b end_of-FromTree) on) = ins_of_from a ++ ins_of_from b
 
+  -- these queries, each with those in it
   pub ins_of_all : {n : _} → Row_of-Query n → List Query
   ins_of_all end_of-Query = []
   ins_of_all (more_of-Query q more) = (q ∷ ins_of q) ++ ins_of_all more
@@ -69,6 +72,7 @@ abbrev mutual
 abbrev pub with_ins : Query → List Query
 with_ins q = q ∷ ins_of q
 
+-- each of these queries, and the IN subqueries in it
 abbrev pub all_with_ins : {n : _} → Row_of-Query n → List Query
 all_with_ins end_of-Query = []
 all_with_ins (more_of-Query q more) = with_ins q ++ all_with_ins more

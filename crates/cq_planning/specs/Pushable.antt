@@ -29,6 +29,7 @@ column_behind false keys x = x
 column_behind true keys (Some k) = if nat_lt k (length keys) then column_of (slice_index_or keys k (Column 0)) else None
 column_behind true keys None = None
 
+-- a number, or 0 where there is none
 abbrev pub number_or_0 : Option ℕ → ℕ
 number_or_0 (Some n) = n
 number_or_0 None = 0

@@ -26,6 +26,7 @@ abbrev pub distribution_at : ℕ → Place → Option Distribution
 distribution_at start (Distributed at colocation first_shard) = Some (record { column = start + at; colocation = colocation })
 distribution_at start _ = None
 
+-- column 0 where there is none
 abbrev pub or_column_0 : Option Distribution → Distribution
 or_column_0 (Some d) = d
 or_column_0 None = record { column = 0; colocation = 0 }
@@ -34,6 +35,7 @@ or_column_0 None = record { column = 0; colocation = 0 }
 abbrev pub distribution_of : Relation → Distribution
 distribution_of r = or_column_0 r.distribution
 
+-- a distributed table, or a pushable subquery
 abbrev pub is_distributed : Relation → Bool
 is_distributed r = is_some r.distribution
 

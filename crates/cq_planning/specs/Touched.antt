@@ -23,6 +23,7 @@ abbrev pub numbers : ℕ → ℕ → List ℕ
 numbers n zero = []
 numbers n (suc more) = n ∷ numbers (n + 1) more
 
+-- whether a group is one of these
 abbrev pub among : ℕ → List ℕ → Bool
 among g groups = list_any (nat_eq g) groups
 
@@ -53,6 +54,7 @@ groups_of c o = groups_at c o.table (place_at c o.table) o.values
 abbrev pub touched_by_each : Contents → Query → List (List ℕ)
 touched_by_each c q = map (λ o. in_order c (groups_of c o)) (occurrences_of c q)
 
+-- all of these together
 abbrev pub touched_by_query : Contents → Query → List ℕ
 touched_by_query c q = flat_map (groups_of c) (occurrences_of c q)
 
@@ -66,11 +68,13 @@ row_groups c table (Reference group shard) rows = map (λ (row : Row). group) ro
 abbrev pub touched_by_where : Contents → ℕ → Cond → List ℕ
 touched_by_where c table filter_ = groups_of c (occurrence_of c (value_set [] (conjuncts filter_)) 0 table)
 
+-- an INSERT touches the groups of its rows
 abbrev pub touched_by_write : Contents → ShardOp → List ℕ
 touched_by_write c (Insert table rows) = row_groups c table (place_at c table) rows
 touched_by_write c (Update table filter_ sets) = touched_by_where c table filter_
 touched_by_write c (Remove table filter_) = touched_by_where c table filter_
 
+-- of the other statements none touches a group
 abbrev pub touched_by : Contents → Statement → List ℕ
 touched_by c (statement.Select q) = touched_by_query c q
 touched_by c (statement.Write op) = touched_by_write c op

@@ -1,6 +1,7 @@
 -- The value set of a class of columns: the values that its columns can have in a row that is kept.
-use Rattle.std.specs.Prelude.{ℕ, List, [], ◌∷◌, ◌++◌, filter, filter_map, fold, Bool, true, false, if◌then◌else◌, nat_eq, Option, None, Some, option_map}
-use Rattle.std.specs.List.{list_any}
+use Rattle.std.specs.Prelude.{◌≡◌, ⊤, ℕ, List, [], ◌∷◌, ◌++◌, filter, filter_map, fold, Bool, true, false, if◌then◌else◌, nat_eq, Option, None, Some, option_map}
+use Rattle.std.specs.List.{list_any, AllByRecursion}
+use Rattle.std.specs.declared.cmp.Ordering.TheVariants.{Less}
 use Rattle.std.specs.Ordering.{is_lt}
 use Rattle.cq_value.specs.declared.value.Value.{Value}
 use Rattle.cq_value.specs.declared.value.Value.TheVariants.{Null, Int, Text}
@@ -23,10 +24,16 @@ abbrev pub ascending : List Value → List Value
 ascending [] = []
 ascending (v ∷ vs) = put_value v (ascending vs)
 
+-- ascending values, each once
+abbrev pub IsAscending : List Value → Type 0
+IsAscending [] = ⊤
+IsAscending (v ∷ vs) = AllByRecursion (λ w. value_cmp v w ≡ Less) vs × IsAscending vs
+
 -- NULL is left out
 abbrev pub known_values : ℕ × List Value → ℕ × List Value
 known_values p = (p.0, ascending (filter is_known p.1))
 
+-- the first, or the second where there is no first
 abbrev pub or_else : {X : Type 0} → Option X → Option X → Option X
 or_else (Some x) o = Some x
 or_else None o = o
@@ -44,6 +51,11 @@ sets_said cs = filter_map values_said cs
 -- ascending values, or None for all values
 abbrev pub ValueSet : Type 0
 ValueSet = Option (List Value)
+
+-- all values, or ascending ones
+abbrev pub IsAscendingSet : ValueSet → Type 0
+IsAscendingSet None = ⊤
+IsAscendingSet (Some vs) = IsAscending vs
 
 -- what two sets have in common
 abbrev pub meet : ValueSet → ValueSet → ValueSet
