@@ -5,3 +5,4 @@ pub mod FromNodes
 pub mod WalkLaws
 pub mod BlockLaws
 pub mod ClassLaws
+pub mod OrderLaws

@@ -6,11 +6,13 @@ mod blocks;
 mod class_lists;
 mod groups;
 mod sets;
+mod statements;
 mod walk;
 mod writes;
 
 pub use blocks::{Touched, prune, touches};
 pub use class_lists::{Classes, classes};
 pub use groups::in_order;
+pub use statements::touched;
 pub use walk::Touch;
 pub use writes::{changes_distribution, groups_of_rows, groups_of_where, row_without_value};
