@@ -1,5 +1,5 @@
 -- A group of more rows than the limit over the touched groups alone is one over the whole.
-use Rattle.std.proofs.Common.{◌≡◌, ◌+◌, ◌<◌, ◌≤◌, inl, inr, ℕ, Bool, true, false, ◌&&◌, ◌||◌, List, [], ◌∷◌, length, map, filter, refl, sym, ◌∙◌, ap, subst, arith}
+use Rattle.std.proofs.Common.{◌≡◌, ◌+◌, ◌<◌, ◌≤◌, inl, inr, ℕ, Bool, true, false, ◌||◌, ◌⊎◌, List, [], ◌∷◌, length, map, filter, refl, sym, ◌∙◌, ap, subst, arith}
 use Rattle.std.specs.Prelude.{nat_lt, ◌^◌}
 use Rattle.std.specs.List.{AllByRecursion, list_any}
 use Rattle.cq_tree.specs.declared.expression.Cond.{Cond}
@@ -23,25 +23,14 @@ use Rattle.cq_planning.specs.Occurrences.{occurrences_from, occurrences_in}
 use Rattle.cq_planning.specs.ValueSets.{ValueSet, value_set}
 use Rattle.cq_planning_laws.specs.Database.{shape_in}
 use Rattle.cq_planning_laws.specs.Laid.{IsLaidFrom, IsLaid, IsColumnOf}
-use Rattle.cq_planning_laws.specs.Simple.{GroupsNowhereFrom, GroupsNowhere, IsSimple, GivesSimplyFrom, GivesSimply}
+use Rattle.cq_planning_laws.specs.Simple.{IsSteadyFrom, IsSimpleFrom, IsSimple, GivesSimplyFrom, GivesSimply}
 use Rattle.cq_planning_laws.proofs.Lists.{two_ways}
 use Rattle.cq_planning_laws.proofs.SameRows.{PushesThrough}
-use Rattle.cq_planning_laws.proofs.Columns.{filter_twice}
+use Rattle.cq_planning_laws.proofs.Fewer.{Fewer, fewer_kept, fewer_from}
 use Rattle.cq_planning_laws.proofs.RowFacts.{IsWide}
 use Rattle.cq_planning_laws.proofs.Narrowing.{Reach, Covers, covers_left, covers_right, kept_alone, kept_same}
 
--- ---- fewer rows
-
--- of each kind no more
-abbrev pub Fewer : List Row → List Row → Type 0
-Fewer xs ys = (p : Row → Bool) → length (filter p xs) ≤ length (filter p ys)
-
-fewer_kept : (keep : Row → Bool) (xs ys : List Row) → Fewer xs ys → Fewer (filter keep xs) (filter keep ys)
-fewer_kept keep xs ys f p =
-    let a : length (filter p (filter keep xs)) ≡ length (filter (λ x. keep x && p x) xs) = ap length (filter_twice p keep xs) in
-    let b : length (filter p (filter keep ys)) ≡ length (filter (λ x. keep x && p x) ys) = ap length (filter_twice p keep ys) in
-    let d = f (λ x. keep x && p x) in
-    omega (arith, a, b, d)
+-- ---- large groups
 
 more_lt : (m a b : ℕ) → nat_lt m a ≡ true → a ≤ b → nat_lt m b ≡ true
 more_lt m a b h l = grind arith
@@ -104,38 +93,39 @@ table_large : (f : Cond) (grouped : Bool) (keys : List Expr) (rs : Results) (xs 
 table_large f false keys rs xs ys l h = cc
 table_large f true keys rs xs ys l h = keyed_large keys rs (2 ^ 31) (filter (keeps f rs) xs) (filter (keeps f rs) ys) (fewer_kept (keeps f rs) xs ys l) h
 
--- ---- without groups none is large
+-- ---- where tables have fewer rows
 
 either_true : (a b d e : Bool) → (a ≡ true → d ≡ true) → (b ≡ true → e ≡ true) → (a || b) ≡ true → (d || e) ≡ true
 either_true true b d e f g h = rw (f refl) refl
 either_true false b true e f g h = refl
 either_true false b false e f g h = g h
 
-neither : (a b : Bool) → a ≡ false → b ≡ false → (a || b) ≡ false
-neither a b e f = rw e f
+large_rows_in : (f : Cond) (grouped : Bool) (keys : List Expr) (rs : Results) (xs ys : List Row) → (grouped ≡ false) ⊎ Fewer xs ys → has_large_group f grouped keys rs xs ≡ true → has_large_group f grouped keys rs ys ≡ true
+large_rows_in f false keys rs xs ys s h = cc
+large_rows_in f true keys rs xs ys (inl e) h = cc
+large_rows_in f true keys rs xs ys (inr l) h = table_large f true keys rs xs ys l h
 
-module _ (db : Tables) (rs : Results) where
-  ungrouped : (f : Cond) (grouped : Bool) (keys : List Expr) (xs : List Row) → grouped ≡ false → has_large_group f grouped keys rs xs ≡ false
-  ungrouped f true keys xs e = cc
-  ungrouped f false keys xs e = refl
+module _ (db dn : Tables) (rs : Results) (few : (t : ℕ) → Fewer (table_rows dn t) (table_rows db t)) where
+  steady_rows : (grouped : Bool) (from : FromTree) → (grouped ≡ false) ⊎ IsSteadyFrom from → (grouped ≡ false) ⊎ Fewer (from_rows from 0 dn rs) (from_rows from 0 db rs)
+  steady_rows grouped from (inl e) = inl e
+  steady_rows grouped from (inr s) = inr (fewer_from db dn rs few from 0 s)
 
   mutual
-    never_from : (f : FromTree) → GroupsNowhereFrom f → is_large_from f db rs ≡ false
-    never_from (Table t n) h = refl
-    never_from (Sub' p (more_of-Query q end_of-Query)) h = never q h
-    never_from (Result i n) h = refl
-    never_from (Cross' p (more_of-FromTree a end_of-FromTree) q (more_of-FromTree b end_of-FromTree)) h = neither (is_large_from a db rs) (is_large_from b db rs) (never_from a h.0) (never_from b h.1)
-    never_from (Inner' p (more_of-FromTree a end_of-FromTree) q (more_of-FromTree b end_of-FromTree) on) h = neither (is_large_from a db rs) (is_large_from b db rs) (never_from a h.0) (never_from b h.1)
-    never_from (Left' p (more_of-FromTree a end_of-FromTree) q (more_of-FromTree b end_of-FromTree) on) h = neither (is_large_from a db rs) (is_large_from b db rs) (never_from a h.0) (never_from b h.1)
+    simple_from : (f : FromTree) → IsSimpleFrom f → is_large_from f dn rs ≡ true → is_large_from f db rs ≡ true
+    simple_from (Table t n) s h = cc
+    simple_from (Sub' p (more_of-Query q end_of-Query)) s h = simple_large q s h
+    simple_from (Result i n) s h = cc
+    simple_from (Cross' p (more_of-FromTree a end_of-FromTree) q (more_of-FromTree b end_of-FromTree)) s h =
+        either_true (is_large_from a dn rs) (is_large_from b dn rs) (is_large_from a db rs) (is_large_from b db rs) (simple_from a s.0) (simple_from b s.1) h
+    simple_from (Inner' p (more_of-FromTree a end_of-FromTree) q (more_of-FromTree b end_of-FromTree) on) s h =
+        either_true (is_large_from a dn rs) (is_large_from b dn rs) (is_large_from a db rs) (is_large_from b db rs) (simple_from a s.0) (simple_from b s.1) h
+    simple_from (Left' p (more_of-FromTree a end_of-FromTree) q (more_of-FromTree b end_of-FromTree) on) s h =
+        either_true (is_large_from a dn rs) (is_large_from b dn rs) (is_large_from a db rs) (is_large_from b db rs) (simple_from a s.0) (simple_from b s.1) h
 
-    never : (q : Query) → GroupsNowhere q → is_large q db rs ≡ false
-    never (Query' cs ctes ss subs from filter_ grouped keys aggs having items shown distinct order limit offset names) h =
-        neither (is_large_from from db rs) (has_large_group filter_ grouped keys rs (from_rows from 0 db rs)) (never_from from h.0) (ungrouped filter_ grouped keys (from_rows from 0 db rs) h.1)
-
-simple_large : (q : Query) (db dn : Tables) (rs : Results) → ((t : ℕ) → Fewer (table_rows dn t) (table_rows db t)) → IsSimple q → is_large q dn rs ≡ true → is_large q db rs ≡ true
-simple_large (Query' cs ctes ss subs (Table t n) filter_ grouped keys aggs having items shown distinct order limit offset names) db dn rs few s h =
-    table_large filter_ grouped keys rs (table_rows dn t) (table_rows db t) (few t) h
-simple_large q db dn rs few s h = let bad : true ≡ false = sym h ∙ never dn rs q s in cc
+    simple_large : (q : Query) → IsSimple q → is_large q dn rs ≡ true → is_large q db rs ≡ true
+    simple_large (Query' cs ctes ss subs from filter_ grouped keys aggs having items shown distinct order limit offset names) s h =
+        either_true (is_large_from from dn rs) (has_large_group filter_ grouped keys rs (from_rows from 0 dn rs)) (is_large_from from db rs) (has_large_group filter_ grouped keys rs (from_rows from 0 db rs))
+        (simple_from from s.0) (large_rows_in filter_ grouped keys rs (from_rows from 0 dn rs) (from_rows from 0 db rs) (steady_rows grouped from s.1)) h
 
 module _ (c : Contents) (w : IsWhole c) (touched : List ℕ) (widths : ℕ → ℕ) (through : PushesThrough c) (db dn : Tables) (rs : Results)
     (tables_db : (t n : ℕ) → IsColumnOf n (place_at c t) → AllByRecursion (IsWide (length (shape_in c t).kinds)) (table_rows db t))
@@ -152,7 +142,7 @@ module _ (c : Contents) (w : IsWhole c) (touched : List ℕ) (widths : ℕ → �
     large_from_same (Table t n) sets start h cov u l = cc
     large_from_same (Sub' p (more_of-Query q end_of-Query)) sets start h cov u l = elim u [
       | inl v ↦ large_same q h (subst (λ o. Covers c touched (occurrences_in c q o)) v.0 cov) v.1 l
-      | inr v ↦ simple_large q db dn rs few v l
+      | inr v ↦ simple_large db dn rs few q v l
     ]
     large_from_same (Result i n) sets start h cov u l = cc
     large_from_same (Cross' p (more_of-FromTree a end_of-FromTree) q (more_of-FromTree b end_of-FromTree)) sets start h cov u l =

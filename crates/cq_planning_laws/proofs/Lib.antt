@@ -15,6 +15,7 @@ pub mod Tests
 pub mod Pushing
 pub mod Narrowing
 pub mod Blocks
+pub mod Fewer
 pub mod Large
 pub mod Statements
 pub mod Examples

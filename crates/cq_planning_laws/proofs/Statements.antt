@@ -25,7 +25,7 @@ use Rattle.cq_planning.specs.Occurrences.{Occurrence, occurrences_in, occurrence
 use Rattle.cq_planning.specs.Touched.{among, groups_of, touched_by_query, touched}
 use Rattle.cq_planning_laws.specs.Database.{shape_in, Held, joined, whole_at, whole_from, whole, IsOfGroup, IsRowOf, CanHold, narrowed}
 use Rattle.cq_planning_laws.specs.Laid.{IsLaid, IsColumnOf, IsLaidStep, IsLaidStatement}
-use Rattle.cq_planning_laws.specs.Laws.{QueriesNarrow, LargeNarrows}
+use Rattle.cq_planning_laws.specs.Laws.{QueriesNarrow, LargeNarrows, UntouchedAreFree}
 use Rattle.cq_planning_laws.specs.Simple.{GivesSimply}
 use Rattle.cq_planning_laws.proofs.Lists.{two_ways, all_weaker, all_append, filter_none}
 use Rattle.std.proofs.lemmas.Bool.Decides.{eqb_tells}
@@ -35,7 +35,8 @@ use Rattle.cq_planning_laws.proofs.GroupLists.{in_order_has, among_left, among_r
 use Rattle.cq_planning_laws.proofs.RowFacts.{IsWide, mean_wide}
 use Rattle.cq_planning_laws.proofs.Narrowing.{Reach, AreTouched, Covers, covers_left, covers_right, items_same, kept_alone, mean_same, kept_same}
 use Rattle.cq_planning_laws.proofs.Blocks.{in_statement}
-use Rattle.cq_planning_laws.proofs.Large.{Fewer, large_same}
+use Rattle.cq_planning_laws.proofs.Large.{large_same}
+use Rattle.cq_planning_laws.proofs.Fewer.{Fewer}
 
 -- ---- a table of the undistributed database
 
@@ -190,6 +191,10 @@ answers_same (Query' cs ctes ss subs from filter_ grouped keys aggs having items
   h.3,
 )
 
+-- the same the other way round
+kept_turned : (q : Query) (db dn : Tables) (rs : Results) → SameKept q [] db dn rs → SameKept q [] dn db rs
+kept_turned (Query' cs ctes ss subs from filter_ grouped keys aggs having items shown distinct order limit offset names) db dn rs h = sym h
+
 module _ (c : Contents) (w : IsWhole c) (touched : List ℕ) (widths : ℕ → ℕ) (through : PushesThrough c) (held : Held) (can : (g : ℕ) → CanHold c g (held g)) where
   abbrev db : Tables
   db = whole c held
@@ -234,6 +239,12 @@ module _ (c : Contents) (w : IsWhole c) (touched : List ℕ) (widths : ℕ → �
       subst (λ (rs : Results). AnswersWith q db rs rows) (sym r.0)
       (answers_same q db dn (results_of q dn) rows (query_kept (results_of q dn) r.1 q laid.0 (in_statement IsCovered q cov).0) h)
 
+  answers_widen : (q : Query) → IsLaidStatement c widths q → AllByRecursion IsCovered (blocks_of q) → (rows : List Row) → AnswersWith q db (results_of q db) rows → AnswersWith q dn (results_of q dn) rows
+  answers_widen q laid cov rows h =
+      let r = results_same q laid cov in
+      answers_same q dn db (results_of q dn) rows (kept_turned q db dn (results_of q dn) (query_kept (results_of q dn) r.1 q laid.0 (in_statement IsCovered q cov).0))
+      (subst (λ (rs : Results). AnswersWith q db rs rows) r.0 h)
+
   large_narrows : (q : Query) → IsLaidStatement c widths q → GivesSimply c q → AllByRecursion IsCovered (blocks_of q) → is_large q dn (results_of q dn) ≡ true → is_large q db (results_of q db) ≡ true
   large_narrows q laid u cov h =
       let r = results_same q laid cov in
@@ -266,3 +277,16 @@ queries_narrow c widths q w laid rows held can h = answers_narrow c w (touched c
 
 pub large_narrow : LargeNarrows
 large_narrow c widths q w laid u held can h = large_narrows c w (touched c (statement.Select q)) widths (pushes_through c) held can q laid u (all_covered c q) h
+
+narrowed_alike : (touched : List ℕ) (held other : Held) → ((g table : ℕ) → among g touched ≡ true → held g table ≡ other g table) → narrowed touched held ≡ narrowed touched other
+narrowed_alike touched held other same = λ i g table. each g table i
+  where
+    each : (g table : ℕ) → narrowed touched held g table ≡ narrowed touched other g table
+    each g table = elim (two_ways (among g touched)) [ inl y ↦ rw y (same g table y) | inr n ↦ rw n refl ]
+
+pub untouched_free : UntouchedAreFree
+untouched_free c widths q w laid held other can can2 same rows h =
+    let gs : List ℕ = touched c (statement.Select q) in
+    let alone : AnswersWith q (whole c (narrowed gs held)) (results_of q (whole c (narrowed gs held))) rows = answers_widen c w gs widths (pushes_through c) held can q laid (all_covered c q) rows h in
+    answers_narrow c w gs widths (pushes_through c) other can2 q laid (all_covered c q) rows
+    (subst (λ (some : Held). AnswersWith q (whole c some) (results_of q (whole c some)) rows) (narrowed_alike gs held other same) alone)

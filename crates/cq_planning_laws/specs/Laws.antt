@@ -25,8 +25,8 @@ use Rattle.cq_planning.specs.Conjuncts.{in_list}
 use Rattle.cq_planning.specs.Classes.{Connected, first_of_class}
 use Rattle.cq_planning.specs.ValueSets.{ascending, IsAscending, IsAscendingSet}
 use Rattle.cq_planning.specs.Occurrences.{Occurrence, occurrences_of}
-use Rattle.cq_planning.specs.Touched.{touched}
-use Rattle.cq_planning_laws.specs.Database.{Narrows, shape_in}
+use Rattle.cq_planning.specs.Touched.{among, touched}
+use Rattle.cq_planning_laws.specs.Database.{Held, whole, CanHold, Narrows, shape_in}
 use Rattle.cq_planning_laws.specs.Reaching.{IsTouchedBy}
 use Rattle.cq_planning_laws.specs.Laid.{IsColumnOf, IsLaidStatement}
 use Rattle.cq_planning_laws.specs.Simple.{GivesSimply}
@@ -61,10 +61,17 @@ abbrev pub BoundIsLaid : Type 0
 BoundIsLaid = (cs : Columns) (c : Contents) (q : Query) → ((t : ℕ) → length (table_bits cs.tables t) ≡ length (shape_in c t).kinds) → ((t : ℕ) → IsColumnOf (length (shape_in c t).kinds) (place_at c t)) →
     IsBoundStatement cs q → IsLaidStatement c (λ i. length (slice_index_or cs.results i [])) q
 
--- the groups that a query doesn't touch don't matter: its answers are the same, whatever legal contents they have
+-- an answer over what the touched groups hold alone is one over the whole, whatever legal contents the other groups have
 abbrev pub QueriesNarrow : Type 0
 QueriesNarrow = (c : Contents) (widths : ℕ → ℕ) (q : Query) → IsWhole c → IsLaidStatement c widths q →
     (rows : List Row) → Narrows c (touched c (statement.Select q)) (λ db. Answers q db rows)
+
+-- the groups that a query doesn't touch don't matter: over legal contents that are the same in the touched groups its answers are the same
+abbrev pub UntouchedAreFree : Type 0
+UntouchedAreFree = (c : Contents) (widths : ℕ → ℕ) (q : Query) → IsWhole c → IsLaidStatement c widths q →
+    (held other : Held) → ((g : ℕ) → CanHold c g (held g)) → ((g : ℕ) → CanHold c g (other g)) →
+    ((g table : ℕ) → among g (touched c (statement.Select q)) ≡ true → held g table ≡ other g table) →
+    (rows : List Row) → Answers q (whole c held) rows → Answers q (whole c other) rows
 
 -- the query has a group of more rows than the limit
 abbrev pub IsLarge : Query → Tables → Type 0

@@ -1,7 +1,7 @@
--- Queries none of whose FROM subqueries groups under a set that it is given, unless it reads one table alone. Otherwise a group can be larger
--- over the touched groups than over the whole: a row of a LEFT JOIN may find no partner there, where its right side stands in other
--- groups than the left side and is narrowed, and rows without a partner make one group.
-use Rattle.std.specs.Prelude.{◌≡◌, ◌+◌, ◌⊎◌, ⊤, false, ℕ, []}
+-- Queries in which a FROM subquery that is given a set groups only what grows with its tables. Otherwise a group can be larger over the
+-- touched groups than over the whole: a row of a LEFT JOIN may find no partner there, where its right side stands in other groups than the
+-- left side and is narrowed, and rows without a partner make one group.
+use Rattle.std.specs.Prelude.{◌≡◌, ◌+◌, ◌⊎◌, ⊤, false, ℕ, [], None}
 use Rattle.cq_tree.specs.declared.query.FromTree.{FromTree, Table, Sub', Result, Cross', Inner', Left', end_of-FromTree, more_of-FromTree, end_of-Query, more_of-Query}
 use Rattle.cq_tree.specs.declared.query.Query.{Query, Query'}
 use Rattle.cq_meaning.specs.Queries.{columns_in}
@@ -12,24 +12,34 @@ use Rattle.cq_planning.specs.Pushable.{pushable}
 use Rattle.cq_planning.specs.Narrowing.{distribution_in, right_sets, sets_in, given_to}
 
 abbrev mutual
-  -- no query of a FROM groups, at any depth
-  pub GroupsNowhereFrom : FromTree → Type 0
-  GroupsNowhereFrom (Table t n) = ⊤
-  GroupsNowhereFrom (Sub' p (more_of-Query q end_of-Query)) = GroupsNowhere q
-  GroupsNowhereFrom (Result i n) = ⊤
-  GroupsNowhereFrom (Cross' p (more_of-FromTree a end_of-FromTree) q (more_of-FromTree b end_of-FromTree)) = GroupsNowhereFrom a × GroupsNowhereFrom b
-  GroupsNowhereFrom (Inner' p (more_of-FromTree a end_of-FromTree) q (more_of-FromTree b end_of-FromTree) on) = GroupsNowhereFrom a × GroupsNowhereFrom b
-  GroupsNowhereFrom (Left' p (more_of-FromTree a end_of-FromTree) q (more_of-FromTree b end_of-FromTree) on) = GroupsNowhereFrom a × GroupsNowhereFrom b
+  -- no LEFT JOIN: tables, results, such subqueries, and inner joins of them
+  pub IsSteadyFrom : FromTree → Type 0
+  IsSteadyFrom (Table t n) = ⊤
+  IsSteadyFrom (Sub' p (more_of-Query q end_of-Query)) = IsSteady q
+  IsSteadyFrom (Result i n) = ⊤
+  IsSteadyFrom (Cross' p (more_of-FromTree a end_of-FromTree) q (more_of-FromTree b end_of-FromTree)) = IsSteadyFrom a × IsSteadyFrom b
+  IsSteadyFrom (Inner' p (more_of-FromTree a end_of-FromTree) q (more_of-FromTree b end_of-FromTree) on) = IsSteadyFrom a × IsSteadyFrom b
+  IsSteadyFrom (Left' p (more_of-FromTree a end_of-FromTree) q (more_of-FromTree b end_of-FromTree) on) = ⊥
 
-  -- nor does the query itself
-  pub GroupsNowhere : Query → Type 0
-  GroupsNowhere (Query' cs ctes ss subs from filter_ grouped keys aggs having items shown distinct order limit offset names) =
-      GroupsNowhereFrom from × (grouped ≡ false)
+  -- a query that neither groups nor cuts: where its tables have fewer rows, so has it
+  pub IsSteady : Query → Type 0
+  IsSteady (Query' cs ctes ss subs from filter_ grouped keys aggs having items shown distinct order limit offset names) =
+      IsSteadyFrom from × (grouped ≡ false) × (limit ≡ None) × (offset ≡ 0)
 
--- it reads one table alone, or groups nowhere
-abbrev pub IsSimple : Query → Type 0
-IsSimple (Query' cs ctes ss subs (Table t n) filter_ grouped keys aggs having items shown distinct order limit offset names) = ⊤
-IsSimple q = GroupsNowhere q
+abbrev mutual
+  -- so is each query of a FROM
+  pub IsSimpleFrom : FromTree → Type 0
+  IsSimpleFrom (Table t n) = ⊤
+  IsSimpleFrom (Sub' p (more_of-Query q end_of-Query)) = IsSimple q
+  IsSimpleFrom (Result i n) = ⊤
+  IsSimpleFrom (Cross' p (more_of-FromTree a end_of-FromTree) q (more_of-FromTree b end_of-FromTree)) = IsSimpleFrom a × IsSimpleFrom b
+  IsSimpleFrom (Inner' p (more_of-FromTree a end_of-FromTree) q (more_of-FromTree b end_of-FromTree) on) = IsSimpleFrom a × IsSimpleFrom b
+  IsSimpleFrom (Left' p (more_of-FromTree a end_of-FromTree) q (more_of-FromTree b end_of-FromTree) on) = IsSimpleFrom a × IsSimpleFrom b
+
+  -- a query each of whose queries, at any depth, groups a steady FROM alone
+  pub IsSimple : Query → Type 0
+  IsSimple (Query' cs ctes ss subs from filter_ grouped keys aggs having items shown distinct order limit offset names) =
+      IsSimpleFrom from × ((grouped ≡ false) ⊎ IsSteadyFrom from)
 
 abbrev mutual
   -- a subquery of a FROM, at any depth, that is given a set from outside is simple

@@ -3,7 +3,7 @@ use Rattle.cq_planning.proofs.Ascending.{ascends, ascending_has, has_ascending}
 use Rattle.cq_planning_laws.proofs.Laid.{bound_is_laid}
 use Rattle.cq_planning_laws.proofs.InLists.{ins_are_exact}
 use Rattle.cq_planning_laws.proofs.Classes.{classes_connect}
-use Rattle.cq_planning_laws.proofs.Statements.{queries_narrow, large_narrow}
+use Rattle.cq_planning_laws.proofs.Statements.{queries_narrow, large_narrow, untouched_free}
 use Rattle.cq_planning_laws.proofs.Writes.{writes_touch}
 use Rattle.cq_planning_laws.proofs.laws.planning_laws.Goals as goal
 
@@ -30,3 +30,6 @@ returns-clause-ascending c vs = (ascends vs, λ v. (ascending_has v vs, has_asce
 
 pub returns-clause-sets : goal.returns-clause-sets
 returns-clause-sets c = sets_ascend
+
+pub returns-clause-untouched : goal.returns-clause-untouched
+returns-clause-untouched c = untouched_free
