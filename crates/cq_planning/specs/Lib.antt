@@ -7,3 +7,5 @@ pub mod Pushable
 pub mod Narrowing
 pub mod Occurrences
 pub mod Touched
+pub mod Parts
+pub mod Routing

@@ -1,0 +1,13 @@
+//! The parts of a write in its shard groups, and the planners that give a query at most one task: the fast path and the router. Each
+//! function gives what the definitions of `cq_planning` give.
+#![tactic(auto)]
+
+mod insertion;
+mod keys;
+mod planners;
+mod reads;
+mod writes;
+
+pub use insertion::{Part, Parts};
+pub use planners::{Routed, fast_path, router};
+pub use writes::parts;
