@@ -1,0 +1,14 @@
+//! The relations of a FROM as a flat list, and which of its subqueries can be pushed down. Each function gives what the definitions of
+//! `cq_planning` give.
+#![tactic(auto)]
+
+mod components;
+mod outputs;
+mod places;
+mod relation;
+mod walk;
+
+pub use components::{Block, Distributions, colocated, partners, plain, staying, stays};
+pub use places::{distribution_at, place_of, plus};
+pub use relation::{Distribution, OuterJoin, Pushable, Relation};
+pub use walk::{count_columns, distribution_by, outer_join, pushable, put_relations};
