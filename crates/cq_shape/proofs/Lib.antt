@@ -1,3 +1,4 @@
 pub mod Nodes
 pub mod LabelLaws
 pub mod AscendingLaws
+pub mod MemberLaws

@@ -5,6 +5,7 @@
 mod ascending;
 mod conjuncts;
 mod labels;
+mod members;
 mod said;
 mod value_sets;
 mod whole;

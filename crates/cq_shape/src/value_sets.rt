@@ -1,47 +1,15 @@
-ghost use Rattle.std.specs.Prelude.{◌≡◌, IfOk, filter, Some};
-ghost use Rattle.std.specs.List.{list_any};
-ghost use Rattle.cq_meaning.specs.Values.{same_value};
+ghost use Rattle.std.specs.Prelude.{◌≡◌, IfOk, Some};
 ghost use Rattle.cq_planning.specs.ValueSets.{meet as meet_by_rule, class_set as class_set_by_rule};
 ghost use Rattle.cq_shape.specs.Labels.{label};
 
 use crate::labels::label_at;
+use crate::members::{copy_values, kept_in};
 use crate::said::Said;
-use cq_value::{NoMemory, Row, Value, order};
+use cq_value::{NoMemory, Row};
 use std::alloc::Global;
 
 /// The values that a column can have in a row that counts: these, or all.
 pub type ValueSet = Option<Row>;
-
-/// Whether a value is among others.
-fn is_among(values: &[Value], value: &Value) -> bool
-    ensures { result ≡ list_any (same_value value.now) values.now }
-{
-    values.iter().any(|other| order(value, other).is_eq())
-}
-
-/// The values that are among others, too.
-fn kept_in(alloc: Global, values: Row, others: &[Value]) -> Result<Row, NoMemory>
-    ensures { IfOk result (λ kept. kept ≡ filter (λ v. list_any (same_value v) others.now) values) }
-{
-    let mut kept = Row::new(alloc);
-    for value in values.into_vec() {
-        if is_among(others, &value) {
-            kept.put(value)?;
-        }
-    }
-    Ok(kept)
-}
-
-/// Equal values.
-fn copy_values(alloc: Global, values: &[Value]) -> Result<Row, NoMemory>
-    ensures { IfOk result (λ all. all ≡ values.now) }
-{
-    let mut all = Row::new(alloc);
-    for value in values {
-        all.put(value.copy(alloc)?)?;
-    }
-    Ok(all)
-}
 
 /// What is in a set and among values.
 pub fn meet_values(alloc: Global, set: ValueSet, values: &Row) -> Result<ValueSet, NoMemory>

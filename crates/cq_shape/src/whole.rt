@@ -13,7 +13,11 @@ use std::alloc::Global;
 
 /// The equalities of columns among the conjuncts of a FROM and a WHERE.
 #[tactic(auto, using(crate::proofs::Nodes::equalities_whole))]
-fn equalities_in(alloc: Global, from: &FromTree, filter: &Cond) -> Result<Items<(u32, u32)>, NoMemory>
+fn equalities_in(
+    alloc: Global,
+    from: &FromTree,
+    filter: &Cond,
+) -> Result<Items<(u32, u32)>, NoMemory>
     ensures { IfOk result (λ pairs. pairs ≡ equalities (conjuncts_of filter.now from.now)) }
 {
     let mut pairs = Items::new(alloc);
@@ -32,7 +36,12 @@ pub fn labels_in(alloc: Global, from: &FromTree, filter: &Cond) -> Result<Positi
 
 /// Puts what the conjuncts of a FROM and a WHERE say of columns last.
 #[tactic(auto, using(crate::proofs::Nodes::said_whole))]
-pub fn put_all_said(alloc: Global, sets: &mut Items<Said>, from: &FromTree, filter: &Cond) -> Result<(), NoMemory>
+pub fn put_all_said(
+    alloc: Global,
+    sets: &mut Items<Said>,
+    from: &FromTree,
+    filter: &Cond,
+) -> Result<(), NoMemory>
     ensures { OnOk result (sets.new ≡ sets.old ++ sets_said (conjuncts_of filter.now from.now)) }
 {
     put_said(alloc, sets, filter)?;

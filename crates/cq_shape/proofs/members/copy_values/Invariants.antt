@@ -1,5 +1,5 @@
 use Rattle.std.proofs.Common.{◌≡◌, take}
-use Rattle.cq_shape.proofs.value_sets.copy_values.Given as goal
+use Rattle.cq_shape.proofs.members.copy_values.Given as goal
 
 abbrev pub invariant-loop-value : goal.invariant-loop-value
 invariant-loop-value l = l.all ≡ take l.value-index l.values

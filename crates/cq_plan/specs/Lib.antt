@@ -1,0 +1,4 @@
+pub mod Begun
+pub mod Touches
+pub mod Writes
+pub mod ClassLists

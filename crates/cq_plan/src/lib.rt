@@ -1,0 +1,16 @@
+//! Which shard groups a query touches, occurrence by occurrence, and which a write does. Each function gives what the definitions of
+//! `cq_planning` give.
+#![tactic(auto)]
+
+mod blocks;
+mod class_lists;
+mod groups;
+mod sets;
+mod walk;
+mod writes;
+
+pub use blocks::{Touched, prune, touches};
+pub use class_lists::{Classes, classes};
+pub use groups::in_order;
+pub use walk::Touch;
+pub use writes::{changes_distribution, groups_of_rows, groups_of_where, row_without_value};
