@@ -15,5 +15,7 @@ mod runs;
 mod tables;
 #[cfg(test)]
 mod tokens;
+#[cfg(test)]
+mod touched;
 
 pub use checked::{checked_query, checked_write};

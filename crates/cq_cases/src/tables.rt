@@ -7,11 +7,13 @@ use cq_value::{Text, With};
 use std::alloc::Global;
 use std::test::Fail;
 
-const TABLES: [&str; 4] = [
+const TABLES: [&str; 6] = [
     "CREATE TABLE t (k bigint, v integer, s text, PRIMARY KEY (k))",
     "CREATE TABLE a (k bigint, v bigint)",
     "CREATE TABLE b (k bigint, w bigint)",
     "CREATE TABLE r (id bigint, name text, PRIMARY KEY (id))",
+    "CREATE TABLE c (v bigint, k bigint)",
+    "CREATE TABLE n (k text, v bigint)",
 ];
 
 /// What a text is read as.
@@ -29,21 +31,28 @@ fn create(alloc: Global, catalog: &mut Catalog, text: &'static str) -> Result<()
     }
 }
 
-fn distribute(alloc: Global, catalog: &mut Catalog, table: &Text) -> Result<(), CatalogError> {
-    let column = Text::of_str(alloc, "k")?;
-    catalog.distribute(table, &column, None, &With::Default, 4)?;
+fn distribute(
+    alloc: Global,
+    catalog: &mut Catalog,
+    table: &str,
+    count: Option<u32>,
+) -> Result<(), CatalogError> {
+    let (table, column) = (Text::of_str(alloc, table)?, Text::of_str(alloc, "k")?);
+    catalog.distribute(&table, &column, count, &With::Default, 4)?;
     Ok(())
 }
 
-/// The distributed tables t, a and b, and the reference table r.
+/// The distributed tables t, a and b of 4 shards, the reference table r, and the distributed tables c of 3 shards and n of 2.
 pub fn catalog(alloc: Global) -> Result<Catalog, Fail> {
     let mut catalog = Catalog::new(alloc);
     for text in TABLES {
         create(alloc, &mut catalog, text)?;
     }
-    distribute(alloc, &mut catalog, &Text::of_str(alloc, "t")?)?;
-    distribute(alloc, &mut catalog, &Text::of_str(alloc, "a")?)?;
-    distribute(alloc, &mut catalog, &Text::of_str(alloc, "b")?)?;
+    distribute(alloc, &mut catalog, "t", None)?;
+    distribute(alloc, &mut catalog, "a", None)?;
+    distribute(alloc, &mut catalog, "b", None)?;
     catalog.reference(&Text::of_str(alloc, "r")?)?;
+    distribute(alloc, &mut catalog, "c", Some(3))?;
+    distribute(alloc, &mut catalog, "n", Some(2))?;
     Ok(catalog)
 }
