@@ -44,8 +44,13 @@ impl<
         ensures { Binds (both (expression.reads (part_of first.now) scope.now) (expression.reads (part_of second.now) scope.now) found.old) result found.new }
     {
         let a = self.expr(found, first, scope)?;
-        let b = self.expr(found, second, scope)?;
-        Ok((a, b))
+        match self.expr(found, second, scope) {
+            Ok(b) => Ok((a, b)),
+            Err(e) => {
+                drop(a);
+                Err(e)
+            }
+        }
     }
 
     fn in_select(
@@ -60,8 +65,13 @@ impl<
         requires { Nests self.now.left (F.pre self.now.expr) (F.post self.now.expr) (G.pre self.now.select) (G.post self.now.select) }
         ensures { Binds (expression.in_select_reading (select_of select.now) scope.now x negate at found.old) result found.new }
     {
-        let subquery = self.subquery(found, select, scope)?;
-        rules::among(found, scope, x, negate, at, subquery.0, subquery.1)
+        match self.subquery(found, select, scope) {
+            Ok(subquery) => rules::among(found, scope, x, negate, at, subquery.0, subquery.1),
+            Err(e) => {
+                drop(x);
+                Err(e)
+            }
+        }
     }
 
     fn in_list(
@@ -76,8 +86,13 @@ impl<
         requires { Nests self.now.left (F.pre self.now.expr) (F.post self.now.expr) (G.pre self.now.select) (G.post self.now.select) }
         ensures { Binds (expression.in_list_reading (map part_of items.now) scope.now x negate at found.old) result found.new }
     {
-        let items = self.exprs(found, items, scope)?;
-        rules::listed(alloc_of(scope), negate, x, items, at)
+        match self.exprs(found, items, scope) {
+            Ok(items) => rules::listed(alloc_of(scope), negate, x, items, at),
+            Err(e) => {
+                drop(x);
+                Err(e)
+            }
+        }
     }
 
     fn between(
@@ -93,8 +108,13 @@ impl<
         requires { Nests self.now.left (F.pre self.now.expr) (F.post self.now.expr) (G.pre self.now.select) (G.post self.now.select) }
         ensures { Binds (expression.between_reading (part_of low.now) (part_of high.now) scope.now x negate at found.old) result found.new }
     {
-        let ends = self.both(found, low, high, scope)?;
-        rules::between(alloc_of(scope), negate, x, ends.0, ends.1, at)
+        match self.both(found, low, high, scope) {
+            Ok(ends) => rules::between(alloc_of(scope), negate, x, ends.0, ends.1, at),
+            Err(e) => {
+                drop(x);
+                Err(e)
+            }
+        }
     }
 
     /// What is asked of the operand `x`, which is bound.

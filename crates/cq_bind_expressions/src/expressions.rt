@@ -55,8 +55,13 @@ impl<
         ensures { Binds (expression.compare_reading (part_of left.now) operator (part_of right.now) at scope.now found.old) result found.new }
     {
         let a = self.expr(found, left, scope)?;
-        let b = self.expr(found, right, scope)?;
-        rules::compared(operator, a, b, at)
+        match self.expr(found, right, scope) {
+            Ok(b) => rules::compared(operator, a, b, at),
+            Err(e) => {
+                drop(a);
+                Err(e)
+            }
+        }
     }
 
     /// A later part of a chain, with the place of the word before it.
@@ -190,8 +195,13 @@ impl<
         ensures { Binds (expression.read_arm scope.now (arm_part arm.now) found.old) result found.new }
     {
         let condition = self.expr(found, &arm.condition, scope)?;
-        let result = self.expr(found, &arm.result, scope)?;
-        Ok((condition, result))
+        match self.expr(found, &arm.result, scope) {
+            Ok(result) => Ok((condition, result)),
+            Err(e) => {
+                drop(condition);
+                Err(e)
+            }
+        }
     }
 
     fn arms(

@@ -47,7 +47,10 @@ fn front_of(column: Option<Bound>, taken: usize, best: Option<Front>) -> Option<
     ensures { result ≡ front_of column taken best }
 {
     match column {
-        Some(column) => Some(Front { column, taken }),
+        Some(column) => {
+            drop(best);
+            Some(Front { column, taken })
+        }
         None => best,
     }
 }
@@ -70,9 +73,16 @@ fn extended(
 ) -> Result<Search, BindError>
     ensures { MatchResult result (λ s. (s.front ≡ front) × (s.best ≡ front_of (key_of keys.now front) taken best)) (λ e. e ≡ Memory) }
 {
-    let column = key_of(keys, &front)?;
-    let best = front_of(column, taken, best);
-    Ok(Search { front, best })
+    match key_of(keys, &front) {
+        Ok(column) => {
+            let best = front_of(column, taken, best);
+            Ok(Search { front, best })
+        }
+        Err(e) => {
+            drop((front, best));
+            Err(e)
+        }
+    }
 }
 
 /// What `lengthen` reads of the front with one operand more, and none where there is no front.
@@ -104,8 +114,14 @@ fn searched<T, P: Fn(&mut Found, Bound, &T) -> Result<Option<Bound>, BindError>>
     ensures goes_on { (part : T → Part) (step : _ → T → Reading _) → Lengthens (P.post lengthen.now) part step → MatchResult result (λ s. GoesOn keys.now (longer part step (front_read search.front found.old) operand.now) taken search.best s found.new) (λ e. e ≡ Memory) }
     ensures within { IfOk result (λ s. IsAmong taken search.best s.best) }
 {
-    let front = lengthened(found, search.front, operand, lengthen)?;
-    extended(keys, front, taken, search.best)
+    let Search { front, best } = search;
+    match lengthened(found, front, operand, lengthen) {
+        Ok(front) => extended(keys, front, taken, best),
+        Err(e) => {
+            drop(best);
+            Err(e)
+        }
+    }
 }
 
 /// The longest front of a chain that is a key of a query: `first` is what the first operand is read as before any grouping, where it
@@ -128,5 +144,7 @@ pub(crate) fn longest_front<T, P: Fn(&mut Found, Bound, &T) -> Result<Option<Bou
     'operands: for (i, operand) in rest.iter().enumerate() {
         search = searched(keys, found, search, operand, i + 1, &lengthen)?;
     }
-    Ok(search.best)
+    let Search { front, best } = search;
+    drop(front);
+    Ok(best)
 }

@@ -24,7 +24,11 @@ fn key_in(scope: &Scope<'_>, attempt: Result<Bound, BindError>) -> Result<Option
     ensures { IsKeyOf scope.now.keys attempt result }
 {
     match attempt {
-        Ok(b) => rules::key_column(scope.keys, &b),
+        Ok(b) => {
+            let column = rules::key_column(scope.keys, &b);
+            drop(b);
+            column
+        }
         Err(BindError::Memory) => Err(BindError::Memory),
         Err(_) => Ok(None),
     }

@@ -36,8 +36,13 @@ fn multiplied_by(
 ) -> Result<Bound, BindError>
     ensures { Judges (rule.multiplied operator a b (title.literal_of (part_of factor.now).form) at) result }
 {
-    let divisor = literal_of(factor)?;
-    rules::multiplied(alloc, operator, a, b, divisor, at)
+    match literal_of(factor) {
+        Ok(divisor) => rules::multiplied(alloc, operator, a, b, divisor, at),
+        Err(e) => {
+            drop((a, b));
+            Err(e)
+        }
+    }
 }
 
 impl<
@@ -122,8 +127,13 @@ impl<
         requires { Nests self.now.left (F.pre self.now.expr) (F.post self.now.expr) (G.pre self.now.select) (G.post self.now.select) }
         ensures { Binds (expression.with_added scope.now a (added_part part.now) found.old) result found.new }
     {
-        let b = self.expr(found, &part.term, scope)?;
-        rules::added(alloc_of(scope), part.operator, a, b, part.at)
+        match self.expr(found, &part.term, scope) {
+            Ok(b) => rules::added(alloc_of(scope), part.operator, a, b, part.at),
+            Err(e) => {
+                drop(a);
+                Err(e)
+            }
+        }
     }
 
     /// The same where no subquery stands in the operand. None where it is refused.
@@ -139,6 +149,7 @@ impl<
         ensures { Finds (tried (not (added_part part.now).part.selects) (expression.with_added scope.now a (added_part part.now) found.old)) result found.new }
     {
         if selects(&part.term) {
+            drop(a);
             return Ok(None);
         }
         unless_refused(self.with_added(found, a, part, scope))
@@ -176,8 +187,13 @@ impl<
         requires { Nests self.now.left (F.pre self.now.expr) (F.post self.now.expr) (G.pre self.now.select) (G.post self.now.select) }
         ensures { Binds (expression.with_multiplied scope.now a (multiplied_part part.now) found.old) result found.new }
     {
-        let b = self.expr(found, &part.factor, scope)?;
-        multiplied_by(alloc_of(scope), part.operator, a, b, &part.factor, part.at)
+        match self.expr(found, &part.factor, scope) {
+            Ok(b) => multiplied_by(alloc_of(scope), part.operator, a, b, &part.factor, part.at),
+            Err(e) => {
+                drop(a);
+                Err(e)
+            }
+        }
     }
 
     /// The same where no subquery stands in the operand. None where it is refused.
@@ -193,6 +209,7 @@ impl<
         ensures { Finds (tried (not (multiplied_part part.now).part.selects) (expression.with_multiplied scope.now a (multiplied_part part.now) found.old)) result found.new }
     {
         if selects(&part.factor) {
+            drop(a);
             return Ok(None);
         }
         unless_refused(self.with_multiplied(found, a, part, scope))

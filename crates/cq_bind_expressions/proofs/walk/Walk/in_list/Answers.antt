@@ -1,8 +1,9 @@
+use Rattle.std.proofs.Common.{Err, refl}
 use Rattle.cq_bind_expressions.proofs.Loops.{binds_then, binds_err}
 use Rattle.cq_bind_expressions.proofs.walk.Walk.in_list.Goals as goal
 
-pub returns-in_err-items : goal.returns-in_err-items
-returns-in_err-items g c = binds_err _ _ _ _ _ c.in_err-items.ensures c.from_residual.ensures.1
+pub returns-in-Err : goal.returns-in-Err
+returns-in-Err g c = binds_err _ _ c.in-Err.e (Err c.in-Err.e) c.exprs.new.found c.in-Err.ensures refl
 
-pub returns : goal.returns
-returns g c = binds_then _ _ _ _ _ _ c.in_ok-items.ensures (c.listed.ensures _)
+pub returns-in-Ok : goal.returns-in-Ok
+returns-in-Ok g c = binds_then _ _ _ _ _ _ c.in-Ok.ensures (c.listed.ensures _)
