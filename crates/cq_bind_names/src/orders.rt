@@ -60,8 +60,14 @@ fn key_at(
     ensures { Judges (key_in 0 distinct descending at order e place) result }
 {
     match place {
-        Some(item) => Ok(with_item(order, item, descending)?),
-        None if distinct => Err(BindError::NotGrouped { at }),
+        Some(item) => {
+            drop(e);
+            Ok(with_item(order, item, descending)?)
+        }
+        None if distinct => {
+            drop(e);
+            Err(BindError::NotGrouped { at })
+        }
         None => Ok(with_hidden(order, e, descending)?),
     }
 }

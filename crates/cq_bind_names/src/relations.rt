@@ -95,6 +95,14 @@ fn output_sources(alloc: Global, relation: &Text, outputs: &[Output]) -> Result<
     Ok(sources)
 }
 
+fn one_name(alloc: Global, name: &Text) -> Result<Names, NoMemory>
+    ensures { IfOk result (λ all. all ≡ name.now ∷ []) }
+{
+    let mut all = Names::new(alloc);
+    all.put(name.copy(alloc)?)?;
+    Ok(all)
+}
+
 /// A relation under a name that none before it has.
 fn under(
     alloc: Global,
@@ -106,12 +114,12 @@ fn under(
 ) -> Result<Relations, BindError>
     ensures { Judges (under_name name.now names.now tree columns joined) result }
 {
-    let text = name.text.copy(alloc)?;
-    if is_named(&text, names) {
-        return Err(BindError::NameTaken { name: text });
+    if is_named(&name.text, names) {
+        drop(tree);
+        let name = name.text.copy(alloc)?;
+        return Err(BindError::NameTaken { name });
     }
-    let mut names = Names::new(alloc);
-    names.put(text)?;
+    let (tree, names) = both(Ok(tree), one_name(alloc, &name.text))?;
     Ok(Relations {
         tree,
         columns,
@@ -393,7 +401,8 @@ pub fn joined_inner(
 ) -> Result<Relations, BindError>
     ensures { Judges (give (both_of (λ x y. Inner x y on) a b)) result }
 {
-    Ok(inner(paired(alloc, a, b)?, on))
+    let (pair, on) = both(paired(alloc, a, b), Ok(on))?;
+    Ok(inner(pair, on))
 }
 
 /// The left join of relations on a condition.
@@ -405,7 +414,8 @@ pub fn joined_left(
 ) -> Result<Relations, BindError>
     ensures { Judges (give (both_of (λ x y. Left x y on) a b)) result }
 {
-    Ok(left(paired(alloc, a, b)?, on))
+    let (pair, on) = both(paired(alloc, a, b), Ok(on))?;
+    Ok(left(pair, on))
 }
 
 /// No relation at all. Takes no memory.

@@ -14,7 +14,10 @@ pub fn expr_of(b: Bound) -> Expr
 {
     match b {
         Bound::Value(e, _, _) => e,
-        Bound::Truth(_) => Expr::Literal(Value::Null),
+        Bound::Truth(c) => {
+            drop(c);
+            Expr::Literal(Value::Null)
+        }
     }
 }
 
@@ -40,14 +43,18 @@ fn is_null(e: &Expr) -> bool
     ensures { result ≡ equal_exprs e.now null_expr }
 {
     let null = Expr::Literal(Value::Null);
-    same_expr(e, &null)
+    let same = same_expr(e, &null);
+    drop(null);
+    same
 }
 
 fn is_of_null(e: &Expr) -> bool
     ensures { result ≡ equal_exprs null_expr e.now }
 {
     let null = Expr::Literal(Value::Null);
-    same_expr(&null, e)
+    let same = same_expr(&null, e);
+    drop(null);
+    same
 }
 
 /// Whether the values of two are one expression.
