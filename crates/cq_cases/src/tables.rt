@@ -34,11 +34,11 @@ fn create(alloc: Global, catalog: &mut Catalog, text: &'static str) -> Result<()
 fn distribute(
     alloc: Global,
     catalog: &mut Catalog,
-    table: &str,
+    table: &Text,
     count: Option<u32>,
 ) -> Result<(), CatalogError> {
-    let (table, column) = (Text::of_str(alloc, table)?, Text::of_str(alloc, "k")?);
-    catalog.distribute(&table, &column, count, &With::Default, 4)?;
+    let column = Text::of_str(alloc, "k")?;
+    catalog.distribute(table, &column, count, &With::Default, 4)?;
     Ok(())
 }
 
@@ -48,11 +48,11 @@ pub fn catalog(alloc: Global) -> Result<Catalog, Fail> {
     for text in TABLES {
         create(alloc, &mut catalog, text)?;
     }
-    distribute(alloc, &mut catalog, "t", None)?;
-    distribute(alloc, &mut catalog, "a", None)?;
-    distribute(alloc, &mut catalog, "b", None)?;
+    distribute(alloc, &mut catalog, &Text::of_str(alloc, "t")?, None)?;
+    distribute(alloc, &mut catalog, &Text::of_str(alloc, "a")?, None)?;
+    distribute(alloc, &mut catalog, &Text::of_str(alloc, "b")?, None)?;
     catalog.reference(&Text::of_str(alloc, "r")?)?;
-    distribute(alloc, &mut catalog, "c", Some(3))?;
-    distribute(alloc, &mut catalog, "n", Some(2))?;
+    distribute(alloc, &mut catalog, &Text::of_str(alloc, "c")?, Some(3))?;
+    distribute(alloc, &mut catalog, &Text::of_str(alloc, "n")?, Some(2))?;
     Ok(catalog)
 }
