@@ -312,8 +312,13 @@ fn star_picked(
 {
     let (before, place) = state;
     let pick = pick_if(scope, at, is_meant(star, column), before, place, column)?;
-    let next = next_place(place)?;
-    Ok((pick, next))
+    match next_place(place) {
+        Ok(next) => Ok((pick, next)),
+        Err(e) => {
+            drop(pick);
+            Err(e)
+        }
+    }
 }
 
 fn next_picked(

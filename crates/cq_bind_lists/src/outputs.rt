@@ -87,7 +87,9 @@ fn star_key(scope: &Scope<'_>, at: u64, place: u32) -> Result<Bound, BindError>
     ensures { Judges (stars.key_or_refused scope.now.keys (scopes.column_at scope.now place) at) result }
 {
     let b = column_at(&plain(scope), place, at)?;
-    key_or_refused(scope, &b, at)
+    let key = key_or_refused(scope, &b, at);
+    drop(b);
+    key
 }
 
 /// A column that `*` stands for. In a query that groups it is a key, or refused with 15.
@@ -111,8 +113,8 @@ pub fn star_value(scope: &Scope<'_>, at: u64, place: u32) -> Result<Bound, BindE
 fn star_shown(scope: &Scope<'_>, at: u64, place: u32, column: &Source) -> Result<Shown, BindError>
     ensures { Judges (spec.read_target scope.now (spec.star_column at place column.now)) result }
 {
-    let bound = star_value(scope, at, place)?;
     let title = column.name.copy(alloc_of(scope))?;
+    let bound = star_value(scope, at, place)?;
     Ok(Shown { title, bound })
 }
 
@@ -275,8 +277,8 @@ impl<
         requires { Nests self.now.walk.left (F.pre self.now.walk.expr) (F.post self.now.walk.expr) (G.pre self.now.walk.select) (G.post self.now.walk.select) }
         ensures { Binds (spec.read_target scope.now (stars.value_target (part_of value.now) (stars.alias_of name.now)) found.old) result found.new }
     {
-        let bound = self.value(found, value, scope)?;
         let title = title_of(alloc_of(scope), value, name)?;
+        let bound = self.value(found, value, scope)?;
         Ok(Shown { title, bound })
     }
 

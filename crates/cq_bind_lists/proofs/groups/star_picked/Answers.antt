@@ -6,5 +6,5 @@ use Rattle.cq_bind_lists.proofs.groups.star_picked.Goals as goal
 pub returns-in_err-pick : goal.returns-in_err-pick
 returns-in_err-pick c = step_err (picked c.args.scope.now) c.args.at (meant c.args.star) c.args.state _ _ _ _ c.is_meant.ensures c.in_err-pick.ensures c.from_residual.ensures.1
 
-pub returns : goal.returns
-returns c = step_ok (picked c.args.scope.now) c.args.at (meant c.args.star) c.args.state _ _ _ _ c.is_meant.ensures c.in_ok-pick.ensures c.in_ok-next.ensures
+pub returns-in-Ok : goal.returns-in-Ok
+returns-in-Ok c = step_ok (picked c.args.scope.now) c.args.at (meant c.args.star) c.args.state _ _ _ _ c.is_meant.ensures c.in_ok-pick.ensures c.in-Ok.ensures

@@ -5,4 +5,4 @@ pub returns-in_err-b : goal.returns-in_err-b
 returns-in_err-b c = key_unread c.args.at c.args.place c.args.scope.now _ _ _ c.plain.ensures c.in_err-b.ensures c.from_residual.ensures.1
 
 pub returns : goal.returns
-returns c = key_read c.args.at c.args.place c.args.scope.now _ _ _ c.plain.ensures c.in_ok-b.ensures c.key_or_refused.ensures
+returns c = key_read c.args.at c.args.place c.args.scope.now _ _ _ c.plain.ensures c.in_ok-b.ensures c.key_or_refused-key.ensures
