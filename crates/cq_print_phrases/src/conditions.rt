@@ -249,7 +249,8 @@ fn are_ends(low: &Shape, high: &Shape) -> bool
 fn between_ends(alloc: Global, x: Expr, low: Expr, high: Expr) -> Result<Shape, NoMemory>
     ensures { IfOk result (λ s. s ≡ written.between_ends x low high) }
 {
-    let (low, high) = both(Boxed::new(alloc, low), Boxed::new(alloc, high))?;
+    let ends = both(Boxed::new(alloc, low), Boxed::new(alloc, high));
+    let (x, (low, high)) = beside(x, ends)?;
     Ok(Shape::Other(tested(alloc, x, Test::Between { low, high })?))
 }
 
@@ -259,7 +260,10 @@ fn sides_of(shape: Shape) -> (Expr, Expr)
 {
     match shape {
         Shape::Compared(_, x, a) => (x.tree, a.tree),
-        _ => (Expr::Null { at: 0 }, Expr::Null { at: 0 }),
+        other => {
+            drop(other);
+            (Expr::Null { at: 0 }, Expr::Null { at: 0 })
+        }
     }
 }
 
@@ -267,7 +271,8 @@ fn between(alloc: Global, low: Shape, high: Shape) -> Result<Shape, NoMemory>
     ensures { IfOk result (λ s. s ≡ written.between low high) }
 {
     let (x, from) = sides_of(low);
-    let (_, to) = sides_of(high);
+    let (again, to) = sides_of(high);
+    drop(again);
     between_ends(alloc, x, from, to)
 }
 
@@ -315,7 +320,10 @@ fn list_of(alloc: Global, shape: Shape) -> (Phrase, Items<Expr>)
 {
     match shape {
         Shape::Listed(x, items) => (x, items),
-        _ => (no_phrase(), Items::new(alloc)),
+        other => {
+            drop(other);
+            (no_phrase(), Items::new(alloc))
+        }
     }
 }
 
@@ -323,7 +331,8 @@ fn listed(alloc: Global, left: Shape, right: Shape) -> Result<Shape, NoMemory>
     ensures { IfOk result (λ s. s ≡ written.listed left right) }
 {
     let (x, items) = list_of(alloc, left);
-    let (_, more) = list_of(alloc, right);
+    let (again, more) = list_of(alloc, right);
+    drop(again);
     let (x, items) = beside(x, and_then(items, more))?;
     Ok(Shape::Listed(x, items))
 }
