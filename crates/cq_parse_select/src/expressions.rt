@@ -13,6 +13,7 @@ ghost use Rattle.cq_grammar.specs.Descent as descent;
 ghost use Rattle.cq_parse_steps.specs.Reads.{Reads};
 ghost use Rattle.cq_parse_select.specs.Nests.{Nests};
 
+use crate::beside::beside;
 use crate::digits::digits;
 use crate::grammar::Grammar;
 use crate::nodes::{
@@ -98,11 +99,9 @@ impl<
     {
         let at = parser.the(Kind::Open)?;
         let inner = self.inside(parser)?;
+        let inner = Boxed::new(parser.alloc(), inner)?;
         parser.the(Kind::Close)?;
-        Ok(Expr::Group {
-            inner: Boxed::new(parser.alloc(), inner)?,
-            at,
-        })
+        Ok(Expr::Group { inner, at })
     }
 
     #[tactic(auto, unfolding(cq_grammar::specs::Descent::arm))]
@@ -112,8 +111,8 @@ impl<
     {
         parser.the(Kind::When)?;
         let condition = self.inside(parser)?;
-        parser.the(Kind::Then)?;
-        let result = self.inside(parser)?;
+        let (condition, _) = beside(condition, parser.the(Kind::Then))?;
+        let (condition, result) = beside(condition, self.inside(parser))?;
         Ok(Arm { condition, result })
     }
 
@@ -179,7 +178,7 @@ impl<
 
     /// What COUNT counts: an expression, or nothing for `*`.
     #[tactic(auto, unfolding(cq_grammar::specs::Descent::counted))]
-    fn counted(&self, parser: &mut Parser<'_>) -> Result<Option<Expr>, Refusal>
+    fn counted(&self, parser: &mut Parser<'_>) -> Result<Option<Boxed<Expr>>, Refusal>
         requires { Nests self.now.left (F.pre self.now.expr) (F.post self.now.expr) (G.pre self.now.select) (G.post self.now.select) }
         ensures { Reads (descent.counted (descent.below self.now.left) parser.old) result parser.new }
     {
@@ -188,7 +187,7 @@ impl<
             return Ok(None);
         }
         let argument = self.inside(parser)?;
-        Ok(Some(argument))
+        Ok(Some(Boxed::new(parser.alloc(), argument)?))
     }
 
     #[tactic(auto, unfolding(cq_grammar::specs::Descent::count))]
@@ -204,7 +203,7 @@ impl<
             None => Ok(Expr::CountAll { at }),
             Some(argument) => Ok(Expr::Aggregate {
                 function: Aggregate::Count,
-                argument: Boxed::new(parser.alloc(), argument)?,
+                argument,
                 at,
             }),
         }
@@ -219,10 +218,11 @@ impl<
         let (word, at) = parser.some_of(AGGREGATE_WORDS)?;
         parser.the(Kind::Open)?;
         let argument = self.inside(parser)?;
+        let argument = Boxed::new(parser.alloc(), argument)?;
         parser.the(Kind::Close)?;
         Ok(Expr::Aggregate {
             function: aggregate_function(word),
-            argument: Boxed::new(parser.alloc(), argument)?,
+            argument,
             at,
         })
     }
@@ -307,7 +307,7 @@ impl<
         ensures { Reads (descent.term (descent.below self.now.left) parser.old) result parser.new }
     {
         let first = self.unary(parser)?;
-        let rest = self.factors(parser)?;
+        let (first, rest) = beside(first, self.factors(parser))?;
         if rest.as_slice().is_empty() {
             return Ok(first);
         }
@@ -349,7 +349,7 @@ impl<
         ensures { Reads (descent.sum (descent.below self.now.left) parser.old) result parser.new }
     {
         let first = self.term(parser)?;
-        let rest = self.terms(parser)?;
+        let (first, rest) = beside(first, self.terms(parser))?;
         if rest.as_slice().is_empty() {
             return Ok(first);
         }
@@ -399,7 +399,7 @@ impl<
         let at = parser.the(Kind::In)?;
         parser.the(Kind::Open)?;
         let what = self.in_what(parser)?;
-        parser.the(Kind::Close)?;
+        let (what, _) = beside(what, parser.the(Kind::Close))?;
         Ok((at, what))
     }
 
@@ -410,13 +410,11 @@ impl<
     {
         let at = parser.the(Kind::Between)?;
         let low = self.sum(parser)?;
+        let low = Boxed::new(parser.alloc(), low)?;
         parser.the(Kind::And)?;
         let high = self.sum(parser)?;
-        let between = Test::Between {
-            low: Boxed::new(parser.alloc(), low)?,
-            high: Boxed::new(parser.alloc(), high)?,
-        };
-        Ok((at, between))
+        let high = Boxed::new(parser.alloc(), high)?;
+        Ok((at, Test::Between { low, high }))
     }
 
     fn in_or_between(&self, parser: &mut Parser<'_>) -> Result<(u64, Test), Refusal>
@@ -450,9 +448,10 @@ impl<
         if !parser.sees(TESTED_WORDS) {
             return Ok(operand);
         }
+        let operand = Boxed::new(parser.alloc(), operand)?;
         let (not, (at, test)) = self.test(parser)?;
         Ok(Expr::Tested {
-            operand: Boxed::new(parser.alloc(), operand)?,
+            operand,
             negated: not.is_some(),
             test,
             at: first_place(not, at),
@@ -468,12 +467,14 @@ impl<
         if !parser.sees(COMPARISON_SIGNS) {
             return Ok(left);
         }
+        let left = Boxed::new(parser.alloc(), left)?;
         let (sign, at) = parser.some_of(COMPARISON_SIGNS)?;
         let right = self.tested(parser)?;
+        let right = Boxed::new(parser.alloc(), right)?;
         Ok(Expr::Compare {
-            left: Boxed::new(parser.alloc(), left)?,
+            left,
             operator: comparison_operator(sign),
-            right: Boxed::new(parser.alloc(), right)?,
+            right,
             at,
         })
     }
@@ -496,7 +497,7 @@ impl<
         ensures { Reads (descent.is (descent.below self.now.left) parser.old) result parser.new }
     {
         let first = self.comparison(parser)?;
-        let rest = self.null_tests(parser)?;
+        let (first, rest) = beside(first, self.null_tests(parser))?;
         if rest.as_slice().is_empty() {
             return Ok(first);
         }
@@ -550,7 +551,7 @@ impl<
         ensures { Reads (descent.and_chain (descent.below self.now.left) parser.old) result parser.new }
     {
         let first = self.negation(parser)?;
-        let rest = self.and_parts(parser)?;
+        let (first, rest) = beside(first, self.and_parts(parser))?;
         if rest.as_slice().is_empty() {
             return Ok(first);
         }
@@ -588,7 +589,7 @@ impl<
         ensures { Reads (descent.or_chain (descent.below self.now.left) parser.old) result parser.new }
     {
         let first = self.and_chain(parser)?;
-        let rest = self.or_parts(parser)?;
+        let (first, rest) = beside(first, self.or_parts(parser))?;
         if rest.as_slice().is_empty() {
             return Ok(first);
         }

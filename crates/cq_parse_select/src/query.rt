@@ -11,6 +11,7 @@ ghost use Rattle.cq_grammar.specs.Descent as descent;
 ghost use Rattle.cq_parse_steps.specs.Reads.{Reads};
 ghost use Rattle.cq_parse_select.specs.Nests.{Nests};
 
+use crate::beside::beside;
 use crate::grammar::Grammar;
 use crate::nodes::{direction_of, first_place};
 use cq_grammar::{
@@ -127,7 +128,7 @@ impl<
         ensures { Reads (descent.output (descent.below self.now.left) parser.old) result parser.new }
     {
         let value = self.or_chain(parser)?;
-        let name = behind_as(parser)?;
+        let (value, name) = beside(value, behind_as(parser))?;
         Ok(Item::Value { value, name })
     }
 
@@ -162,10 +163,11 @@ impl<
     {
         let at = parser.the(Kind::Open)?;
         let select = self.inside_select(parser)?;
+        let select = Boxed::new(parser.alloc(), select)?;
         parser.the(Kind::Close)?;
         let (word, alias) = alias(parser)?;
         Ok(Relation::Subquery {
-            select: Boxed::new(parser.alloc(), select)?,
+            select,
             spelled: word.is_some(),
             alias,
             at,
@@ -201,7 +203,7 @@ impl<
         let word = parser.optional_the(Kind::Inner)?;
         let at = parser.the(Kind::Join)?;
         let relation = self.relation(parser)?;
-        let on = self.on(parser)?;
+        let (relation, on) = beside(relation, self.on(parser))?;
         Ok(Join::Inner {
             spelled: word.is_some(),
             relation,
@@ -219,7 +221,7 @@ impl<
         let word = parser.optional_the(Kind::Outer)?;
         parser.the(Kind::Join)?;
         let relation = self.relation(parser)?;
-        let on = self.on(parser)?;
+        let (relation, on) = beside(relation, self.on(parser))?;
         Ok(Join::Left {
             spelled: word.is_some(),
             relation,
@@ -268,7 +270,7 @@ impl<
         ensures { Reads (descent.from_item (descent.below self.now.left) parser.old) result parser.new }
     {
         let first = self.relation(parser)?;
-        let joins = self.joins(parser)?;
+        let (first, joins) = beside(first, self.joins(parser))?;
         Ok(From { first, joins })
     }
 
@@ -364,7 +366,7 @@ impl<
         ensures { Reads (descent.order_key (descent.below self.now.left) parser.old) result parser.new }
     {
         let key = self.or_chain(parser)?;
-        let word = direction(parser)?;
+        let (key, word) = beside(key, direction(parser))?;
         Ok(OrderKey {
             key,
             direction: word.map(|(word, _)| direction_of(word)),
@@ -472,7 +474,7 @@ impl<
     {
         let ((at, (distinct, items)), (from, filter)) = self.selection(parser)?;
         let (groups, having) = self.grouping(parser)?;
-        let (order, (limit, offset)) = self.ordering(parser)?;
+        let (having, (order, (limit, offset))) = beside(having, self.ordering(parser))?;
         Ok(Select {
             distinct: distinct.is_some(),
             items,
