@@ -1,4 +1,4 @@
-use crate::unsupported::Unsupported;
+use cq_tree::Unsupported;
 use cq_value::Text;
 
 /// What a limit is on.

@@ -7,9 +7,8 @@ mod answer;
 mod answered;
 mod conversion;
 mod fault;
-mod unsupported;
 
 pub use answer::{Answer, Tag};
 pub use answered::{Answered, AnsweredList, Settings};
+pub use cq_tree::Unsupported;
 pub use fault::{Fault, What};
-pub use unsupported::Unsupported;

@@ -17,7 +17,7 @@ use Rattle.cq_catalog.specs.declared.info.Place.{Place}
 use Rattle.cq_catalog.specs.declared.info.Place.TheVariants.{Distributed}
 use Rattle.cq_answer.specs.declared.fault.Fault.{Fault}
 use Rattle.cq_answer.specs.declared.fault.Fault.TheVariants as fault
-use Rattle.cq_answer.specs.declared.unsupported.Unsupported.TheVariants as unsupported_by
+use Rattle.cq_tree.specs.declared.unsupported.Unsupported.TheVariants as unsupported_by
 
 -- ---- the conjunct that names a query's shard group
 

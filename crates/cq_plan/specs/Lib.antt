@@ -1,4 +1,3 @@
 pub mod Begun
 pub mod Touches
-pub mod Writes
 pub mod ClassLists

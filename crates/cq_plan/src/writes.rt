@@ -4,7 +4,7 @@ ghost use Rattle.cq_meaning.specs.Groups.{is_known};
 ghost use Rattle.cq_meaning.specs.Values.{column as value_in};
 ghost use Rattle.cq_catalog.specs.Placement.{place_at, IsDistributed, group_of as group_in_table};
 ghost use Rattle.cq_planning.specs.Touched.{in_order as in_order_by_rule, row_groups, touched_by_where};
-ghost use Rattle.cq_plan.specs.Writes.{first_without as first_without_by_rule, row_without_value as row_without_value_by_rule, changes_distribution as changes_distribution_by_rule};
+ghost use Rattle.cq_planning.specs.Refusals.{first_without as first_without_by_rule, row_without_value as row_without_value_by_rule, changes_distribution as changes_distribution_by_rule};
 
 use crate::walk::groups_under;
 use cq_catalog::{Catalog, Place};

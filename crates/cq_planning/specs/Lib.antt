@@ -9,3 +9,4 @@ pub mod Occurrences
 pub mod Touched
 pub mod Parts
 pub mod Routing
+pub mod Refusals

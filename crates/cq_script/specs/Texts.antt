@@ -12,8 +12,8 @@ use Rattle.cq_answer.specs.declared.fault.Fault.{Fault}
 use Rattle.cq_answer.specs.declared.fault.Fault.TheVariants as faults
 use Rattle.cq_answer.specs.declared.fault.What.{What}
 use Rattle.cq_answer.specs.declared.fault.What.TheVariants as limits
-use Rattle.cq_answer.specs.declared.unsupported.Unsupported.{Unsupported}
-use Rattle.cq_answer.specs.declared.unsupported.Unsupported.TheVariants as plans
+use Rattle.cq_tree.specs.declared.unsupported.Unsupported.{Unsupported}
+use Rattle.cq_tree.specs.declared.unsupported.Unsupported.TheVariants as plans
 use Rattle.cq_script.specs.declared.fatal.Fatal.{Fatal}
 use Rattle.cq_script.specs.declared.fatal.Fatal.TheVariants as ends
 

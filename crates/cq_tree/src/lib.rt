@@ -9,6 +9,7 @@ mod limit;
 mod plan;
 mod query;
 mod statement;
+mod unsupported;
 mod wave;
 mod write;
 
@@ -18,5 +19,6 @@ pub use limit::What;
 pub use plan::{Combine, Plan, Planner, Plans, Step, Steps, Task, Tasks};
 pub use query::{Agg, Aggs, FromTree, Key, Keys, Queries, Query, QueryError};
 pub use statement::Statement;
+pub use unsupported::Unsupported;
 pub use wave::{Wave, Waves};
 pub use write::{Reply, Set, Sets, ShardOp};

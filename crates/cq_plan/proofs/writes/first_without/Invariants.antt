@@ -1,5 +1,5 @@
 use Rattle.std.proofs.Common.{◌≡◌, ◌+◌, drop}
-use Rattle.cq_plan.specs.Writes.{first_without}
+use Rattle.cq_planning.specs.Refusals.{first_without}
 use Rattle.cq_plan.proofs.writes.first_without.Given as goal
 
 abbrev pub invariant-loop-place : goal.invariant-loop-place
