@@ -223,8 +223,8 @@ fn select_by(
     let items = items(q, outputs, stars, after);
     let groups = group_keys(before, q.keys.as_slice(), outputs);
     let (items, groups) = both(items, groups)?;
-    let (filter, having) = both(boxed_filter(before, &q.filter), having(after, &q.having))?;
     let order = order_by(after, q.items.as_slice(), q.shown, q.order.as_slice())?;
+    let (filter, having) = both(boxed_filter(before, &q.filter), having(after, &q.having))?;
     Ok(Select {
         distinct: q.distinct,
         items,
