@@ -8,7 +8,9 @@ mod places;
 mod relation;
 mod walk;
 
-pub use components::{Block, Distributions, colocated, partner_of, partners, plain, staying, stays};
+pub use components::{
+    Block, Distributions, colocated, partner_of, partners, plain, staying, stays,
+};
 pub use places::{distribution_at, place_of, plus};
 pub use relation::{Distribution, OuterJoin, Pushable, Relation};
 pub use walk::{count_columns, distribution_by, outer_join, pushable, put_relations};
