@@ -1,177 +1,130 @@
--- What stands goes on standing when a later statement makes an entry, or opens shard groups.
-use Rattle.std.proofs.Common.{suc, zero, ◌≡◌, ◌+◌, ◌<◌, ◌≤◌, ◌⊎◌, inl, inr, ℕ, false, List, [], ◌∷◌, ◌++◌, length, filter, refl, sym, ◌∙◌, ap, subst, arith, Some, None, Option, slice_get, append-nil, eq-eqb, length-append}
-use Rattle.std.specs.Prelude.{nat_eq, nat_lt, replicate}
-use Rattle.std.proofs.lemmas.Bool.{eqb-true}
-use Rattle.std.proofs.Math.Bool.{and-false}
-use Rattle.std.proofs.lemmas.Bool.Decides.{nat_tests, eqb_tells}
-use Rattle.std.proofs.lemmas.List.Elements.{filter-append}
-use Rattle.cq_value.specs.Tables.{rows_of}
+-- What is legal over a catalogue is legal over one that goes on, and what groups can hold over the later one they can hold over it.
+use Rattle.std.proofs.Common.{◌≡◌, ◌+◌, ◌⊎◌, inl, inr, ℕ, List, [], refl, sym, ◌∙◌, ap, subst, Option}
+use Rattle.std.specs.List.{AllByRecursion}
+use Rattle.cq_value.specs.declared.schema.Shape.{Shape}
+use Rattle.cq_value.specs.Placement.{token_of}
+use Rattle.cq_value.specs.Tables.{Table, rows_of}
+use Rattle.cq_tree.specs.declared.write.ShardOp.{ShardOp}
+use Rattle.cq_tree.specs.declared.write.ShardOp.TheVariants.{Insert, Update, Remove}
 use Rattle.cq_tree.specs.declared.journal.Who.{Who}
 use Rattle.cq_tree.specs.declared.journal.Entry.{Entry}
 use Rattle.cq_tree.specs.declared.journal.EntryKind.{EntryKind}
-use Rattle.cq_tree.specs.declared.journal.EntryKind.TheVariants.{Read, Write}
-use Rattle.cq_tree.specs.declared.query.Query.{Query}
-use Rattle.cq_tree.specs.declared.write.ShardOp.TheVariants.{Insert}
-use Rattle.cq_tree.specs.declared.write.Reply.{Reply}
-use Rattle.cq_tree.specs.declared.write.Reply.TheVariants.{Count, Duplicate}
-use Rattle.cq_tree.specs.declared.statement.Statement.{Statement}
-use Rattle.cq_tree.specs.declared.statement.Statement.TheVariants as statement
-use Rattle.cq_meaning.specs.Values.{Row, Tables}
-use Rattle.cq_meaning.specs.Effects.{reply_of}
-use Rattle.cq_catalog.specs.Contents.{Contents}
-use Rattle.cq_journal.specs.Journals.{replay, most_ids}
-use Rattle.cq_answer.specs.declared.answer.Answer.{Answer}
-use Rattle.cq_answer.specs.declared.answer.Answer.TheVariants as answer
-use Rattle.cq_answer.specs.declared.answer.Tag.TheVariants as tag
-use Rattle.cq_answer.specs.declared.fault.What.TheVariants as what
-use Rattle.cq_answer.specs.declared.fault.Fault.{Fault}
-use Rattle.cq_answer.specs.declared.fault.Fault.TheVariants as fault
-use Rattle.cq_history.specs.Environment.{Environment, shape_in}
-use Rattle.cq_history.specs.Places.{EachJournal, made_by, before, earlier, OneEntry, NoEntry}
-use Rattle.cq_history.specs.Routing.{refusal_of}
-use Rattle.cq_history.specs.Standing.{home_of, row_of, LacksIds}
-use Rattle.cq_history.specs.Between.{table_of_query, ReadsHere, InsertsHere, RunsHere, StandsHereBy, StandsHere, Grows}
-use Rattle.cq_history.proofs.Lists.{two_ways}
+use Rattle.cq_tree.specs.declared.journal.EntryKind.TheVariants.{Read, Write, MoveStart, CatchUp, Cutover, MoveStop}
+use Rattle.cq_meaning.specs.Values.{Row, column}
+use Rattle.cq_meaning.specs.Effects.{reply_of, table_of}
+use Rattle.cq_catalog.specs.Contents.{Contents, first_group_in, ends_in}
+use Rattle.cq_catalog.specs.Ranges.{index_in}
+use Rattle.cq_catalog.specs.Placement.{place_at, colocation_at, HasShard, IsDistributed, group_of}
+use Rattle.cq_catalog.specs.declared.info.Colocation.{Colocation}
+use Rattle.cq_catalog.specs.declared.info.Place.{Place}
+use Rattle.cq_catalog.specs.declared.info.Place.TheVariants.{Local, Distributed, Reference}
+use Rattle.cq_journal.specs.Fitting.{Fits, WriteSetsSorts}
+use Rattle.cq_journal.specs.Journals.{replay_from}
+use Rattle.cq_history.specs.Run.{Continues}
+use Rattle.cq_planning.specs.Database.{shape_in, IsOfGroup, IsRowOf, CanHold}
+use Rattle.cq_history.specs.Journals.{Journal, cut, held_in}
+use Rattle.cq_history.specs.Legality.{LeavesColumn, IsLegalWrite, IsLegalKind, CanFollow, IsLegal}
+use Rattle.cq_history.proofs.Lists.{all_at, all_weaker}
 
--- a journal as it was, or with one more entry, which is of a later statement
-abbrev GrowsBy : Who → List Entry → List Entry → Type 0
-GrowsBy who was es = (es ≡ was) ⊎ ((e : Entry) × (who.statement < e.who.statement) × (es ≡ was ++ e ∷ []))
+pub continues_same : (c : Contents) → Continues c c
+continues_same c = record { placed = λ table n. refl; cut = λ table n. refl; shaped = λ table n. refl }
 
--- journals after a later statement: those of the groups that there were go on, and those of new groups are empty
-pub record GoOn (who : Who) (old new : List (List Entry)) : Type 0 where
-  pub count : length old ≤ length new
-  pub each : EachJournal (λ g es. ((was : List Entry) × (slice_get old g ≡ Some was) × GrowsBy who was es) ⊎ ((length old ≤ g) × (es ≡ []))) new
+spread : (p : Place) → IsDistributed p → p ≡ Local → ⊥
+spread Local d e = d
+spread (Distributed at colocation first_shard) d e = cc
+spread (Reference group shard) d e = cc
 
-pub go_on_grown : (who : Who) (old new : List (List Entry)) (group : ℕ) (e : Entry) → who.statement < e.who.statement → Grows old new group e → GoOn who old new
-go_on_grown who old new group e later g = record {
-  count = omega (arith, g.count);
-  each = λ h es s. let w = g.each h es s in elim w.2 [
-    | inl p ↦ inl (w.0, w.1, inr (e, later, p.1))
-    | inr p ↦ inl (w.0, w.1, inl p.1)
-  ];
+pub continues_on : (a b c : Contents) → Continues a b → Continues b c → Continues a c
+continues_on a b c f g = record {
+  placed = λ table n. g.placed table (λ e. n (sym (f.placed table n) ∙ e)) ∙ f.placed table n;
+  cut = λ table d. g.cut table (subst IsDistributed (sym (f.placed table (spread (place_at a table) d))) d) ∙ f.cut table d;
+  shaped = λ table n. g.shaped table (λ e. n (sym (f.placed table n) ∙ e)) ∙ f.shaped table n;
 }
 
-pub opened_at : (xs : List (List Entry)) (n g : ℕ) (es : List Entry) → slice_get (xs ++ replicate n []) g ≡ Some es → (slice_get xs g ≡ Some es) ⊎ ((length xs ≤ g) × (es ≡ []))
-opened_at [] zero g es s = cc
-opened_at [] (suc n) zero es s = inr (omega arith, cc)
-opened_at [] (suc n) (suc g) es s = elim (opened_at [] n g es s) [ inl p ↦ cc | inr p ↦ inr (omega arith, p.1) ]
-opened_at (x ∷ xs) n zero es s = inl s
-opened_at (x ∷ xs) n (suc g) es s = elim (opened_at xs n g es s) [ inl p ↦ inl p | inr p ↦ inr (omega (arith, p.0), p.1) ]
+module _ (c later : Contents) (on : Continues c later) where
+  -- a table with a shard isn't local
+  placed_by : (table group : ℕ) (g : Option Colocation) (p : Place) → HasShard g p group → p ≡ Local → ⊥
+  placed_by table group g Local h e = h
+  placed_by table group g (Distributed at colocation first_shard) h e = cc
+  placed_by table group g (Reference own shard) h e = cc
 
--- new groups are opened, with empty journals
-pub go_on_opened : (who : Who) (old : List (List Entry)) (n : ℕ) → GoOn who old (old ++ replicate n [])
-go_on_opened who old n = record {
-  count = omega (arith, length-append old (replicate n []));
-  each = λ h es s. elim (opened_at old n h es s) [
-    | inl p ↦ inl (es, p, inl refl)
-    | inr p ↦ inr p
-  ];
-}
+  module _ (table group : ℕ) (has : HasShard (colocation_at c table) (place_at c table) group) where
+    pub same_place : place_at later table ≡ place_at c table
+    same_place = on.placed table (placed_by table group (colocation_at c table) (place_at c table) has)
 
--- ---- entries of a statement
+    pub same_shape : shape_in later table ≡ shape_in c table
+    same_shape = on.shaped table (placed_by table group (colocation_at c table) (place_at c table) has)
 
--- an entry of a later statement is none of it
-pub other : (who : Who) (e : Entry) → who.statement < e.who.statement → made_by who e ≡ false
-other who e h = elim (two_ways (nat_eq e.who.statement who.statement)) [ inl t ↦ absurd (omega (arith, eqb-true e.who.statement who.statement t)) | inr f ↦ rw f (and-false (nat_eq e.who.session who.session)) ]
+    shard_at : (p : Place) → place_at c table ≡ p → HasShard (colocation_at c table) p group → HasShard (colocation_at later table) p group
+    shard_at Local e h = h
+    shard_at (Distributed at colocation first_shard) e h =
+        subst (λ (g : Option Colocation). HasShard g (Distributed at colocation first_shard) group) (sym (on.cut table (subst IsDistributed (sym e) tt))) h
+    shard_at (Reference own shard) e h = h
 
-filter_same : (who : Who) (was es : List Entry) → GrowsBy who was es → filter (made_by who) es ≡ filter (made_by who) was
-filter_same who was es (inl p) = ap (filter (made_by who)) p
-filter_same who was es (inr p) = ap (filter (made_by who)) p.2 ∙ filter-append (made_by who) was (p.0 ∷ []) ∙ rw (other who p.0 p.1) (append-nil (filter (made_by who) was))
+    pub shard_later : HasShard (colocation_at later table) (place_at later table) group
+    shard_later = subst (λ (p : Place). HasShard (colocation_at later table) p group) (sym same_place) (shard_at (place_at c table) refl has)
 
-pub NoEntry-later : (old new : List (List Entry)) (who : Who) → GoOn who old new → NoEntry old who → NoEntry new who
-NoEntry-later old new who g none h es s = elim (g.each h es s) [
-  | inl w ↦ filter_same who w.0 es w.2 ∙ none h w.0 w.1
-  | inr p ↦ ap (filter (made_by who)) p.1
-]
+    row_at : (p : Place) (row : Row) → place_at c table ≡ p → (IsOfGroup c group table p row → IsOfGroup later group table p row) × (IsOfGroup later group table p row → IsOfGroup c group table p row)
+    row_at Local row e = (λ h. h, λ h. h)
+    row_at (Reference own shard) row e = (λ h. h, λ h. h)
+    row_at (Distributed at colocation first_shard) row e =
+        let same : group_of later table (column row at) ≡ group_of c table (column row at) =
+        ap (λ (g : Option Colocation). first_group_in g + index_in (ends_in g) (token_of (column row at))) (on.cut table (subst IsDistributed (sym e) tt)) in
+        (λ h. same ∙ h, λ h. sym same ∙ h)
 
-OneEntry-later : (old new : List (List Entry)) (own : ℕ) (who : Who) (kind : EntryKind) → GoOn who old new → OneEntry old own who kind → OneEntry new own who kind
-OneEntry-later old new own who kind g one = record {
-  there = omega (arith, one.there, g.count);
-  each = λ h es s. elim (g.each h es s) [
-    | inl w ↦ filter_same who w.0 es w.2 ∙ one.each h w.0 w.1
-    | inr p ↦ ap (filter (made_by who)) p.1 ∙ elim (eqb_tells h own) [ inl y ↦ absurd (beyond h y.1 p.0) | inr z ↦ rw z.0 refl ]
-  ];
-}
-  where
-    beyond : (h : ℕ) → h ≡ own → length old ≤ h → ⊥
-    beyond h same far = omega (arith, same, far, one.there)
+    pub row_later : (row : Row) → IsRowOf c group table row → IsRowOf later group table row
+    row_later row h = (
+      subst (λ (p : Place). IsOfGroup later group table p row) (sym same_place) ((row_at (place_at c table) row refl).0 h.0),
+      subst (λ (s : Shape). Fits s row) (sym same_shape) h.1,
+    )
 
-before-append : (who : Who) (es fs : List Entry) (e : Entry) → filter (made_by who) es ≡ e ∷ [] → before who (es ++ fs) ≡ before who es
-before-append who [] fs e h = cc
-before-append who (f ∷ es) fs e h = elim (two_ways (made_by who f)) [ inl t ↦ rw t refl | inr n ↦ rw n (ap (λ (v : List Entry). f ∷ v) (before-append who es fs e (rw n at h))) ]
+    pub row_before : (row : Row) → IsRowOf later group table row → IsRowOf c group table row
+    row_before row h = (
+      (row_at (place_at c table) row refl).1 (subst (λ (p : Place). IsOfGroup later group table p row) same_place h.0),
+      subst (λ (s : Shape). Fits s row) same_shape h.1,
+    )
 
-before_same : (who : Who) (was es : List Entry) (own : Entry) → filter (made_by who) was ≡ own ∷ [] → GrowsBy who was es → before who es ≡ before who was
-before_same who was es own f (inl p) = ap (before who) p
-before_same who was es own f (inr p) = ap (before who) p.2 ∙ before-append who was (p.0 ∷ []) own f
+    pub held_later : (j : Journal) → held_in later j table ≡ held_in c j table
+    held_later j = ap (λ (s : Shape). replay_from table s (j.base table) j.entries) same_shape
 
--- a fact of what stands before a statement's own entry, in its group
-kept_before : (old new : List (List Entry)) (own : ℕ) (who : Who) (kind : EntryKind) (P : List Entry → Type 0) → GoOn who old new → OneEntry old own who kind →
-    ((es : List Entry) → slice_get old own ≡ Some es → P (before who es)) → (es : List Entry) → slice_get new own ≡ Some es → P (before who es)
-kept_before old new own who kind P g one here es s = elim (g.each own es s) [
-  | inl w ↦
-      let found : filter (made_by who) w.0 ≡ record { who = who; kind = kind } ∷ [] = rw (eq-eqb own own refl) at (one.each own w.0 w.1) in
-      subst P (sym (before_same who w.0 es _ found w.2)) (here w.0 w.1)
-  | inr p ↦ absurd (let far = p.0 in omega (arith, far, one.there))
-]
+  pub can_hold_before : (group : ℕ) (j : Journal) → CanHold later group (λ table. rows_of (held_in later j table)) → CanHold c group (λ table. rows_of (held_in c j table))
+  can_hold_before group j can table has =
+      subst (λ (t : Table). AllByRecursion (IsRowOf c group table) (rows_of t)) (held_later table group has j)
+      (all_weaker (IsRowOf later group table) (IsRowOf c group table) (row_before table group has) (rows_of (held_in later j table)) (can table (shard_later table group has)))
 
-ReadsHere-later : (c : Contents) (old new : List (List Entry)) (who : Who) (q : Query) (P : Tables → Type 0) → GoOn who old new → ReadsHere c old who q P → ReadsHere c new who q P
-ReadsHere-later c old new who q P g here = record {
-  group = here.group;
-  only = here.only;
-  own = here.own;
-  entry = OneEntry-later old new here.group who Read g here.entry;
-  holds = kept_before old new here.group who Read (λ (v : List Entry). P ((table_of_query q, rows_of (replay (table_of_query q) (shape_in c (table_of_query q)) v)) ∷ [])) g here.entry here.holds;
-}
+  write_later : (group : ℕ) (op : ShardOp) → HasShard (colocation_at c (table_of op)) (place_at c (table_of op)) group → IsLegalWrite c group op → IsLegalWrite later group op
+  write_later group (Insert table rows) has legal = all_weaker (IsRowOf c group table) (IsRowOf later group table) (row_later table group has) rows legal
+  write_later group (Update table keeps sets) has legal = (
+    subst (λ (p : Place). AllByRecursion (LeavesColumn p) sets) (sym (same_place table group has)) legal.0,
+    subst (λ (s : Shape). WriteSetsSorts s (Update table keeps sets)) (sym (same_shape table group has)) legal.1,
+  )
+  write_later group (Remove table keeps) has legal = tt
 
-InsertsHere-later : (c : Contents) (old new : List (List Entry)) (who : Who) (table : ℕ) (row : Row) (reply : Reply) → GoOn who old new → InsertsHere c old who table row reply → InsertsHere c new who table row reply
-InsertsHere-later c old new who table row reply g here = record {
-  own = here.own;
-  entry = OneEntry-later old new (home_of c table row) who (Write (row_of table row) reply) g here.entry;
-  replied = kept_before old new (home_of c table row) who (Write (row_of table row) reply)
-      (λ (v : List Entry). (reply_of (row_of table row) (replay table (shape_in c table) v) (shape_in c table) ≡ reply) × ((replay table (shape_in c table) v).next + 1 ≤ most_ids)) g here.entry here.replied;
-}
+  kind_later : (group : ℕ) (kind : EntryKind) → IsLegalKind c group kind → IsLegalKind later group kind
+  kind_later group (Write op reply) h = (shard_later (table_of op) group h.0, write_later group op h.0 h.1)
+  kind_later group Read h = tt
+  kind_later group (MoveStart node) h = tt
+  kind_later group CatchUp h = tt
+  kind_later group Cutover h = tt
+  kind_later group MoveStop h = tt
 
-earlier_same : (who : Who) (was es : List Entry) → GrowsBy who was es → earlier who es ≡ earlier who was
-earlier_same who was es (inl p) = ap (earlier who) p
-earlier_same who was es (inr p) =
-    let e : Entry = p.0 in
-    let h = p.1 in
-    let late : nat_lt e.who.statement who.statement ≡ false = grind (arith, nat_tests) in
-    ap (earlier who) p.2 ∙ filter-append (λ (f : Entry). nat_lt f.who.statement who.statement) was (e ∷ []) ∙ rw late (append-nil (earlier who was))
+  follow_later : (group : ℕ) (j : Journal) (who : Who) (kind : EntryKind) → IsLegalKind c group kind → CanFollow c j who kind → CanFollow later j who kind
+  follow_later group j who (Write op reply) h r =
+      subst (λ (s : Shape). reply ≡ reply_of op (replay_from (table_of op) s (j.base (table_of op)) j.entries) s) (sym (same_shape (table_of op) group h.0)) r
+  follow_later group j who Read h r = r
+  follow_later group j who (MoveStart node) h r = r
+  follow_later group j who CatchUp h r = r
+  follow_later group j who Cutover h r = r
+  follow_later group j who MoveStop h r = r
 
-LacksIds-later : (c : Contents) (old new : List (List Entry)) (who : Who) (table : ℕ) (row : Row) → GoOn who old new → LacksIds c old who table row → LacksIds c new who table row
-LacksIds-later c old new who table row g lacks = record {
-  there = omega (arith, lacks.there, g.count);
-  entry = NoEntry-later old new who g lacks.entry;
-  ids = λ es s. elim (g.each (home_of c table row) es s) [
-    | inl w ↦ subst (λ (v : List Entry). most_ids < (replay table (shape_in c table) v).next + 1) (sym (earlier_same who w.0 es w.2)) (lacks.ids w.0 w.1)
-    | inr p ↦ absurd (let far = p.0 in omega (arith, far, lacks.there))
-  ];
-}
+  base_later : (group table : ℕ) (rows : List Row) → (rows ≡ []) ⊎ (HasShard (colocation_at c table) (place_at c table) group × AllByRecursion (IsRowOf c group table) rows) →
+      (rows ≡ []) ⊎ (HasShard (colocation_at later table) (place_at later table) group × AllByRecursion (IsRowOf later group table) rows)
+  base_later group table rows (inl e) = inl e
+  base_later group table rows (inr h) = inr (shard_later table group h.0, all_weaker (IsRowOf c group table) (IsRowOf later group table) (row_later table group h.0) rows h.1)
 
--- ---- what stands goes on standing
-
-module _ (e : Environment) (stores : ℕ → ℕ) (old new : List (List Entry)) (who : Who) (g : GoOn who old new) where
-  runs_later : (s : Statement) (a : Answer) → RunsHere e stores old who s a → RunsHere e stores new who s a
-  runs_later (statement.Select q) (answer.Table names rows) here = (here.0, ReadsHere-later e.catalog old new who q _ g here.1)
-  runs_later (statement.Select q) (answer.Failed (fault.Limit what.Rows n)) here = (here.0, ReadsHere-later e.catalog old new who q _ g here.1)
-  runs_later (statement.Select q) (answer.Failed fault.Memory) here = elim here [
-    | inl none ↦ inl (NoEntry-later old new who g none)
-    | inr one ↦ inr (one.0, one.1, OneEntry-later old new one.0 who Read g one.2)
-  ]
-  runs_later (statement.Write (Insert table (row ∷ []))) (answer.Tag (tag.Insert n)) here = (here.0, InsertsHere-later e.catalog old new who table row (Count 1) g here.1)
-  runs_later (statement.Write (Insert table (row ∷ []))) (answer.Failed fault.Duplicate) here = InsertsHere-later e.catalog old new who table row Duplicate g here
-  runs_later (statement.Write (Insert table (row ∷ []))) (answer.Failed (fault.Limit what.Ids n)) here = (here.0, LacksIds-later e.catalog old new who table row g here.1)
-  runs_later (statement.Write op) (answer.Failed fault.Memory) here = NoEntry-later old new who g here
-  runs_later (statement.CreateTable name columns key) a here = (NoEntry-later old new who g here.0, here.1)
-  runs_later (statement.Distribute table column count beside) a here = (NoEntry-later old new who g here.0, here.1)
-  runs_later (statement.Setting which value) a here = (NoEntry-later old new who g here.0, here.1)
-  runs_later s a here = absurd here
-
-  by_later : (f : Option Fault) (s : Statement) (a : Answer) → StandsHereBy f e stores old who s a → StandsHereBy f e stores new who s a
-  by_later (Some f) s a here = (NoEntry-later old new who g here.0, here.1)
-  by_later None s a here = runs_later s a here
-
-  pub here_later : (bound : Option Statement) (a : Answer) → StandsHere e stores old who bound a → StandsHere e stores new who bound a
-  here_later None a here = (NoEntry-later old new who g here.0, here.1, here.2)
-  here_later (Some s) a here = by_later (refusal_of e.catalog s) s a here
+  pub legal_later : (group : ℕ) (j : Journal) → IsLegal c group j → IsLegal later group j
+  legal_later group j l = record {
+    base = λ table. base_later group table (rows_of (j.base table)) (l.base table);
+    kinds = all_weaker (λ (e : Entry). IsLegalKind c group e.kind) (λ (e : Entry). IsLegalKind later group e.kind) (λ e h. kind_later group e.kind h) j.entries l.kinds;
+    follow = λ place e s. follow_later group (cut place j) e.who e.kind (all_at (λ (e : Entry). IsLegalKind c group e.kind) j.entries place e l.kinds s) (l.follow place e s);
+  }

@@ -1,19 +1,343 @@
--- The laws on histories.
-use Rattle.std.specs.Prelude.{◌≡◌, ℕ, List, Some}
-use Rattle.cq_value.specs.declared.value.Value.{Value}
+-- The laws.
+use Rattle.std.specs.Prelude.{◌-◌, ◌%◌, slice_get, ◌≡◌, ⊤, ℕ, ◌+◌, ◌≤◌, ◌<◌, true, false, List, [], ◌∷◌, ◌++◌, length, nat_eq, ◌&&◌, if◌then◌else◌, Option, Some, None}
+use Rattle.std.specs.List.{AllByRecursion, sum_by}
+use Rattle.std.specs.List.Sorted.{IsPermutation}
 use Rattle.cq_tree.specs.declared.expression.Cond.{Cond}
-use Rattle.cq_tree.specs.declared.journal.Entry.{Entry}
+use Rattle.cq_tree.specs.declared.write.ShardOp.{ShardOp}
+use Rattle.cq_tree.specs.declared.write.ShardOp.TheVariants.{Insert, Update, Remove}
+use Rattle.cq_tree.specs.declared.write.Reply.{Reply}
+use Rattle.cq_tree.specs.declared.write.Reply.TheVariants.{Count, Duplicate, OutOfRange}
+use Rattle.cq_tree.specs.declared.journal.EntryKind.{EntryKind}
+use Rattle.cq_tree.specs.declared.journal.EntryKind.TheVariants as entry
+use Rattle.cq_tree.specs.declared.query.FromTree.{Table}
+use Rattle.cq_tree.specs.declared.query.Query.{Query, Query', out-Query}
+use Rattle.cq_tree.specs.declared.statement.Statement.TheVariants as statement
+use Rattle.cq_value.specs.Tables.{rows_of}
+use Rattle.cq_meaning.specs.Values.{Row, Tables, column, table_rows}
+use Rattle.cq_meaning.specs.Results.{Answers, count_of}
+use Rattle.cq_meaning.specs.Expressions.{keeps}
+use Rattle.cq_meaning.specs.Effects.{effect, reply_of, table_of, inserts}
+use Rattle.cq_value.specs.declared.schema.Column.{Column}
+use Rattle.cq_value.specs.declared.schema.With.{With}
+use Rattle.cq_catalog.specs.Contents.{Contents, first_group_in, count_in}
+use Rattle.cq_catalog.specs.Creation.{with_table}
+use Rattle.cq_catalog.specs.Distribution.{decision_of, distribution_refusal, distributed_by, reference_refusal, with_reference}
+use Rattle.cq_catalog.specs.Whole.{IsWhole as IsWholeCatalog}
+use Rattle.cq_catalog.specs.Placement.{place_at, colocation_at, HasShard, group_of}
+use Rattle.cq_catalog.specs.declared.info.Place.{Place}
+use Rattle.cq_catalog.specs.declared.info.Place.TheVariants.{Local, Distributed, Reference}
+use Rattle.cq_journal.specs.Fitting.{Fits, WriteSetsSorts}
+use Rattle.cq_journal.specs.Journals.{most_ids}
+use Rattle.cq_journal.specs.Replies.{IsRefusal}
+use Rattle.cq_tree.specs.declared.journal.Who.{Who}
+use Rattle.cq_tree.specs.declared.statement.Statement.{Statement}
+use Rattle.cq_answer.specs.declared.answer.Answer.{Answer}
+use Rattle.cq_answer.specs.declared.answer.Answer.TheVariants as answer
+use Rattle.cq_answer.specs.declared.fault.What.TheVariants as what
+use Rattle.cq_answer.specs.declared.fault.Fault.{Fault}
+use Rattle.cq_answer.specs.declared.fault.Fault.TheVariants as fault
 use Rattle.cq_answer.specs.declared.answered.Answered.{Answered}
-use Rattle.cq_history.specs.Environment.{Environment}
-use Rattle.cq_history.specs.Routing.{point_in}
-use Rattle.cq_history.specs.ValueSets.{IsInValueSet}
-use Rattle.cq_history.specs.Log.{AllStand}
-use Rattle.cq_history.specs.Between.{IsConsistent}
+use Rattle.cq_history.specs.Run.{Run, Rules, Environment, precedes, IsSerial, first, after, environment_from, Continues}
+use Rattle.cq_planning.specs.Database.{shape_in, Held, whole, CanHold, narrowed, Narrows}
+use Rattle.cq_planning.specs.Parts.{part}
+use Rattle.cq_planning.specs.Reaching.{RowsReach, IsTouchedBy}
+use Rattle.cq_planning.specs.Touched.{among}
+use Rattle.cq_history.specs.Journals.{Journal, none, Kinds, journal_in, held_in, in_each, with_entries}
+use Rattle.cq_history.specs.Legality.{LeavesColumn, IsLegal, IsKeyed}
+use Rattle.cq_history.specs.Standing.{most_rows, IsLarge, AreAmong, counted, reply_in, HasIds, IsReady, tag_of, StandsIn, Stands}
+use Rattle.cq_history.specs.Deeds.{Deed, first_seen, in_deed, Does, HasDeed, Grows, GoesOn, Follows, deed_over}
+use Rattle.cq_history.specs.Log.{who_of, AllStandFrom, AllDoneFrom, AllStand, IsWhole, IsLaidOut, IsConsistent, IsAnswered, next_who, answered_by}
 
--- where one conjunct alone has a column in it and gives its value, the column's value set has this value at most
-abbrev pub PointsAreAlone : Type 0
-PointsAreAlone = (at : ℕ) (filter_ : Cond) (v w : Value) → point_in at filter_ ≡ Some w → IsInValueSet at filter_ v → v ≡ w
+-- ---- a write by its parts
 
--- what holds between two statements lets all answers stand over the undistributed database
-abbrev pub ConsistentStands : Type 0
-ConsistentStands = (stores : ℕ → ℕ) (e : Environment) (journals : List (List Entry)) (answers : List Answered) → IsConsistent stores e answers journals → AllStand stores journals answers
+-- where each touched group's part is made, so is the write over the undistributed database, and its count is their sum
+abbrev pub PartsAreMade : Type 0
+PartsAreMade = (c : Contents) (touched : List ℕ) (op : ShardOp) (held : Held) (counts : ℕ → ℕ) → IsKeyed c (table_of op) → IsTouchedBy c touched op → ((g : ℕ) → CanHold c g (held g)) →
+    ((g : ℕ) → among g touched ≡ true → reply_of (part c op g) (counted (held g (table_of op))) (shape_in c (table_of op)) ≡ Count (counts g)) →
+    reply_in c op (whole c held) ≡ Count (sum_by counts touched)
+
+-- where one touched group's part is refused, so is the write over the undistributed database
+abbrev pub PartIsRefused : Type 0
+PartIsRefused = (c : Contents) (touched : List ℕ) (op : ShardOp) (held : Held) (group : ℕ) (reply : Reply) → IsKeyed c (table_of op) → IsTouchedBy c touched op → ((g : ℕ) → CanHold c g (held g)) →
+    among group touched ≡ true → reply_of (part c op group) (counted (held group (table_of op))) (shape_in c (table_of op)) ≡ reply → IsRefusal reply →
+    reply_in c op (whole c held) ≡ reply
+
+-- what the groups hold after each touched group's part of a write
+abbrev pub held_after : Contents → List ℕ → ShardOp → Held → Held
+held_after c touched op held g table =
+    if among g touched && nat_eq table (table_of op) then rows_of (effect (part c op g) (counted (held g table)) (shape_in c table)) else held g table
+
+-- so are the rows of its table after the write those that it leaves of the undistributed table, up to their order; and it leaves the others
+abbrev pub PartsHaveEffect : Type 0
+PartsHaveEffect = (c : Contents) (touched : List ℕ) (op : ShardOp) (held : Held) (counts : ℕ → ℕ) → IsKeyed c (table_of op) → IsTouchedBy c touched op → ((g : ℕ) → CanHold c g (held g)) →
+    ((g : ℕ) → among g touched ≡ true → reply_of (part c op g) (counted (held g (table_of op))) (shape_in c (table_of op)) ≡ Count (counts g)) →
+    IsPermutation (rows_of (effect op (counted (table_rows (whole c held) (table_of op))) (shape_in c (table_of op)))) (table_rows (whole c (held_after c touched op held)) (table_of op))
+    × ((table : ℕ) → nat_eq table (table_of op) ≡ false → table_rows (whole c (held_after c touched op held)) table ≡ table_rows (whole c held) table)
+
+-- ---- what one statement does
+
+-- the rows of an INSERT fit their table; an UPDATE leaves the distribution column and sets values of its columns' sorts
+abbrev pub IsFitting : Contents → ShardOp → Type 0
+IsFitting c (Insert table rows) = AllByRecursion (Fits (shape_in c table)) rows
+IsFitting c (Update table filter_ sets) = AllByRecursion (LeavesColumn (place_at c table)) sets × WriteSetsSorts (shape_in c table) (Update table filter_ sets)
+IsFitting c (Remove table filter_) = ⊤
+
+-- a write that runs
+pub record IsWriting (rules : Rules) (e : Environment) (op : ShardOp) : Type 0 where
+  pub runs : rules.refusal e (statement.Write op) ≡ None
+  pub touched : IsTouchedBy e.catalog (rules.touched e.catalog (statement.Write op)) op
+  pub keyed : IsKeyed e.catalog (table_of op)
+  pub fitting : IsFitting e.catalog op
+
+-- the reply of its part over a group's journal
+abbrev pub reply_over : Contents → ShardOp → ℕ → Journal → Reply
+reply_over c op g j = reply_of (part c op g) (held_in c j (table_of op)) (shape_in c (table_of op))
+
+-- its entries are one in each of these groups, over the journals that it saw
+pub record MakesEach (d : Deed) (seen : ℕ → Journal) (groups : List ℕ) (kind : ℕ → EntryKind) : Type 0 where
+  pub one : (g : ℕ) → among g groups ≡ true → d.made g ≡ record { before = seen g; kind = kind g } ∷ []
+  pub none : (g : ℕ) → among g groups ≡ false → d.made g ≡ []
+
+-- it saw the journal of the group
+abbrev pub Saw : Deed → (ℕ → Journal) → ℕ → Type 0
+Saw d seen g = first_seen (d.made g) (d.looked g) ≡ Some (seen g)
+
+-- a write whose parts could be made in all touched groups, and were made
+abbrev pub MadeDoes : Type 0
+MadeDoes = (rules : Rules) (run : Run) (e : Environment) (d : Deed) (seen : ℕ → Journal) (op : ShardOp) (counts : ℕ → ℕ) → IsWriting rules e op →
+    ((g : ℕ) → among g (rules.touched e.catalog (statement.Write op)) ≡ true → (reply_over e.catalog op g (seen g) ≡ Count (counts g)) × HasIds e.catalog (part e.catalog op g) (seen g)) →
+    MakesEach d seen (rules.touched e.catalog (statement.Write op)) (λ g. entry.Write (part e.catalog op g) (Count (counts g))) →
+    Does rules run e d (Some (statement.Write op)) (answer.Tag (tag_of op (sum_by counts (rules.touched e.catalog (statement.Write op)))))
+
+-- the answer to a refused write
+abbrev pub refusal_by : Reply → Answer
+refusal_by (Count n) = answer.Failed fault.Memory
+refusal_by Duplicate = answer.Failed fault.Duplicate
+refusal_by OutOfRange = answer.Failed fault.ValueOutOfRange
+
+-- the parts in the groups before this one could be made
+abbrev pub WereReady : Contents → List ℕ → Deed → (ℕ → Journal) → ShardOp → ℕ → Type 0
+WereReady c touched d seen op group = (g : ℕ) → among g touched ≡ true → g < group → Saw d seen g × IsReady c (part c op g) (seen g)
+
+-- a write whose part was refused in one of the touched groups, after those before it were ready
+abbrev pub RefusedDoes : Type 0
+RefusedDoes = (rules : Rules) (run : Run) (e : Environment) (d : Deed) (seen : ℕ → Journal) (op : ShardOp) (group : ℕ) (r : Reply) → IsWriting rules e op → IsRefusal r →
+    among group (rules.touched e.catalog (statement.Write op)) ≡ true → reply_over e.catalog op group (seen group) ≡ r → HasIds e.catalog (part e.catalog op group) (seen group) →
+    WereReady e.catalog (rules.touched e.catalog (statement.Write op)) d seen op group →
+    MakesEach d seen (group ∷ []) (λ g. entry.Write (part e.catalog op g) r) → Does rules run e d (Some (statement.Write op)) (refusal_by r)
+
+-- a write for whose part one of the touched groups lacks ids, after those before it were ready
+abbrev pub LacksDoes : Type 0
+LacksDoes = (rules : Rules) (run : Run) (e : Environment) (d : Deed) (seen : ℕ → Journal) (op : ShardOp) (group : ℕ) → IsWriting rules e op →
+    among group (rules.touched e.catalog (statement.Write op)) ≡ true → Saw d seen group →
+    most_ids < (held_in e.catalog (seen group) (table_of op)).next + length (inserts (part e.catalog op group)) →
+    WereReady e.catalog (rules.touched e.catalog (statement.Write op)) d seen op group →
+    ((g : ℕ) → d.made g ≡ []) → Does rules run e d (Some (statement.Write op)) (answer.Failed (fault.Limit what.Ids most_ids))
+
+-- the database that a statement forms of what it saw in the groups that it touches
+abbrev pub seen_whole : Contents → List ℕ → (ℕ → Journal) → Tables
+seen_whole c touched seen = whole c (narrowed touched (λ g table. rows_of (held_in c (seen g) table)))
+
+-- a query of one table alone, without CTE and subquery, with such a WHERE
+abbrev pub ReadsOneTable : Contents → List ℕ → Query → Type 0
+ReadsOneTable c touched (Query' cs ctes ss subs (Table table n) filter_ grouped keys aggs having items shown distinct order limit offset names) =
+    (count_of ctes ≡ 0) × (count_of subs ≡ 0) × RowsReach c touched table (place_at c table) filter_
+ReadsOneTable c touched q = ⊥
+
+-- for such a query the untouched groups don't matter
+abbrev pub OneTableNarrows : Type 0
+OneTableNarrows = (c : Contents) (touched : List ℕ) (q : Query) → ReadsOneTable c touched q →
+    ((rows : List Row) → Narrows c touched (λ db. Answers q db rows)) × Narrows c touched (IsLarge q)
+
+-- a query that read each touched group once
+pub record IsReading (rules : Rules) (e : Environment) (d : Deed) (seen : ℕ → Journal) (q : Query) : Type 0 where
+  pub runs : rules.refusal e (statement.Select q) ≡ None
+  pub made : MakesEach d seen (rules.touched e.catalog (statement.Select q)) (λ g. entry.Read)
+
+abbrev pub ReadDoes : Type 0
+ReadDoes = (rules : Rules) (run : Run) (e : Environment) (d : Deed) (seen : ℕ → Journal) (q : Query) (rows : List Row) → IsReading rules e d seen q →
+    Narrows e.catalog (rules.touched e.catalog (statement.Select q)) (λ db. Answers q db rows) → Answers q (seen_whole e.catalog (rules.touched e.catalog (statement.Select q)) seen) rows →
+    Does rules run e d (Some (statement.Select q)) (answer.Table (out-Query q).names rows)
+
+abbrev pub LargeDoes : Type 0
+LargeDoes = (rules : Rules) (run : Run) (e : Environment) (d : Deed) (seen : ℕ → Journal) (q : Query) → IsReading rules e d seen q →
+    Narrows e.catalog (rules.touched e.catalog (statement.Select q)) (IsLarge q) → IsLarge q (seen_whole e.catalog (rules.touched e.catalog (statement.Select q)) seen) →
+    Does rules run e d (Some (statement.Select q)) (answer.Failed (fault.Limit what.Rows most_rows))
+
+-- ---- deeds
+
+-- a statement's entries, made in some groups and then in others
+abbrev pub GrowsOn : Type 0
+GrowsOn = (who : Who) (some more : Kinds) (old mid new : List Journal) → length mid ≡ length old → Grows who some old mid → Grows who more mid new → Grows who (λ g. some g ++ more g) old new
+
+-- so in one group after another: at first no entry; one more in a group that has none yet
+abbrev pub GrowsNone : Type 0
+GrowsNone = (who : Who) (kind : ℕ → EntryKind) (journals : List Journal) → Grows who (in_each [] kind) journals journals
+
+abbrev pub GrowsEach : Type 0
+GrowsEach = (who : Who) (kind : ℕ → EntryKind) (done : List ℕ) (group : ℕ) (old mid new : List Journal) → among group done ≡ false → length mid ≡ length old →
+    Grows who (in_each done kind) old mid → Grows who (in_each (group ∷ []) kind) mid new → Grows who (in_each (done ++ group ∷ []) kind) old new
+
+-- one entry in one group
+abbrev pub GrowsInOne : Type 0
+GrowsInOne = (who : Who) (kind : ℕ → EntryKind) (group : ℕ) (old new : List Journal) → length new ≡ length old → group < length old → journal_in new group ≡ with_entries who (kind group ∷ []) (journal_in old group) →
+    ((g : ℕ) → nat_eq g group ≡ false → journal_in new g ≡ journal_in old g) → Grows who (in_each (group ∷ []) kind) old new
+
+-- a deed stays in the journals as those go on by entries of other statements
+abbrev pub DeedsStay : Type 0
+DeedsStay = (run : Run) (who : Who) (d : Deed) (old new : List Journal) → GoesOn run who old new → HasDeed run old who d → HasDeed run new who d
+
+-- so they do where they grow by the entries of another statement, which doesn't come before
+abbrev pub GrowsByOther : Type 0
+GrowsByOther = (run : Run) (who other : Who) (added : Kinds) (old new : List Journal) → (who ≡ other → ⊥) → precedes run other who ≡ false → Grows other added old new → GoesOn run who old new
+
+-- what stands by a deed stands over the undistributed database, at every choice of places of legal journals that have the deed
+abbrev pub DeedsStand : Type 0
+DeedsStand = (rules : Rules) (run : Run) (e : Environment) (last : Contents) (journals : List Journal) (who : Who) (d : Deed) (bound : Option Statement) (a : Answer) → Continues e.catalog last →
+    ((g : ℕ) → IsLegal last g (journal_in journals g)) → Does rules run e d bound a → HasDeed run journals who d → Stands rules run e journals who bound a
+
+-- so do all deeds of a log, and those of a block come to them: they need only be in the journals that the block leaves
+abbrev pub BlockIsDone : Type 0
+BlockIsDone = (rules : Rules) (run : Run) (e : Environment) (last : Contents) (old new : List Journal) (answers block : List Answered) → AllByRecursion (λ (a : Answered). GoesOn run (who_of a) old new) answers →
+    AllDoneFrom rules run e last old answers → AllDoneFrom rules run (environment_from e answers) last new block → AllDoneFrom rules run e last new (answers ++ block)
+
+-- and all answers stand whose deeds legal journals have
+abbrev pub DoneStands : Type 0
+DoneStands = (rules : Rules) (run : Run) (e : Environment) (last : Contents) (journals : List Journal) (answers : List Answered) → ((g : ℕ) → IsLegal last g (journal_in journals g)) →
+    AllDoneFrom rules run e last journals answers → AllStandFrom rules run e journals answers
+
+-- ---- a serial script
+
+abbrev pub LogBegins : Type 0
+LogBegins = (rules : Rules) (run : Run) → IsConsistent rules run (first run) [] []
+
+-- what each statement does, in order, keeps what holds between two statements
+abbrev pub LogGoesOn : Type 0
+LogGoesOn = (rules : Rules) (run : Run) → IsSerial run → (e : Environment) (answers : List Answered) (old new : List Journal) (d : Deed) (bound : Option Statement) (a : Answer) →
+    IsConsistent rules run e answers old → Does rules run e d bound a → Follows (next_who answers) d old new → Continues e.catalog (after e bound a).catalog →
+    IsLaidOut run (after e bound a).catalog new → IsConsistent rules run (after e bound a) (answers ++ answered_by (next_who answers) e bound a ∷ []) new
+
+abbrev pub AnswersGoOn : Type 0
+AnswersGoOn = (rules : Rules) (run : Run) → IsSerial run → (e next : Environment) (answers : List Answered) (old new : List Journal) (bound : Option Statement) (a : Answer) →
+    IsConsistent rules run e answers old → IsAnswered rules run e next (next_who answers) old new bound a → IsConsistent rules run next (answers ++ answered_by (next_who answers) e bound a ∷ []) new
+
+-- no deed
+abbrev pub idle : Deed
+idle = record { made = λ g. []; looked = λ g. None }
+
+-- an answer that stands without an entry, and leaves the catalogue and the settings
+abbrev pub IdleIsAnswered : Type 0
+IdleIsAnswered = (rules : Rules) (run : Run) (e : Environment) (who : Who) (journals : List Journal) (bound : Option Statement) (a : Answer) →
+    StandsIn rules run e (in_deed e.catalog idle) bound a → after e bound a ≡ e → IsAnswered rules run e e who journals journals bound a
+
+-- looks at the journals of these groups
+abbrev pub look_at : List ℕ → List Journal → ℕ → Option Journal
+look_at groups journals g = if among g groups then Some (journal_in journals g) else None
+
+-- a statement over the journals that changes no table's place, and made these entries
+abbrev pub DeedIsAnswered : Type 0
+DeedIsAnswered = (rules : Rules) (run : Run) (e next : Environment) (who : Who) (old new : List Journal) (looked : List ℕ) (added : Kinds) (bound : Option Statement) (a : Answer) →
+    Does rules run e (deed_over who old (look_at looked old) added) bound a → ((g : ℕ) → among g looked ≡ true → g < length old) → Grows who added old new → length new ≡ length old → after e bound a ≡ next → next.catalog ≡ e.catalog →
+    IsAnswered rules run e next who old new bound a
+
+-- where the catalogue stays, the journals stay laid out
+abbrev pub StaysLaidOut : Type 0
+StaysLaidOut = (run : Run) (c : Contents) (who : Who) (added : Kinds) (old new : List Journal) → Grows who added old new → length new ≡ length old → IsLaidOut run c old → IsLaidOut run c new
+
+-- a catalogue goes on as a table is created, distributed, or made a reference table, and primary keys have the distribution column
+abbrev pub GoesOnKeyed : Contents → Contents → Type 0
+GoesOnKeyed c later = Continues c later × (((table : ℕ) → IsKeyed c table) → (table : ℕ) → IsKeyed later table)
+
+abbrev pub CatalogGoesOn : Type 0
+CatalogGoesOn = (c : Contents) → IsWholeCatalog c →
+    ((name : List ℕ) (columns : List Column) (key : List ℕ) → GoesOnKeyed c (with_table c name columns key))
+    × ((table column : List ℕ) (count : Option ℕ) (beside : With) (default : ℕ) → distribution_refusal c table column count beside default ≡ None →
+    GoesOnKeyed c (distributed_by c (decision_of c table column count beside default)))
+    × ((table : List ℕ) → reference_refusal c table ≡ None → GoesOnKeyed c (with_reference c table))
+
+-- the groups that a later catalogue has besides are opened on their nodes
+pub record OpensGroups (run : Run) (c later : Contents) (new : List Journal) : Type 0 where
+  pub groups : length new ≡ later.groups
+  pub kept : (colocation : ℕ) → colocation < length c.colocations → slice_get later.colocations colocation ≡ slice_get c.colocations colocation
+  pub opened : (colocation group : ℕ) → length c.colocations ≤ colocation → first_group_in (slice_get later.colocations colocation) ≤ group →
+      group < first_group_in (slice_get later.colocations colocation) + count_in (slice_get later.colocations colocation) →
+      (journal_in new group).opening ≡ (group - first_group_in (slice_get later.colocations colocation)) % run.workers + 1
+  pub everywhere : (table group shard : ℕ) → place_at c table ≡ Local → place_at later table ≡ Reference group shard → (journal_in new group).opening ≡ 0
+
+abbrev pub OpensLaidOut : Type 0
+OpensLaidOut = (run : Run) (c later : Contents) (who : Who) (added : Kinds) (old new : List Journal) → IsWholeCatalog c → GoesOnKeyed c later → Grows who added old new → OpensGroups run c later new →
+    IsLaidOut run c old → IsLaidOut run later new
+
+-- a statement that changes the catalogue or the settings
+abbrev pub CatalogIsAnswered : Type 0
+CatalogIsAnswered = (rules : Rules) (run : Run) (e : Environment) (who : Who) (old new : List Journal) (s : Statement) (a : Answer) → IsWholeCatalog e.catalog →
+    StandsIn rules run e (in_deed e.catalog idle) (Some s) a → GoesOnKeyed e.catalog (after e (Some s) a).catalog → Grows who none old new → OpensGroups run e.catalog (after e (Some s) a).catalog new →
+    IsAnswered rules run e (after e (Some s) a) who old new (Some s) a
+
+-- so all answers stand, and the log is whole
+abbrev pub LogStands : Type 0
+LogStands = (rules : Rules) (run : Run) (e : Environment) (answers : List Answered) (journals : List Journal) → IsConsistent rules run e answers journals →
+    AllStand rules run journals answers × IsWhole run (environment_from (first run) answers).catalog answers journals
+
+-- ---- the answers of a serial statement that reads or writes several groups
+
+-- the groups are there
+abbrev pub AreThere : List ℕ → List Journal → Type 0
+AreThere groups journals = (g : ℕ) → among g groups ≡ true → g < length journals
+
+-- every touched group's part was made
+abbrev pub MadeIsAnswered : Type 0
+MadeIsAnswered = (rules : Rules) (run : Run) (e : Environment) (who : Who) (old new : List Journal) (op : ShardOp) (counts : ℕ → ℕ) → IsWriting rules e op →
+    let touched = rules.touched e.catalog (statement.Write op) in
+    ((g : ℕ) → among g touched ≡ true → (reply_over e.catalog op g (journal_in old g) ≡ Count (counts g)) × HasIds e.catalog (part e.catalog op g) (journal_in old g)) →
+    Grows who (in_each touched (λ g. entry.Write (part e.catalog op g) (Count (counts g)))) old new → length new ≡ length old →
+    IsAnswered rules run e e who old new (Some (statement.Write op)) (answer.Tag (tag_of op (sum_by counts touched)))
+
+-- the parts of the groups before this one could be made, and the part of this one was refused
+abbrev pub RefusedIsAnswered : Type 0
+RefusedIsAnswered = (rules : Rules) (run : Run) (e : Environment) (who : Who) (old new : List Journal) (op : ShardOp) (group : ℕ) (r : Reply) → IsWriting rules e op → IsRefusal r →
+    let touched = rules.touched e.catalog (statement.Write op) in
+    AreThere touched old → among group touched ≡ true → reply_over e.catalog op group (journal_in old group) ≡ r → HasIds e.catalog (part e.catalog op group) (journal_in old group) →
+    ((g : ℕ) → among g touched ≡ true → g < group → IsReady e.catalog (part e.catalog op g) (journal_in old g)) →
+    Grows who (in_each (group ∷ []) (λ g. entry.Write (part e.catalog op g) r)) old new → length new ≡ length old →
+    IsAnswered rules run e e who old new (Some (statement.Write op)) (refusal_by r)
+
+-- the parts of the groups before this one could be made, and this one lacks ids
+abbrev pub LacksIsAnswered : Type 0
+LacksIsAnswered = (rules : Rules) (run : Run) (e : Environment) (who : Who) (journals : List Journal) (op : ShardOp) (group : ℕ) → IsWriting rules e op →
+    let touched = rules.touched e.catalog (statement.Write op) in
+    AreThere touched journals → among group touched ≡ true → most_ids < (held_in e.catalog (journal_in journals group) (table_of op)).next + length (inserts (part e.catalog op group)) →
+    ((g : ℕ) → among g touched ≡ true → g < group → IsReady e.catalog (part e.catalog op g) (journal_in journals g)) →
+    IsAnswered rules run e e who journals journals (Some (statement.Write op)) (answer.Failed (fault.Limit what.Ids most_ids))
+
+-- every touched group was read, and the answer is one over these groups alone
+abbrev pub ReadIsAnswered : Type 0
+ReadIsAnswered = (rules : Rules) (run : Run) (e : Environment) (who : Who) (old new : List Journal) (q : Query) (rows : List Row) → rules.refusal e (statement.Select q) ≡ None →
+    let touched = rules.touched e.catalog (statement.Select q) in
+    Narrows e.catalog touched (λ db. Answers q db rows) → Answers q (seen_whole e.catalog touched (journal_in old)) rows →
+    Grows who (in_each touched (λ g. entry.Read)) old new → length new ≡ length old →
+    IsAnswered rules run e e who old new (Some (statement.Select q)) (answer.Table (out-Query q).names rows)
+
+abbrev pub LargeIsAnswered : Type 0
+LargeIsAnswered = (rules : Rules) (run : Run) (e : Environment) (who : Who) (old new : List Journal) (q : Query) → rules.refusal e (statement.Select q) ≡ None →
+    let touched = rules.touched e.catalog (statement.Select q) in
+    Narrows e.catalog touched (IsLarge q) → IsLarge q (seen_whole e.catalog touched (journal_in old)) →
+    Grows who (in_each touched (λ g. entry.Read)) old new → length new ≡ length old →
+    IsAnswered rules run e e who old new (Some (statement.Select q)) (answer.Failed (fault.Limit what.Rows most_rows))
+
+-- memory ran out after some of the touched groups were read
+abbrev pub ReadLacksMemory : Type 0
+ReadLacksMemory = (rules : Rules) (run : Run) (e : Environment) (who : Who) (old new : List Journal) (q : Query) (groups : List ℕ) → rules.refusal e (statement.Select q) ≡ None →
+    AreAmong groups (rules.touched e.catalog (statement.Select q)) → Grows who (in_each groups (λ g. entry.Read)) old new → length new ≡ length old →
+    IsAnswered rules run e e who old new (Some (statement.Select q)) (answer.Failed fault.Memory)
+
+-- memory ran out before a write was entered
+abbrev pub WriteLacksMemory : Type 0
+WriteLacksMemory = (rules : Rules) (run : Run) (e : Environment) (who : Who) (journals : List Journal) (op : ShardOp) → rules.refusal e (statement.Write op) ≡ None →
+    IsAnswered rules run e e who journals journals (Some (statement.Write op)) (answer.Failed fault.Memory)
+
+-- a text that isn't bound, or a statement that is refused before it runs
+abbrev pub RefusalIsAnswered : Type 0
+RefusalIsAnswered = (rules : Rules) (run : Run) (e : Environment) (who : Who) (journals : List Journal) (f : Fault) →
+    IsAnswered rules run e e who journals journals None (answer.Failed f)
+    × ((s : Statement) → rules.refusal e s ≡ Some f → IsAnswered rules run e e who journals journals (Some s) (answer.Failed f))

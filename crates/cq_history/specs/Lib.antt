@@ -1,10 +1,8 @@
-pub mod Environment
-pub mod Places
+pub mod Run
+pub mod Journals
+pub mod Whole
 pub mod Legality
-pub mod Routing
-pub mod ValueSets
-pub mod Room
 pub mod Standing
+pub mod Deeds
 pub mod Log
-pub mod Between
 pub mod Laws

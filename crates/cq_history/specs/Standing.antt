@@ -1,112 +1,154 @@
--- When an answer stands: its entries are those of its statement, it is the statement's meaning over the undistributed database
--- at every choice of places that takes the statement's own places, and a refusal has its cause.
-use Rattle.std.specs.Prelude.{◌≡◌, ◌+◌, ◌<◌, ◌≤◌, ◌⊎◌, ℕ, ⊤, true, List, [], ◌∷◌, length, Option, Some, None, option_map, slice_get, codes}
-use Rattle.cq_value.specs.declared.value.Value.{Value}
+-- When an answer stands, and the cause of each refusal. The cases are read once, over a view of the statement.
+use Rattle.std.specs.Prelude.{◌≡◌, ◌+◌, ◌<◌, ◌≤◌, ℕ, ⊤, true, List, [], ◌∷◌, length, Option, Some, None, option_map, codes}
+use Rattle.std.specs.List.{sum_by}
 use Rattle.cq_value.specs.declared.value.Value.TheVariants as values
 use Rattle.cq_value.specs.declared.schema.Column.{Column}
 use Rattle.cq_value.specs.declared.schema.With.{With}
 use Rattle.cq_value.specs.Tables.{Table}
 use Rattle.cq_tree.specs.declared.journal.Who.{Who}
-use Rattle.cq_tree.specs.declared.journal.Entry.{Entry}
 use Rattle.cq_tree.specs.declared.journal.EntryKind.TheVariants.{Read, Write}
 use Rattle.cq_tree.specs.declared.query.Query.{Query, out-Query}
 use Rattle.cq_tree.specs.declared.write.ShardOp.{ShardOp}
-use Rattle.cq_tree.specs.declared.write.ShardOp.TheVariants.{Insert}
+use Rattle.cq_tree.specs.declared.write.ShardOp.TheVariants.{Insert, Update, Remove}
 use Rattle.cq_tree.specs.declared.write.Reply.{Reply}
-use Rattle.cq_tree.specs.declared.write.Reply.TheVariants.{Count, Duplicate}
+use Rattle.cq_tree.specs.declared.write.Reply.TheVariants.{Count, Duplicate, OutOfRange}
 use Rattle.cq_tree.specs.declared.statement.Statement.{Statement}
 use Rattle.cq_tree.specs.declared.statement.Statement.TheVariants as statement
-use Rattle.cq_meaning.specs.Values.{Row, column, table_rows}
-use Rattle.cq_meaning.specs.Queries.{AnswersWith}
+use Rattle.cq_meaning.specs.Values.{Row, Tables, table_rows}
+use Rattle.cq_meaning.specs.Results.{Answers, results_of}
 use Rattle.cq_meaning.specs.Limits.{is_large}
-use Rattle.cq_meaning.specs.Effects.{numbered, reply_of}
+use Rattle.cq_meaning.specs.Effects.{numbered, reply_of, table_of, inserts}
 use Rattle.cq_catalog.specs.Contents.{Contents}
 use Rattle.cq_catalog.specs.Creation.{creation_refusal}
-use Rattle.cq_catalog.specs.Distribution.{decision_of, distribution_refusal, opened_by}
-use Rattle.cq_catalog.specs.Placement.{place_at, group_of}
+use Rattle.cq_catalog.specs.Distribution.{decision_of, distribution_refusal, opened_by, reference_refusal}
 use Rattle.cq_catalog.specs.Refusals.{first_of}
-use Rattle.cq_catalog.specs.declared.info.Place.{Place}
-use Rattle.cq_catalog.specs.declared.info.Place.TheVariants.{Distributed}
-use Rattle.cq_journal.specs.Journals.{replay, most_ids}
+use Rattle.cq_journal.specs.Journals.{most_ids}
+use Rattle.cq_journal.specs.Replies.{IsMade}
 use Rattle.cq_answer.specs.declared.answer.Answer.{Answer}
 use Rattle.cq_answer.specs.declared.answer.Answer.TheVariants as answer
+use Rattle.cq_answer.specs.declared.answer.Tag.{Tag}
 use Rattle.cq_answer.specs.declared.answer.Tag.TheVariants as tag
 use Rattle.cq_answer.specs.declared.fault.What.TheVariants as what
 use Rattle.cq_answer.specs.declared.fault.Fault.{Fault}
 use Rattle.cq_answer.specs.declared.fault.Fault.TheVariants as fault
 use Rattle.cq_answer.specs.Faults.{fault_of_catalog}
-use Rattle.cq_history.specs.Environment.{Environment, shape_in}
-use Rattle.cq_history.specs.Places.{before, earlier, database, OneEntry, NoEntry, TakesPlace}
-use Rattle.cq_history.specs.Routing.{point_of, refusal_of}
-use Rattle.cq_history.specs.Room.{room_fault}
+use Rattle.cq_history.specs.Run.{Run, Rules, Environment, shards_on, room_fault}
+use Rattle.cq_planning.specs.Database.{shape_in, whole}
+use Rattle.cq_planning.specs.Parts.{part}
+use Rattle.cq_planning.specs.Touched.{among}
+use Rattle.cq_history.specs.Journals.{Journal, journal_in, cut, held_in, Kinds, none, in_each, TakesPlaces, Step, steps_of, kinds_in, IsLook}
+use Rattle.cq_history.specs.Whole.{held_at}
+
+-- a statement as it is judged: what holds of its entries in a group, what holds of the undistributed database wherever that may be taken, and
+-- what holds of the journal of a group as the statement saw it
+pub record View : Type 1 where
+  pub made : ℕ → (List Step → Type 0) → Type 0
+  pub wherever : (Tables → Type 0) → Type 0
+  pub saw : ℕ → (Journal → Type 0) → Type 0
+
+-- it has exactly these entries
+abbrev pub Enters : View → Kinds → Type 0
+Enters v kinds = (g : ℕ) → v.made g (λ steps. kinds_in steps ≡ kinds g)
+
+-- by journals: the places of the groups where it has an entry are those, and all others are free
+abbrev pub in_journals : Run → Contents → List Journal → Who → View
+in_journals run c journals who = record {
+  made = λ g P. P (steps_of who (journal_in journals g));
+  wherever = λ P. (places : ℕ → ℕ) → TakesPlaces journals who places → P (whole c (held_at c journals places));
+  saw = λ g P. (place : ℕ) × IsLook run who (journal_in journals g).entries place × P (cut place (journal_in journals g));
+}
 
 -- ---- queries
-
--- the statement has one Read, in the only group that the query reads, and whatever places are taken beside that one, the fact holds of the undistributed database
-pub record ReadsOne (c : Contents) (journals : List (List Entry)) (who : Who) (q : Query) (P : List (ℕ × List Row) → Type 0) : Type 0 where
-  pub group : ℕ
-  pub only : point_of c q ≡ Some group
-  pub entry : OneEntry journals group who Read
-  pub holds : (places : ℕ → ℕ) → TakesPlace journals group who places → P (database c journals places)
 
 -- the most rows of a group of a query
 abbrev pub most_rows : ℕ
 most_rows = 2147483648
 
--- ---- an INSERT of one row
+-- the query has a group of more rows
+abbrev pub IsLarge : Query → Tables → Type 0
+IsLarge q db = is_large q db (results_of q db) ≡ true
 
-abbrev pub value_at : Place → Row → Value
-value_at (Distributed at colocation first_shard) row = column row at
-value_at _ row = values.Null
+-- one Read in each of these groups
+abbrev pub reads : List ℕ → Kinds
+reads groups = in_each groups (λ g. Read)
 
--- the group that a row belongs to
-abbrev pub home_of : Contents → ℕ → Row → ℕ
-home_of c table row = group_of c table (value_at (place_at c table) row)
+-- some of the groups, each once
+abbrev pub AreAmong : List ℕ → List ℕ → Type 0
+AreAmong some all = (g : ℕ) → among g some ≡ true → among g all ≡ true
+
+-- ---- writes
 
 -- rows with the ids from 0 on
 abbrev pub counted : List Row → Table
 counted rows = record { next = length rows; pairs = numbered 0 rows }
 
-abbrev pub row_of : ℕ → Row → ShardOp
-row_of table row = Insert table (row ∷ [])
+-- the reply of a write over the undistributed database
+abbrev pub reply_in : Contents → ShardOp → Tables → Reply
+reply_in c op db = reply_of op (counted (table_rows db (table_of op))) (shape_in c (table_of op))
 
--- one Write, in the row's group, with the reply of the whole statement over the undistributed table, and the group had an id for the row
-pub record StandsInsert (c : Contents) (journals : List (List Entry)) (who : Who) (table : ℕ) (row : Row) (reply : Reply) : Type 0 where
-  pub entry : OneEntry journals (home_of c table row) who (Write (row_of table row) reply)
-  pub replied : (places : ℕ → ℕ) → TakesPlace journals (home_of c table row) who places →
-      reply_of (row_of table row) (counted (table_rows (database c journals places) table)) (shape_in c table) ≡ reply
-  pub ids : (es : List Entry) → slice_get journals (home_of c table row) ≡ Some es → (replay table (shape_in c table) (before who es)).next + 1 ≤ most_ids
+-- there are ids for the inserted rows
+abbrev pub HasIds : Contents → ShardOp → Journal → Type 0
+HasIds c op j = (held_in c j (table_of op)).next + length (inserts op) ≤ most_ids
 
--- no entry, since the row's group has no id left for the row as the statement looks
-pub record LacksIds (c : Contents) (journals : List (List Entry)) (who : Who) (table : ℕ) (row : Row) : Type 0 where
-  pub entry : NoEntry journals who
-  pub there : home_of c table row < length journals
-  pub ids : (es : List Entry) → slice_get journals (home_of c table row) ≡ Some es → most_ids < (replay table (shape_in c table) (earlier who es)).next + 1
+-- the write could be made there
+abbrev pub IsReady : Contents → ShardOp → Journal → Type 0
+IsReady c op j = IsMade (reply_of op (held_in c j (table_of op)) (shape_in c (table_of op))) × HasIds c op j
+
+-- the parts in the groups before this one could be made
+abbrev pub AreReady : Contents → List ℕ → View → ShardOp → ℕ → Type 0
+AreReady c touched v op group = (g : ℕ) → among g touched ≡ true → g < group → v.saw g (IsReady c (part c op g))
+
+-- its part was made in each touched group, and the counts' sum is the whole write's count
+pub record IsMadeIn (c : Contents) (touched : List ℕ) (v : View) (op : ShardOp) (n : ℕ) : Type 0 where
+  pub counts : ℕ → ℕ
+  pub sum : n ≡ sum_by counts touched
+  pub entries : Enters v (in_each touched (λ g. Write (part c op g) (Count (counts g))))
+  pub replied : v.wherever (λ db. reply_in c op db ≡ Count n)
+  pub ids : (g : ℕ) → among g touched ≡ true → v.saw g (HasIds c (part c op g))
+
+-- its part was refused in one touched group, which alone has an entry, and so is the whole write
+pub record IsRefusedIn (c : Contents) (touched : List ℕ) (v : View) (op : ShardOp) (reply : Reply) : Type 0 where
+  pub group : ℕ
+  pub there : among group touched ≡ true
+  pub entries : Enters v (in_each (group ∷ []) (λ g. Write (part c op g) reply))
+  pub replied : v.wherever (λ db. reply_in c op db ≡ reply)
+  pub ids : v.saw group (HasIds c (part c op group))
+  pub ready : AreReady c touched v op group
+
+-- no entry, since one touched group has too few ids for its part
+pub record LacksIdsIn (c : Contents) (touched : List ℕ) (v : View) (op : ShardOp) : Type 0 where
+  pub group : ℕ
+  pub there : among group touched ≡ true
+  pub entries : Enters v none
+  pub ids : v.saw group (λ j. most_ids < (held_in c j (table_of op)).next + length (inserts (part c op group)))
+  pub ready : AreReady c touched v op group
+
+abbrev pub tag_of : ShardOp → ℕ → Tag
+tag_of (Insert table rows) n = tag.Insert n
+tag_of (Update table filter_ sets) n = tag.Update n
+tag_of (Remove table filter_) n = tag.Delete n
 
 -- ---- statements on the catalogue
 
--- the table of one column that `create_distributed_table` answers: its name, and one row with an empty text
-pub record IsDistributed (names : List (List ℕ)) (rows : List Row) : Type 0 where
-  pub named : names ≡ codes "create_distributed_table" ∷ []
-  pub row : rows ≡ (values.Text [] ∷ []) ∷ []
+-- one column of this name, and one row with an empty text
+abbrev pub IsNotice : List ℕ → Answer → Type 0
+IsNotice name (answer.Table names rows) = (names ≡ name ∷ []) × (rows ≡ (values.Text [] ∷ []) ∷ [])
+IsNotice name a = ⊥
 
-abbrev pub IsNotice : Answer → Type 0
-IsNotice (answer.Table names rows) = IsDistributed names rows
-IsNotice _ = ⊥
-
--- why a table isn't created
 abbrev pub creation_fault : Environment → List ℕ → List Column → Option Fault
 creation_fault e name columns = option_map fault_of_catalog (creation_refusal e.catalog name columns)
 
--- why a table isn't distributed, where the setting gives this count: by the catalogue, and else for want of stores, where the workers had so many at the start
-abbrev pub distribution_fault : Contents → ℕ → (ℕ → ℕ) → List ℕ → List ℕ → Option ℕ → With → Option Fault
-distribution_fault c default stores table column_ count beside =
+-- by the catalogue, and else for want of stores
+abbrev pub distribution_fault : Run → Environment → List ℕ → List ℕ → Option ℕ → With → Option Fault
+distribution_fault run e table column count beside =
+    let default = e.settings.shard_count in
     first_of
-    (option_map fault_of_catalog (distribution_refusal c table column_ count beside default)
-    ∷ room_fault c stores (opened_by c (decision_of c table column_ count beside default)).count
+    (option_map fault_of_catalog (distribution_refusal e.catalog table column count beside default)
+    ∷ room_fault run e.catalog (shards_on run (opened_by e.catalog (decision_of e.catalog table column count beside default)).count)
     ∷ [])
 
--- ---- all statements
+abbrev pub reference_fault : Run → Environment → List ℕ → Option Fault
+reference_fault run e table = first_of (option_map fault_of_catalog (reference_refusal e.catalog table) ∷ room_fault run e.catalog (λ at. 1) ∷ [])
 
 -- a refusal, where there is one, and else an answer of this kind, unless memory ran out
 abbrev pub Yields : Option Fault → (Answer → Type 0) → Answer → Type 0
@@ -114,32 +156,35 @@ Yields refusal done (answer.Failed fault.Memory) = ⊤
 Yields (Some f) done a = a ≡ answer.Failed f
 Yields None done a = done a
 
--- what the answer of a statement that runs says of the journals. Want of memory leaves at most the Read of a query
-abbrev pub Runs : Environment → (ℕ → ℕ) → List (List Entry) → Who → Statement → Answer → Type 0
-Runs e stores journals who (statement.CreateTable name columns key) a =
-    NoEntry journals who × Yields (creation_fault e name columns) (λ (b : Answer). b ≡ answer.Tag tag.CreateTable) a
-Runs e stores journals who (statement.Distribute table column_ count beside) a =
-    NoEntry journals who × Yields (distribution_fault e.catalog e.settings.shard_count stores table column_ count beside) IsNotice a
-Runs e stores journals who (statement.Setting which value) a = NoEntry journals who × Yields None (λ (b : Answer). b ≡ answer.Tag tag.Setting) a
-Runs e stores journals who (statement.Select q) (answer.Table names rows) =
-    (names ≡ (out-Query q).names) × ReadsOne e.catalog journals who q (λ db. AnswersWith q db [] rows)
-Runs e stores journals who (statement.Select q) (answer.Failed (fault.Limit what.Rows n)) =
-    (n ≡ most_rows) × ReadsOne e.catalog journals who q (λ db. is_large q db [] ≡ true)
-Runs e stores journals who (statement.Select q) (answer.Failed fault.Memory) =
-    NoEntry journals who ⊎ ((group : ℕ) × (point_of e.catalog q ≡ Some group) × OneEntry journals group who Read)
-Runs e stores journals who (statement.Write (Insert table (row ∷ []))) (answer.Tag (tag.Insert n)) =
-    (n ≡ 1) × StandsInsert e.catalog journals who table row (Count 1)
-Runs e stores journals who (statement.Write (Insert table (row ∷ []))) (answer.Failed fault.Duplicate) = StandsInsert e.catalog journals who table row Duplicate
-Runs e stores journals who (statement.Write (Insert table (row ∷ []))) (answer.Failed (fault.Limit what.Ids n)) =
-    (n ≡ most_ids) × LacksIds e.catalog journals who table row
-Runs e stores journals who (statement.Write op) (answer.Failed fault.Memory) = NoEntry journals who
-Runs e stores journals who s a = ⊥
+-- ---- all statements
 
-abbrev pub StandsBy : Option Fault → Environment → (ℕ → ℕ) → List (List Entry) → Who → Statement → Answer → Type 0
-StandsBy (Some f) e stores journals who s a = NoEntry journals who × Yields (Some f) (λ b. ⊥) a
-StandsBy None e stores journals who s a = Runs e stores journals who s a
+-- what the answer of a statement that runs says. Want of memory leaves a query at most one Read in each touched group, and all else no entry
+abbrev pub Runs : List ℕ → Run → Environment → View → Statement → Answer → Type 0
+Runs touched run e v (statement.CreateTable name columns key) a = Enters v none × Yields (creation_fault e name columns) (λ (b : Answer). b ≡ answer.Tag tag.CreateTable) a
+Runs touched run e v (statement.Distribute table column count beside) a =
+    Enters v none × Yields (distribution_fault run e table column count beside) (IsNotice (codes "create_distributed_table")) a
+Runs touched run e v (statement.Reference table) a = Enters v none × Yields (reference_fault run e table) (IsNotice (codes "create_reference_table")) a
+Runs touched run e v (statement.Setting which value) a = Enters v none × Yields None (λ (b : Answer). b ≡ answer.Tag tag.Setting) a
+Runs touched run e v (statement.Select q) (answer.Table names rows) = (names ≡ (out-Query q).names) × Enters v (reads touched) × v.wherever (λ db. Answers q db rows)
+Runs touched run e v (statement.Select q) (answer.Failed (fault.Limit what.Rows n)) =
+    (n ≡ most_rows) × Enters v (reads touched) × v.wherever (IsLarge q)
+Runs touched run e v (statement.Select q) (answer.Failed fault.Memory) = (groups : List ℕ) × AreAmong groups touched × Enters v (reads groups)
+Runs touched run e v (statement.Write op) (answer.Tag t) = (n : ℕ) × (t ≡ tag_of op n) × IsMadeIn e.catalog touched v op n
+Runs touched run e v (statement.Write op) (answer.Failed fault.Duplicate) = IsRefusedIn e.catalog touched v op Duplicate
+Runs touched run e v (statement.Write op) (answer.Failed fault.ValueOutOfRange) = IsRefusedIn e.catalog touched v op OutOfRange
+Runs touched run e v (statement.Write op) (answer.Failed (fault.Limit what.Ids n)) = (n ≡ most_ids) × LacksIdsIn e.catalog touched v op
+Runs touched run e v (statement.Write op) (answer.Failed fault.Memory) = Enters v none
+Runs touched run e v s a = ⊥
 
--- what an answer says of the journals, where the workers had so many stores at the start. A statement that is refused has no entry
-abbrev pub Stands : Environment → (ℕ → ℕ) → List (List Entry) → Who → Option Statement → Answer → Type 0
-Stands e stores journals who None a = NoEntry journals who × (f : Fault) × (a ≡ answer.Failed f)
-Stands e stores journals who (Some s) a = StandsBy (refusal_of e.catalog s) e stores journals who s a
+abbrev pub RunsUnless : Option Fault → List ℕ → Run → Environment → View → Statement → Answer → Type 0
+RunsUnless (Some f) touched run e v s a = Enters v none × Yields (Some f) (λ b. ⊥) a
+RunsUnless None touched run e v s a = Runs touched run e v s a
+
+-- an answer by the statement's view. A statement that is refused has no entry
+abbrev pub StandsIn : Rules → Run → Environment → View → Option Statement → Answer → Type 0
+StandsIn rules run e v None a = Enters v none × (f : Fault) × (a ≡ answer.Failed f)
+StandsIn rules run e v (Some s) a = RunsUnless (rules.refusal e s) (rules.touched e.catalog s) run e v s a
+
+-- an answer stands
+abbrev pub Stands : Rules → Run → Environment → List Journal → Who → Option Statement → Answer → Type 0
+Stands rules run e journals who bound a = StandsIn rules run e (in_journals run e.catalog journals who) bound a

@@ -1,11 +1,61 @@
-ghost use Rattle.cq_history.specs.Laws.{PointsAreAlone, ConsistentStands};
-ghost use Rattle.cq_history.specs.ValueSets.{KeptInValueSets, KeptHasDemands};
+ghost use Rattle.cq_history.specs.Laws.{PartsAreMade, PartIsRefused, PartsHaveEffect, MadeDoes, RefusedDoes, LacksDoes, ReadDoes, LargeDoes, OneTableNarrows, GrowsOn, GrowsNone, GrowsEach, GrowsInOne, DeedsStay, GrowsByOther, DeedsStand, BlockIsDone, DoneStands};
+ghost use Rattle.cq_history.specs.Laws.{LogBegins, LogGoesOn, AnswersGoOn, IdleIsAnswered, DeedIsAnswered, StaysLaidOut, CatalogGoesOn, LogStands};
+ghost use Rattle.cq_history.specs.Laws.{MadeIsAnswered, RefusedIsAnswered, LacksIsAnswered, ReadIsAnswered, LargeIsAnswered, ReadLacksMemory, WriteLacksMemory, RefusalIsAnswered, OpensLaidOut, CatalogIsAnswered};
 
-/// A row that WHERE keeps has its value in the value set of each column, and all that WHERE demands; a point's value is the only
-/// one of its set; what holds between two statements lets every answer stand. Does nothing.
-pub fn history_laws()
-    ensures kept { KeptInValueSets }
-    ensures demands { KeptHasDemands }
-    ensures alone { PointsAreAlone }
-    ensures stands { ConsistentStands }
+/// The reply of a write over the undistributed database, by the replies of its parts in the groups that it touches; and what it
+/// leaves of that database, by what they leave of the groups. Does nothing.
+pub fn write_laws()
+    ensures made { PartsAreMade }
+    ensures refused { PartIsRefused }
+    ensures effect { PartsHaveEffect }
+{}
+
+/// What one statement does, by what it saw in the groups that it touches. Does nothing.
+pub fn statement_laws()
+    ensures made { MadeDoes }
+    ensures refused { RefusedDoes }
+    ensures lacks { LacksDoes }
+    ensures read { ReadDoes }
+    ensures large { LargeDoes }
+    ensures one_table { OneTableNarrows }
+    ensures grows { GrowsOn }
+    ensures grows_none { GrowsNone }
+    ensures grows_each { GrowsEach }
+    ensures grows_in_one { GrowsInOne }
+{}
+
+/// What a statement did stays in the journals as those grow, and stands over the undistributed database. Does nothing.
+pub fn deed_laws()
+    ensures stay { DeedsStay }
+    ensures grows { GrowsByOther }
+    ensures stand { DeedsStand }
+    ensures block { BlockIsDone }
+    ensures all_stand { DoneStands }
+{}
+
+/// What the statements of a serial script do, in order, makes a whole log in which all answers stand. Does nothing.
+pub fn script_laws()
+    ensures begins { LogBegins }
+    ensures goes_on { LogGoesOn }
+    ensures answers { AnswersGoOn }
+    ensures idle { IdleIsAnswered }
+    ensures deed { DeedIsAnswered }
+    ensures laid { StaysLaidOut }
+    ensures catalog { CatalogGoesOn }
+    ensures stands { LogStands }
+{}
+
+/// What a serial statement answers that reads or writes several shard groups or changes the catalogue, by the journals before it.
+/// Does nothing.
+pub fn answer_laws()
+    ensures made { MadeIsAnswered }
+    ensures refused { RefusedIsAnswered }
+    ensures lacks { LacksIsAnswered }
+    ensures read { ReadIsAnswered }
+    ensures large { LargeIsAnswered }
+    ensures read_memory { ReadLacksMemory }
+    ensures write_memory { WriteLacksMemory }
+    ensures refusal { RefusalIsAnswered }
+    ensures opens { OpensLaidOut }
+    ensures catalog { CatalogIsAnswered }
 {}

@@ -64,7 +64,7 @@ sorts_updated ks row new (x ∷ xs) h s = sorts_updated ks row (with_set row new
 
 -- writes
 
-abbrev PairFits : Shape → Pair → Type 0
+abbrev pub PairFits : Shape → Pair → Type 0
 PairFits shape p = Fits shape p.1
 
 numbered_fits : (shape : Shape) (n : ℕ) (rows : List Row) → AllByRecursion (Fits shape) rows → AllByRecursion (PairFits shape) (numbered n rows)
@@ -122,7 +122,7 @@ module _ (shapes : ℕ → Shape) (table : ℕ) where
   entered_fits t Cutover f s h = h
   entered_fits t MoveStop f s h = h
 
-  from_fits : (t : Table) (es : List Entry) → InsertsFit shapes es → UpdatesSetSorts shapes es → AllByRecursion (PairFits (shapes table)) t.pairs →
+  pub from_fits : (t : Table) (es : List Entry) → InsertsFit shapes es → UpdatesSetSorts shapes es → AllByRecursion (PairFits (shapes table)) t.pairs →
       AllByRecursion (PairFits (shapes table)) (replay_from table (shapes table) t es).pairs
   from_fits t [] f s h = h
   from_fits t (e ∷ es) f s h = from_fits (entered table (shapes table) t e.kind) es f.1 s.1 (entered_fits t e.kind f.0 s.0 h)

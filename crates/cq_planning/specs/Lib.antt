@@ -10,3 +10,5 @@ pub mod Touched
 pub mod Parts
 pub mod Routing
 pub mod Refusals
+pub mod Database
+pub mod Reaching

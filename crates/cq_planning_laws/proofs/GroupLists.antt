@@ -18,7 +18,7 @@ use Rattle.cq_catalog.specs.declared.info.Colocation.{Colocation}
 use Rattle.cq_catalog.proofs.RangeLaws.{index_below}
 use Rattle.cq_catalog.proofs.GroupLaws.{cut_part, cut_length}
 use Rattle.cq_planning.specs.Touched.{among, numbers, in_order}
-use Rattle.cq_planning_laws.specs.Reaching.{IsAscendingFrom}
+use Rattle.cq_planning.specs.Reaching.{IsAscendingFrom}
 use Rattle.cq_planning_laws.proofs.Lists.{two_ways, got}
 use Rattle.cq_planning_laws.proofs.Lists.{among_more}
 

@@ -11,7 +11,7 @@ use Rattle.cq_meaning.specs.Widths.{bits, input_bits, table_bits, from_bits, out
 use Rattle.cq_meaning_laws.specs.WholeRules.{Step, steps_of, IsBoundStep}
 use Rattle.cq_catalog.specs.Contents.{Contents}
 use Rattle.cq_catalog.specs.Placement.{place_at}
-use Rattle.cq_planning_laws.specs.Database.{shape_in}
+use Rattle.cq_planning.specs.Database.{shape_in}
 use Rattle.cq_planning_laws.specs.Laid.{IsColumnOf, IsLaidFrom, IsLaid, IsLaidStep}
 use Rattle.cq_planning_laws.specs.Laws.{BoundIsLaid}
 

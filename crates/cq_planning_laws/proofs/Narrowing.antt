@@ -26,7 +26,7 @@ use Rattle.cq_planning.specs.Occurrences.{Occurrence, key_values, occurrences_fr
 use Rattle.cq_planning.specs.Pushable.{Pushable, pushable}
 use Rattle.cq_planning.specs.Touched.{among, groups_at, groups_of}
 use Rattle.cq_planning.specs.ValueSets.{ValueSet, value_set, has_value}
-use Rattle.cq_planning_laws.specs.Database.{shape_in}
+use Rattle.cq_planning.specs.Database.{shape_in}
 use Rattle.cq_planning_laws.specs.Laid.{IsLaidFrom, IsLaid, IsColumnOf}
 use Rattle.cq_planning_laws.proofs.Lists.{two_ways, all_append, all_weaker, all_left, all_right}
 use Rattle.cq_planning_laws.proofs.Lists.{among_here}

@@ -23,7 +23,7 @@ use Rattle.cq_planning.specs.Conjuncts.{conjuncts, inner_conjuncts, equalities}
 use Rattle.cq_planning.specs.Narrowing.{distribution_in, is_at, met_with, narrowed_by, right_sets, sets_in}
 use Rattle.cq_planning.specs.Relations.{Distribution, partner_of, is_between}
 use Rattle.cq_planning.specs.ValueSets.{ValueSet, has_value}
-use Rattle.cq_planning_laws.specs.Database.{shape_in}
+use Rattle.cq_planning.specs.Database.{shape_in}
 use Rattle.cq_planning_laws.specs.Laid.{IsLaidFrom, IsLaid, IsColumnOf}
 use Rattle.cq_planning_laws.proofs.Lists.{two_ways, all_append, all_weaker}
 use Rattle.cq_planning_laws.proofs.Rows.{Says, Agrees, kept_says, pairs_agree, meet_has, same_number, and_true}

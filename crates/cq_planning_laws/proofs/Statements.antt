@@ -23,7 +23,7 @@ use Rattle.cq_catalog.specs.declared.info.TableInfo.{TableInfo}
 use Rattle.cq_journal.specs.Fitting.{AreOfKinds}
 use Rattle.cq_planning.specs.Occurrences.{Occurrence, occurrences_in, occurrences_of, blocks_of}
 use Rattle.cq_planning.specs.Touched.{among, groups_of, touched_by_query, touched}
-use Rattle.cq_planning_laws.specs.Database.{shape_in, Held, joined, whole_at, whole_from, whole, IsOfGroup, IsRowOf, CanHold, narrowed}
+use Rattle.cq_planning.specs.Database.{shape_in, Held, joined, whole_at, whole_from, whole, IsOfGroup, IsRowOf, CanHold, narrowed}
 use Rattle.cq_planning_laws.specs.Laid.{IsLaid, IsColumnOf, IsLaidStep, IsLaidStatement}
 use Rattle.cq_planning_laws.specs.Laws.{QueriesNarrow, LargeNarrows, UntouchedAreFree}
 use Rattle.cq_planning_laws.specs.Simple.{GivesSimply}

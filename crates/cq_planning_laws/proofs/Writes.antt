@@ -19,7 +19,7 @@ use Rattle.cq_planning.specs.Occurrences.{key_values}
 use Rattle.cq_planning.specs.Touched.{among, groups_with, groups_at, row_groups, touched_by_where, in_order}
 use Rattle.cq_planning.specs.ValueSets.{ValueSet, value_set, has_value}
 use Rattle.cq_planning_laws.specs.Laws.{WritesTouch}
-use Rattle.cq_planning_laws.specs.Reaching.{RowsReach, RowsAreOf, Reaches, IsTouchedBy}
+use Rattle.cq_planning.specs.Reaching.{RowsReach, RowsAreOf, Reaches, IsTouchedBy}
 use Rattle.cq_planning_laws.proofs.Lists.{among_here, among_more, among_only}
 use Rattle.cq_planning_laws.proofs.Lists.{two_ways}
 use Rattle.cq_planning_laws.proofs.GroupLists.{ascends, among_numbers, numbers_only, in_order_has, in_order_only, placed, Cut, cut_there, group_range, groups_below}

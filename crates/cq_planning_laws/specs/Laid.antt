@@ -9,7 +9,7 @@ use Rattle.cq_catalog.specs.Contents.{Contents}
 use Rattle.cq_catalog.specs.Placement.{place_at}
 use Rattle.cq_catalog.specs.declared.info.Place.{Place}
 use Rattle.cq_catalog.specs.declared.info.Place.TheVariants.{Local, Distributed, Reference}
-use Rattle.cq_planning_laws.specs.Database.{shape_in}
+use Rattle.cq_planning.specs.Database.{shape_in}
 
 -- a distribution column is among so many columns
 abbrev pub IsColumnOf : ℕ → Place → Type 0

@@ -26,8 +26,8 @@ use Rattle.cq_planning.specs.Classes.{Connected, first_of_class}
 use Rattle.cq_planning.specs.ValueSets.{ascending, IsAscending, IsAscendingSet}
 use Rattle.cq_planning.specs.Occurrences.{Occurrence, occurrences_of}
 use Rattle.cq_planning.specs.Touched.{among, touched}
-use Rattle.cq_planning_laws.specs.Database.{Held, whole, CanHold, Narrows, shape_in}
-use Rattle.cq_planning_laws.specs.Reaching.{IsTouchedBy}
+use Rattle.cq_planning.specs.Database.{Held, whole, CanHold, Narrows, shape_in}
+use Rattle.cq_planning.specs.Reaching.{IsTouchedBy}
 use Rattle.cq_planning_laws.specs.Laid.{IsColumnOf, IsLaidStatement}
 use Rattle.cq_planning_laws.specs.Simple.{GivesSimply}
 

@@ -1,0 +1,77 @@
+-- A view that says more of a statement lets more stand.
+use Rattle.std.proofs.Common.{ℕ, List, Some, None, Option}
+use Rattle.cq_tree.specs.declared.write.ShardOp.{ShardOp}
+use Rattle.cq_tree.specs.declared.write.Reply.{Reply}
+use Rattle.cq_tree.specs.declared.write.Reply.TheVariants.{Duplicate, OutOfRange}
+use Rattle.cq_tree.specs.declared.statement.Statement.{Statement}
+use Rattle.cq_tree.specs.declared.statement.Statement.TheVariants as statement
+use Rattle.cq_meaning.specs.Values.{Tables}
+use Rattle.cq_meaning.specs.Results.{Answers}
+use Rattle.cq_catalog.specs.Contents.{Contents}
+use Rattle.cq_answer.specs.declared.answer.Answer.{Answer}
+use Rattle.cq_answer.specs.declared.answer.Answer.TheVariants as answer
+use Rattle.cq_answer.specs.declared.fault.What.TheVariants as what
+use Rattle.cq_answer.specs.declared.fault.Fault.{Fault}
+use Rattle.cq_answer.specs.declared.fault.Fault.TheVariants as fault
+use Rattle.cq_history.specs.Run.{Run, Rules, Environment}
+use Rattle.cq_history.specs.Journals.{Journal, Kinds, Step, none}
+use Rattle.cq_history.specs.Standing.{View, Enters, reads, AreReady, IsMadeIn, IsRefusedIn, LacksIdsIn, Runs, RunsUnless, StandsIn}
+
+module _ (v w : View) (made : (g : ℕ) (P : List Step → Type 0) → v.made g P → w.made g P) (wherever : (P : Tables → Type 0) → v.wherever P → w.wherever P)
+    (saw : (g : ℕ) (P : Journal → Type 0) → v.saw g P → w.saw g P) where
+  enters : (kinds : Kinds) → Enters v kinds → Enters w kinds
+  enters kinds h g = made g _ (h g)
+
+  ready_map : (c : Contents) (touched : List ℕ) (op : ShardOp) (group : ℕ) → AreReady c touched v op group → AreReady c touched w op group
+  ready_map c touched op group h g m l = saw g _ (h g m l)
+
+  made_map : (c : Contents) (touched : List ℕ) (op : ShardOp) (n : ℕ) → IsMadeIn c touched v op n → IsMadeIn c touched w op n
+  made_map c touched op n h = record {
+    counts = h.counts;
+    sum = h.sum;
+    entries = enters _ h.entries;
+    replied = wherever _ h.replied;
+    ids = λ g m. saw g _ (h.ids g m);
+  }
+
+  refused_map : (c : Contents) (touched : List ℕ) (op : ShardOp) (r : Reply) → IsRefusedIn c touched v op r → IsRefusedIn c touched w op r
+  refused_map c touched op r h = record {
+    group = h.group;
+    there = h.there;
+    entries = enters _ h.entries;
+    replied = wherever _ h.replied;
+    ids = saw h.group _ h.ids;
+    ready = ready_map c touched op h.group h.ready;
+  }
+
+  lacks_map : (c : Contents) (touched : List ℕ) (op : ShardOp) → LacksIdsIn c touched v op → LacksIdsIn c touched w op
+  lacks_map c touched op h = record {
+    group = h.group;
+    there = h.there;
+    entries = enters none h.entries;
+    ids = saw h.group _ h.ids;
+    ready = ready_map c touched op h.group h.ready;
+  }
+
+  runs_map : (touched : List ℕ) (run : Run) (e : Environment) (s : Statement) (a : Answer) → Runs touched run e v s a → Runs touched run e w s a
+  runs_map touched run e (statement.CreateTable name columns key) a h = (enters none h.0, h.1)
+  runs_map touched run e (statement.Distribute table column count beside) a h = (enters none h.0, h.1)
+  runs_map touched run e (statement.Reference table) a h = (enters none h.0, h.1)
+  runs_map touched run e (statement.Setting which value) a h = (enters none h.0, h.1)
+  runs_map touched run e (statement.Select q) (answer.Table names rows) h = (h.0, enters (reads touched) h.1, wherever (λ db. Answers q db rows) h.2)
+  runs_map touched run e (statement.Select q) (answer.Failed (fault.Limit what.Rows n)) h = (h.0, enters (reads touched) h.1, wherever _ h.2)
+  runs_map touched run e (statement.Select q) (answer.Failed fault.Memory) h = (h.0, h.1, enters (reads h.0) h.2)
+  runs_map touched run e (statement.Write op) (answer.Tag t) h = (h.0, h.1, made_map e.catalog touched op h.0 h.2)
+  runs_map touched run e (statement.Write op) (answer.Failed fault.Duplicate) h = refused_map e.catalog touched op Duplicate h
+  runs_map touched run e (statement.Write op) (answer.Failed fault.ValueOutOfRange) h = refused_map e.catalog touched op OutOfRange h
+  runs_map touched run e (statement.Write op) (answer.Failed (fault.Limit what.Ids n)) h = (h.0, lacks_map e.catalog touched op h.1)
+  runs_map touched run e (statement.Write op) (answer.Failed fault.Memory) h = enters none h
+  runs_map touched run e s a h = absurd h
+
+  unless_map : (f : Option Fault) (touched : List ℕ) (run : Run) (e : Environment) (s : Statement) (a : Answer) → RunsUnless f touched run e v s a → RunsUnless f touched run e w s a
+  unless_map (Some f) touched run e s a h = (enters none h.0, h.1)
+  unless_map None touched run e s a h = runs_map touched run e s a h
+
+  pub stands_map : (rules : Rules) (run : Run) (e : Environment) (bound : Option Statement) (a : Answer) → StandsIn rules run e v bound a → StandsIn rules run e w bound a
+  stands_map rules run e None a h = (enters none h.0, h.1, h.2)
+  stands_map rules run e (Some s) a h = unless_map (rules.refusal e s) (rules.touched e.catalog s) run e s a h

@@ -1,0 +1,33 @@
+use Rattle.cq_history.proofs.Opening.{opens_laid_out, catalog_is_answered}
+use Rattle.cq_history.proofs.Answering.{made_is_answered, refused_is_answered, lacks_is_answered, read_is_answered, large_is_answered, read_lacks_memory, write_lacks_memory, refusal_is_answered}
+use Rattle.cq_history.proofs.laws.answer_laws.Goals as goal
+
+pub returns-clause-made : goal.returns-clause-made
+returns-clause-made c = made_is_answered
+
+pub returns-clause-refused : goal.returns-clause-refused
+returns-clause-refused c = refused_is_answered
+
+pub returns-clause-lacks : goal.returns-clause-lacks
+returns-clause-lacks c = lacks_is_answered
+
+pub returns-clause-read : goal.returns-clause-read
+returns-clause-read c = read_is_answered
+
+pub returns-clause-large : goal.returns-clause-large
+returns-clause-large c = large_is_answered
+
+pub returns-clause-read_memory : goal.returns-clause-read_memory
+returns-clause-read_memory c = read_lacks_memory
+
+pub returns-clause-write_memory : goal.returns-clause-write_memory
+returns-clause-write_memory c = write_lacks_memory
+
+pub returns-clause-refusal : goal.returns-clause-refusal
+returns-clause-refusal c = refusal_is_answered
+
+pub returns-clause-opens : goal.returns-clause-opens
+returns-clause-opens c = opens_laid_out
+
+pub returns-clause-catalog : goal.returns-clause-catalog
+returns-clause-catalog c = catalog_is_answered
