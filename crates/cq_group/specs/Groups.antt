@@ -3,6 +3,7 @@ use Rattle.std.specs.Prelude.{◌≡◌, ◌+◌, ◌<◌, ◌≤◌, ℕ, ⊤, 
 use Rattle.std.specs.List.{AllByRecursion, flat_map}
 use Rattle.cq_value.specs.declared.schema.Shape.{Shape}
 use Rattle.cq_value.specs.Changes.{applied}
+use Rattle.cq_value.specs.Tables.{empty_table}
 use Rattle.cq_tree.specs.declared.journal.Entry.{Entry}
 use Rattle.cq_tree.specs.declared.journal.EntryKind.{EntryKind}
 use Rattle.cq_tree.specs.declared.journal.EntryKind.TheVariants.{Read, Write, MoveStart, CatchUp, Cutover, MoveStop}
@@ -10,6 +11,7 @@ use Rattle.cq_tree.specs.declared.write.Reply.{Reply}
 use Rattle.cq_tree.specs.declared.write.ShardOp.{ShardOp}
 use Rattle.cq_meaning.specs.Effects.{effect, reply_of, table_of, inserts}
 use Rattle.cq_journal.specs.Journals.{most_ids, replay, EachReplied}
+use Rattle.cq_journal.specs.Records.{Journal}
 use Rattle.cq_store.specs.Stores.{StoreState}
 use Rattle.cq_group.specs.declared.group.GroupTable.{GroupTable}
 use Rattle.cq_group.specs.declared.group.GroupState.{GroupState}
@@ -17,6 +19,10 @@ use Rattle.cq_group.specs.declared.group.GroupState.{GroupState}
 -- the group's entries
 abbrev pub entries_of : {X : Type 0} → GroupState X → List Entry
 entries_of g = g.journal.entries.list
+
+-- its journal, whose entries began with nothing
+abbrev pub journal_of : {X : Type 0} → GroupState X → Journal
+journal_of g = record { number = g.journal.group; opening = g.journal.opening; base = λ table. empty_table; entries = entries_of g }
 
 -- the tables of a group, without their stores: number, shape, shard id and number of stores
 abbrev pub Outline : Type 0

@@ -17,7 +17,8 @@ use Rattle.cq_answer.specs.declared.fault.What.TheVariants as what
 use Rattle.cq_answer.specs.declared.fault.Fault.{Fault}
 use Rattle.cq_answer.specs.declared.fault.Fault.TheVariants as fault
 use Rattle.cq_history.specs.Run.{Environment, after}
-use Rattle.cq_history.specs.Journals.{Journal, journal_in, none, in_each, Step, consecutive}
+use Rattle.cq_journal.specs.Records.{Journal}
+use Rattle.cq_history.specs.Journals.{journal_in, none, in_each, Step, consecutive}
 use Rattle.cq_planning.specs.Parts.{part}
 use Rattle.cq_planning.specs.Touched.{among}
 use Rattle.cq_history.specs.Standing.{most_rows, tag_of, RunsUnless, Yields}

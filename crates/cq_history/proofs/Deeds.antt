@@ -7,7 +7,8 @@ use Rattle.cq_tree.specs.declared.journal.Entry.{Entry}
 use Rattle.cq_meaning.specs.Values.{Tables}
 use Rattle.cq_catalog.specs.Contents.{Contents}
 use Rattle.cq_history.specs.Run.{Run, Environment, Continues, precedes}
-use Rattle.cq_history.specs.Journals.{made_by, Journal, journal_in, cut, held_in, kinds_of, has_some, before, TakesPlaces, Step, steps_of, kinds_in, IsLook}
+use Rattle.cq_journal.specs.Records.{Journal}
+use Rattle.cq_history.specs.Journals.{made_by, journal_in, cut, held_in, kinds_of, has_some, before, TakesPlaces, Step, steps_of, kinds_in, IsLook}
 use Rattle.cq_history.specs.Whole.{held_at}
 use Rattle.cq_history.specs.Legality.{IsLegal}
 use Rattle.cq_history.specs.Standing.{in_journals}

@@ -33,12 +33,13 @@ use Rattle.cq_answer.specs.declared.fault.What.TheVariants as what
 use Rattle.cq_answer.specs.declared.fault.Fault.{Fault}
 use Rattle.cq_answer.specs.declared.fault.Fault.TheVariants as fault
 use Rattle.cq_history.specs.Run.{Run, Rules, Environment}
-use Rattle.cq_planning.specs.Database.{shape_in, Held, joined, whole_at, whole_from, whole, IsOfGroup, narrowed, Narrows}
+use Rattle.cq_planning.specs.Database.{IsLarge, shape_in, Held, joined, whole_at, whole_from, whole, IsOfGroup, narrowed, Narrows}
 use Rattle.cq_planning.specs.Parts.{rows_in, part}
 use Rattle.cq_planning.specs.Touched.{among}
-use Rattle.cq_history.specs.Journals.{Journal, journal_in, held_in, in_each, Step, kinds_in, with_entries}
+use Rattle.cq_journal.specs.Records.{Journal}
+use Rattle.cq_history.specs.Journals.{journal_in, held_in, in_each, Step, kinds_in, with_entries}
 use Rattle.cq_history.specs.Legality.{IsLegalKind, CanFollow, IsLegalStep}
-use Rattle.cq_history.specs.Standing.{Enters, most_rows, IsLarge, reads, counted, HasIds, AreReady, IsRefusedIn, tag_of, RunsUnless}
+use Rattle.cq_history.specs.Standing.{Enters, most_rows, reads, counted, HasIds, AreReady, IsRefusedIn, tag_of, RunsUnless}
 use Rattle.cq_history.specs.Deeds.{Deed, first_seen, MaySee, in_deed, Does}
 use Rattle.cq_history.specs.Laws.{IsFitting, IsWriting, reply_over as reply_over_journal, MakesEach, MadeDoes, WereReady, RefusedDoes, LacksDoes, seen_whole, IsReading, ReadDoes, LargeDoes, GrowsOn}
 use Rattle.cq_history.proofs.Lists.{two_ways, all_weaker}
@@ -220,7 +221,7 @@ read_does rules run e d seen q rows r narrows h =
 
 pub large_does : LargeDoes
 large_does rules run e d seen q r narrows h =
-    read_by rules run e d seen q r (answer.Failed (fault.Limit what.Rows most_rows)) (refl, read_entries rules run e d seen q r, read_wherever rules run e d seen q r (IsLarge q) narrows h)
+    read_by rules run e d seen q r (answer.Failed (fault.Limit what.Rows most_rows)) (refl, read_entries rules run e d seen q r, λ simple. read_wherever rules run e d seen q r (IsLarge q) (narrows simple) h)
 
 -- ---- entries in some groups and then in others
 

@@ -9,7 +9,8 @@ use Rattle.std.proofs.lemmas.List.Elements.{filter-append}
 use Rattle.cq_tree.specs.declared.journal.Who.{Who}
 use Rattle.cq_tree.specs.declared.journal.Entry.{Entry}
 use Rattle.cq_tree.specs.declared.journal.EntryKind.{EntryKind}
-use Rattle.cq_history.specs.Journals.{Journal, made_by, kinds_of, has_some, before, Step, steps_after, steps_of, kinds_in, IsLook, with_entries, consecutive}
+use Rattle.cq_journal.specs.Records.{Journal}
+use Rattle.cq_history.specs.Journals.{made_by, kinds_of, has_some, before, Step, steps_after, steps_of, kinds_in, IsLook, with_entries, consecutive}
 use Rattle.cq_history.specs.Run.{Run, precedes}
 use Rattle.cq_history.proofs.Lists.{two_ways, all_append}
 

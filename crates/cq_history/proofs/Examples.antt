@@ -22,7 +22,8 @@ use Rattle.cq_answer.specs.declared.answer.Tag.TheVariants as tag
 use Rattle.cq_answer.specs.declared.answered.Settings.{Settings}
 use Rattle.cq_answer.specs.declared.fault.Fault.{Fault}
 use Rattle.cq_history.specs.Run.{Run, Rules, Environment}
-use Rattle.cq_history.specs.Journals.{Journal, journal_in, with_entries, in_each, before}
+use Rattle.cq_journal.specs.Records.{Journal}
+use Rattle.cq_history.specs.Journals.{journal_in, with_entries, in_each, before}
 use Rattle.cq_planning.specs.Parts.{part}
 use Rattle.cq_planning.specs.Touched.{among}
 use Rattle.cq_history.specs.Standing.{Stands, RunsUnless, in_journals, HasIds}

@@ -22,7 +22,8 @@ use Rattle.cq_journal.specs.Fitting.{Fits, WriteSetsSorts}
 use Rattle.cq_journal.specs.Journals.{replay_from}
 use Rattle.cq_history.specs.Run.{Continues}
 use Rattle.cq_planning.specs.Database.{shape_in, IsOfGroup, IsRowOf, CanHold}
-use Rattle.cq_history.specs.Journals.{Journal, cut, held_in}
+use Rattle.cq_journal.specs.Records.{Journal}
+use Rattle.cq_history.specs.Journals.{cut, held_in}
 use Rattle.cq_history.specs.Legality.{LeavesColumn, IsLegalWrite, IsLegalKind, CanFollow, IsLegal}
 use Rattle.cq_history.proofs.Lists.{all_at, all_weaker}
 

@@ -11,7 +11,8 @@ use Rattle.cq_catalog.specs.declared.info.Place.{Place}
 use Rattle.cq_catalog.specs.declared.info.Place.TheVariants.{Local, Distributed, Reference}
 use Rattle.cq_catalog.specs.declared.info.TableInfo.{TableInfo}
 use Rattle.cq_history.specs.Run.{Run, after}
-use Rattle.cq_history.specs.Journals.{Journal, journal_in, Kinds, none}
+use Rattle.cq_journal.specs.Records.{Journal}
+use Rattle.cq_history.specs.Journals.{journal_in, Kinds, none}
 use Rattle.cq_history.specs.Deeds.{Grows}
 use Rattle.cq_history.specs.Log.{IsLaidOut}
 use Rattle.cq_history.specs.Laws.{GoesOnKeyed, OpensGroups, OpensLaidOut, CatalogIsAnswered, idle}

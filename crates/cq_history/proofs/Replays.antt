@@ -25,7 +25,8 @@ use Rattle.cq_journal.specs.Fitting.{Fits, InsertFits, EntrySetsSorts}
 use Rattle.cq_journal.specs.Journals.{entered, replay_from}
 use Rattle.cq_journal.proofs.Fitting.{from_fits}
 use Rattle.cq_planning.specs.Database.{shape_in, IsOfGroup, IsRowOf, CanHold}
-use Rattle.cq_history.specs.Journals.{Journal, cut, held_in}
+use Rattle.cq_journal.specs.Records.{Journal}
+use Rattle.cq_history.specs.Journals.{cut, held_in}
 use Rattle.cq_history.specs.Legality.{LeavesColumn, IsLegalWrite, IsLegalKind, IsLegal}
 use Rattle.cq_history.proofs.Lists.{two_ways, all_append, all_weaker, all_take}
 use Rattle.cq_history.proofs.Replies.{rows-numbered}

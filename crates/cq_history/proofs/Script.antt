@@ -14,7 +14,8 @@ use Rattle.cq_catalog.specs.Contents.{Contents}
 use Rattle.cq_answer.specs.declared.answer.Answer.{Answer}
 use Rattle.cq_answer.specs.declared.answered.Answered.{Answered}
 use Rattle.cq_history.specs.Run.{Run, Rules, Environment, precedes, IsSerial, first, after, environment_from, Continues}
-use Rattle.cq_history.specs.Journals.{Journal, journal_in, cut, Kinds, none, made_by, kinds_of, has_some, Step, steps_of, kinds_in, IsLook, with_entries, consecutive}
+use Rattle.cq_journal.specs.Records.{Journal}
+use Rattle.cq_history.specs.Journals.{journal_in, cut, Kinds, none, made_by, kinds_of, has_some, Step, steps_of, kinds_in, IsLook, with_entries, consecutive}
 use Rattle.cq_planning.specs.Touched.{among}
 use Rattle.cq_history.specs.Legality.{IsLegalKind, CanFollow, IsLegalStep, IsLegal}
 use Rattle.cq_history.specs.Deeds.{Deed, Does, HasDeed, IsFresh, Grows, Follows, deed_over}

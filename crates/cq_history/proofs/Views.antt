@@ -14,7 +14,8 @@ use Rattle.cq_answer.specs.declared.fault.What.TheVariants as what
 use Rattle.cq_answer.specs.declared.fault.Fault.{Fault}
 use Rattle.cq_answer.specs.declared.fault.Fault.TheVariants as fault
 use Rattle.cq_history.specs.Run.{Run, Rules, Environment}
-use Rattle.cq_history.specs.Journals.{Journal, Kinds, Step, none}
+use Rattle.cq_journal.specs.Records.{Journal}
+use Rattle.cq_history.specs.Journals.{Kinds, Step, none}
 use Rattle.cq_history.specs.Standing.{View, Enters, reads, AreReady, IsMadeIn, IsRefusedIn, LacksIdsIn, Runs, RunsUnless, StandsIn}
 
 module _ (v w : View) (made : (g : ℕ) (P : List Step → Type 0) → v.made g P → w.made g P) (wherever : (P : Tables → Type 0) → v.wherever P → w.wherever P)
@@ -59,7 +60,7 @@ module _ (v w : View) (made : (g : ℕ) (P : List Step → Type 0) → v.made g 
   runs_map touched run e (statement.Reference table) a h = (enters none h.0, h.1)
   runs_map touched run e (statement.Setting which value) a h = (enters none h.0, h.1)
   runs_map touched run e (statement.Select q) (answer.Table names rows) h = (h.0, enters (reads touched) h.1, wherever (λ db. Answers q db rows) h.2)
-  runs_map touched run e (statement.Select q) (answer.Failed (fault.Limit what.Rows n)) h = (h.0, enters (reads touched) h.1, wherever _ h.2)
+  runs_map touched run e (statement.Select q) (answer.Failed (fault.Limit what.Rows n)) h = (h.0, enters (reads touched) h.1, λ simple. wherever _ (h.2 simple))
   runs_map touched run e (statement.Select q) (answer.Failed fault.Memory) h = (h.0, h.1, enters (reads h.0) h.2)
   runs_map touched run e (statement.Write op) (answer.Tag t) h = (h.0, h.1, made_map e.catalog touched op h.0 h.2)
   runs_map touched run e (statement.Write op) (answer.Failed fault.Duplicate) h = refused_map e.catalog touched op Duplicate h

@@ -8,7 +8,8 @@ use Rattle.cq_tree.specs.declared.statement.Statement.{Statement}
 use Rattle.cq_catalog.specs.Contents.{Contents}
 use Rattle.cq_answer.specs.declared.answer.Answer.{Answer}
 use Rattle.cq_history.specs.Run.{Run, Rules, Environment, precedes}
-use Rattle.cq_history.specs.Journals.{Journal, made_by, journal_in, cut, held_in, Kinds, Step, steps_of, kinds_in, IsLook, with_entries, consecutive}
+use Rattle.cq_journal.specs.Records.{Journal}
+use Rattle.cq_history.specs.Journals.{made_by, journal_in, cut, held_in, Kinds, Step, steps_of, kinds_in, IsLook, with_entries, consecutive}
 use Rattle.cq_planning.specs.Database.{Held, whole, CanHold}
 use Rattle.cq_history.specs.Legality.{IsLegalStep}
 use Rattle.cq_history.specs.Standing.{View, StandsIn}

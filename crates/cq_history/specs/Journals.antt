@@ -8,17 +8,10 @@ use Rattle.cq_tree.specs.declared.journal.EntryKind.{EntryKind}
 use Rattle.cq_tree.specs.declared.journal.EntryKind.TheVariants.{MoveStart, Cutover, MoveStop}
 use Rattle.cq_catalog.specs.Contents.{Contents}
 use Rattle.cq_journal.specs.Journals.{replay_from}
+use Rattle.cq_journal.specs.Records.{Journal}
 use Rattle.cq_history.specs.Run.{Run, precedes}
 use Rattle.cq_planning.specs.Database.{shape_in}
 use Rattle.cq_planning.specs.Touched.{among}
-
-pub record Journal : Type 0 where
-  pub number : ℕ
-  -- the node on which the group was as the entries began, 0 for a reference group
-  pub opening : ℕ
-  -- what it held then of each table
-  pub base : ℕ → Table
-  pub entries : List Entry
 
 -- a group without a journal has nothing
 abbrev pub journal_in : List Journal → ℕ → Journal

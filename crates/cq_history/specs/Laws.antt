@@ -38,13 +38,15 @@ use Rattle.cq_answer.specs.declared.fault.Fault.{Fault}
 use Rattle.cq_answer.specs.declared.fault.Fault.TheVariants as fault
 use Rattle.cq_answer.specs.declared.answered.Answered.{Answered}
 use Rattle.cq_history.specs.Run.{Run, Rules, Environment, precedes, IsSerial, first, after, environment_from, Continues}
-use Rattle.cq_planning.specs.Database.{shape_in, Held, whole, CanHold, narrowed, Narrows}
+use Rattle.cq_planning.specs.Database.{shape_in, Held, whole, CanHold, narrowed, Narrows, IsLarge}
 use Rattle.cq_planning.specs.Parts.{part}
+use Rattle.cq_planning.specs.Simple.{GivesSimply}
 use Rattle.cq_planning.specs.Reaching.{RowsReach, IsTouchedBy}
 use Rattle.cq_planning.specs.Touched.{among}
-use Rattle.cq_history.specs.Journals.{Journal, none, Kinds, journal_in, held_in, in_each, with_entries}
+use Rattle.cq_journal.specs.Records.{Journal}
+use Rattle.cq_history.specs.Journals.{none, Kinds, journal_in, held_in, in_each, with_entries}
 use Rattle.cq_history.specs.Legality.{LeavesColumn, IsLegal, IsKeyed}
-use Rattle.cq_history.specs.Standing.{most_rows, IsLarge, AreAmong, counted, reply_in, HasIds, IsReady, tag_of, StandsIn, Stands}
+use Rattle.cq_history.specs.Standing.{most_rows, AreAmong, counted, reply_in, HasIds, IsReady, tag_of, StandsIn, Stands}
 use Rattle.cq_history.specs.Deeds.{Deed, first_seen, in_deed, Does, HasDeed, Grows, GoesOn, Follows, deed_over}
 use Rattle.cq_history.specs.Log.{who_of, AllStandFrom, AllDoneFrom, AllStand, IsWhole, IsLaidOut, IsConsistent, IsAnswered, next_who, answered_by}
 
@@ -161,7 +163,7 @@ ReadDoes = (rules : Rules) (run : Run) (e : Environment) (d : Deed) (seen : ℕ 
 
 abbrev pub LargeDoes : Type 0
 LargeDoes = (rules : Rules) (run : Run) (e : Environment) (d : Deed) (seen : ℕ → Journal) (q : Query) → IsReading rules e d seen q →
-    Narrows e.catalog (rules.touched e.catalog (statement.Select q)) (IsLarge q) → IsLarge q (seen_whole e.catalog (rules.touched e.catalog (statement.Select q)) seen) →
+    (GivesSimply e.catalog q → Narrows e.catalog (rules.touched e.catalog (statement.Select q)) (IsLarge q)) → IsLarge q (seen_whole e.catalog (rules.touched e.catalog (statement.Select q)) seen) →
     Does rules run e d (Some (statement.Select q)) (answer.Failed (fault.Limit what.Rows most_rows))
 
 -- ---- deeds
@@ -321,7 +323,7 @@ ReadIsAnswered = (rules : Rules) (run : Run) (e : Environment) (who : Who) (old 
 abbrev pub LargeIsAnswered : Type 0
 LargeIsAnswered = (rules : Rules) (run : Run) (e : Environment) (who : Who) (old new : List Journal) (q : Query) → rules.refusal e (statement.Select q) ≡ None →
     let touched = rules.touched e.catalog (statement.Select q) in
-    Narrows e.catalog touched (IsLarge q) → IsLarge q (seen_whole e.catalog touched (journal_in old)) →
+    (GivesSimply e.catalog q → Narrows e.catalog touched (IsLarge q)) → IsLarge q (seen_whole e.catalog touched (journal_in old)) →
     Grows who (in_each touched (λ g. entry.Read)) old new → length new ≡ length old →
     IsAnswered rules run e e who old new (Some (statement.Select q)) (answer.Failed (fault.Limit what.Rows most_rows))
 

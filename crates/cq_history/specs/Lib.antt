@@ -5,4 +5,5 @@ pub mod Legality
 pub mod Standing
 pub mod Deeds
 pub mod Log
+pub mod Refusals
 pub mod Laws

@@ -10,7 +10,8 @@ use Rattle.cq_catalog.specs.declared.info.Place.TheVariants.{Reference}
 use Rattle.cq_answer.specs.declared.answer.Answer.{Answer}
 use Rattle.cq_answer.specs.declared.answered.Answered.{Answered}
 use Rattle.cq_history.specs.Run.{Run, Rules, Environment, precedes, first, after, environment_from, Continues}
-use Rattle.cq_history.specs.Journals.{Journal, journal_in}
+use Rattle.cq_journal.specs.Records.{Journal}
+use Rattle.cq_history.specs.Journals.{journal_in}
 use Rattle.cq_history.specs.Legality.{IsLegal, IsKeyed}
 use Rattle.cq_history.specs.Standing.{Stands}
 use Rattle.cq_history.specs.Deeds.{Deed, Does, HasDeed, Follows}

@@ -1,5 +1,5 @@
 -- What a run was given, and the catalogue and the settings in force at a statement.
-use Rattle.std.specs.Prelude.{◌≡◌, ℕ, zero, suc, ◌+◌, ◌-◌, ◌/◌, ◌<◌, Bool, ◌&&◌, ◌||◌, not, List, [], ◌∷◌, Option, Some, None, fold, nat_eq, nat_lt, slice_get, if◌then◌else◌}
+use Rattle.std.specs.Prelude.{◌≡◌, ℕ, zero, suc, ◌+◌, ◌-◌, ◌/◌, ◌<◌, Bool, false, ◌&&◌, ◌||◌, not, List, [], ◌∷◌, Option, Some, None, fold, nat_eq, nat_lt, slice_get, if◌then◌else◌}
 use Rattle.cq_value.specs.declared.schema.Shape.{Shape}
 use Rattle.cq_tree.specs.declared.journal.Who.{Who}
 use Rattle.cq_tree.specs.declared.statement.Statement.{Statement}
@@ -46,6 +46,10 @@ pub record Environment : Type 0 where
 pub record Rules : Type 0 where
   pub touched : Contents → Statement → List ℕ
   pub refusal : Environment → Statement → Option Fault
+
+-- the settings at the start: no repartition joins, 32 shards, a pool of 16
+abbrev pub first_settings : Settings
+first_settings = record { repartition = false; shard_count = 32; pool = 16 }
 
 abbrev pub first : Run → Environment
 first run = record { catalog = nothing; settings = run.settings }

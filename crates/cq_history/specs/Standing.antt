@@ -15,8 +15,7 @@ use Rattle.cq_tree.specs.declared.write.Reply.TheVariants.{Count, Duplicate, Out
 use Rattle.cq_tree.specs.declared.statement.Statement.{Statement}
 use Rattle.cq_tree.specs.declared.statement.Statement.TheVariants as statement
 use Rattle.cq_meaning.specs.Values.{Row, Tables, table_rows}
-use Rattle.cq_meaning.specs.Results.{Answers, results_of}
-use Rattle.cq_meaning.specs.Limits.{is_large}
+use Rattle.cq_meaning.specs.Results.{Answers}
 use Rattle.cq_meaning.specs.Effects.{numbered, reply_of, table_of, inserts}
 use Rattle.cq_catalog.specs.Contents.{Contents}
 use Rattle.cq_catalog.specs.Creation.{creation_refusal}
@@ -33,10 +32,12 @@ use Rattle.cq_answer.specs.declared.fault.Fault.{Fault}
 use Rattle.cq_answer.specs.declared.fault.Fault.TheVariants as fault
 use Rattle.cq_answer.specs.Faults.{fault_of_catalog}
 use Rattle.cq_history.specs.Run.{Run, Rules, Environment, shards_on, room_fault}
-use Rattle.cq_planning.specs.Database.{shape_in, whole}
+use Rattle.cq_planning.specs.Database.{shape_in, whole, IsLarge}
 use Rattle.cq_planning.specs.Parts.{part}
+use Rattle.cq_planning.specs.Simple.{GivesSimply}
 use Rattle.cq_planning.specs.Touched.{among}
-use Rattle.cq_history.specs.Journals.{Journal, journal_in, cut, held_in, Kinds, none, in_each, TakesPlaces, Step, steps_of, kinds_in, IsLook}
+use Rattle.cq_journal.specs.Records.{Journal}
+use Rattle.cq_history.specs.Journals.{journal_in, cut, held_in, Kinds, none, in_each, TakesPlaces, Step, steps_of, kinds_in, IsLook}
 use Rattle.cq_history.specs.Whole.{held_at}
 
 -- a statement as it is judged: what holds of its entries in a group, what holds of the undistributed database wherever that may be taken, and
@@ -63,10 +64,6 @@ in_journals run c journals who = record {
 -- the most rows of a group of a query
 abbrev pub most_rows : ℕ
 most_rows = 2147483648
-
--- the query has a group of more rows
-abbrev pub IsLarge : Query → Tables → Type 0
-IsLarge q db = is_large q db (results_of q db) ≡ true
 
 -- one Read in each of these groups
 abbrev pub reads : List ℕ → Kinds
@@ -138,17 +135,16 @@ IsNotice name a = ⊥
 abbrev pub creation_fault : Environment → List ℕ → List Column → Option Fault
 creation_fault e name columns = option_map fault_of_catalog (creation_refusal e.catalog name columns)
 
--- by the catalogue, and else for want of stores
-abbrev pub distribution_fault : Run → Environment → List ℕ → List ℕ → Option ℕ → With → Option Fault
-distribution_fault run e table column count beside =
-    let default = e.settings.shard_count in
+-- where the setting gives this count: by the catalogue, and else for want of stores
+abbrev pub distribution_fault : Run → Contents → ℕ → List ℕ → List ℕ → Option ℕ → With → Option Fault
+distribution_fault run c default table column count beside =
     first_of
-    (option_map fault_of_catalog (distribution_refusal e.catalog table column count beside default)
-    ∷ room_fault run e.catalog (shards_on run (opened_by e.catalog (decision_of e.catalog table column count beside default)).count)
+    (option_map fault_of_catalog (distribution_refusal c table column count beside default)
+    ∷ room_fault run c (shards_on run (opened_by c (decision_of c table column count beside default)).count)
     ∷ [])
 
-abbrev pub reference_fault : Run → Environment → List ℕ → Option Fault
-reference_fault run e table = first_of (option_map fault_of_catalog (reference_refusal e.catalog table) ∷ room_fault run e.catalog (λ at. 1) ∷ [])
+abbrev pub reference_fault : Run → Contents → List ℕ → Option Fault
+reference_fault run c table = first_of (option_map fault_of_catalog (reference_refusal c table) ∷ room_fault run c (λ at. 1) ∷ [])
 
 -- a refusal, where there is one, and else an answer of this kind, unless memory ran out
 abbrev pub Yields : Option Fault → (Answer → Type 0) → Answer → Type 0
@@ -158,16 +154,17 @@ Yields None done a = done a
 
 -- ---- all statements
 
--- what the answer of a statement that runs says. Want of memory leaves a query at most one Read in each touched group, and all else no entry
+-- what the answer of a statement that runs says. Want of memory leaves a query at most one Read in each touched group, and all else no entry.
+-- Of a query in which a subquery that is given a set groups a LEFT JOIN, a limit of rows is not said to be passed by a group of the whole
 abbrev pub Runs : List ℕ → Run → Environment → View → Statement → Answer → Type 0
 Runs touched run e v (statement.CreateTable name columns key) a = Enters v none × Yields (creation_fault e name columns) (λ (b : Answer). b ≡ answer.Tag tag.CreateTable) a
 Runs touched run e v (statement.Distribute table column count beside) a =
-    Enters v none × Yields (distribution_fault run e table column count beside) (IsNotice (codes "create_distributed_table")) a
-Runs touched run e v (statement.Reference table) a = Enters v none × Yields (reference_fault run e table) (IsNotice (codes "create_reference_table")) a
+    Enters v none × Yields (distribution_fault run e.catalog e.settings.shard_count table column count beside) (IsNotice (codes "create_distributed_table")) a
+Runs touched run e v (statement.Reference table) a = Enters v none × Yields (reference_fault run e.catalog table) (IsNotice (codes "create_reference_table")) a
 Runs touched run e v (statement.Setting which value) a = Enters v none × Yields None (λ (b : Answer). b ≡ answer.Tag tag.Setting) a
 Runs touched run e v (statement.Select q) (answer.Table names rows) = (names ≡ (out-Query q).names) × Enters v (reads touched) × v.wherever (λ db. Answers q db rows)
 Runs touched run e v (statement.Select q) (answer.Failed (fault.Limit what.Rows n)) =
-    (n ≡ most_rows) × Enters v (reads touched) × v.wherever (IsLarge q)
+    (n ≡ most_rows) × Enters v (reads touched) × (GivesSimply e.catalog q → v.wherever (IsLarge q))
 Runs touched run e v (statement.Select q) (answer.Failed fault.Memory) = (groups : List ℕ) × AreAmong groups touched × Enters v (reads groups)
 Runs touched run e v (statement.Write op) (answer.Tag t) = (n : ℕ) × (t ≡ tag_of op n) × IsMadeIn e.catalog touched v op n
 Runs touched run e v (statement.Write op) (answer.Failed fault.Duplicate) = IsRefusedIn e.catalog touched v op Duplicate

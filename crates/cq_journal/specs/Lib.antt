@@ -2,3 +2,4 @@ pub mod Journals
 pub mod Replies
 pub mod Fitting
 pub mod Laws
+pub mod Records

@@ -1,8 +1,11 @@
 -- The undistributed database that the rows of shard groups form, and what a group can hold.
-use Rattle.std.specs.Prelude.{◌≡◌, ℕ, zero, suc, ◌+◌, ⊤, List, [], ◌∷◌, ◌++◌, if◌then◌else◌, slice_get}
+use Rattle.std.specs.Prelude.{◌≡◌, ℕ, zero, suc, ◌+◌, ⊤, true, List, [], ◌∷◌, ◌++◌, if◌then◌else◌, slice_get}
 use Rattle.std.specs.List.{AllByRecursion}
 use Rattle.cq_value.specs.declared.schema.Shape.{Shape}
+use Rattle.cq_tree.specs.declared.query.Query.{Query}
 use Rattle.cq_meaning.specs.Values.{Row, Tables, column}
+use Rattle.cq_meaning.specs.Results.{results_of}
+use Rattle.cq_meaning.specs.Limits.{is_large}
 use Rattle.cq_catalog.specs.Contents.{Contents, shape_of, first_group_in, count_in}
 use Rattle.cq_catalog.specs.Placement.{place_at, colocation_at, HasShard, group_of}
 use Rattle.cq_catalog.specs.declared.info.Place.{Place}
@@ -64,3 +67,7 @@ narrowed touched held g table = if among g touched then held g table else []
 -- what holds of the database without the untouched groups holds of the whole, whatever they hold
 abbrev pub Narrows : Contents → List ℕ → (Tables → Type 0) → Type 0
 Narrows c touched P = (held : Held) → ((g : ℕ) → CanHold c g (held g)) → P (whole c (narrowed touched held)) → P (whole c held)
+
+-- the query has a group of more rows than the limit
+abbrev pub IsLarge : Query → Tables → Type 0
+IsLarge q db = is_large q db (results_of q db) ≡ true

@@ -12,3 +12,4 @@ pub mod Routing
 pub mod Refusals
 pub mod Database
 pub mod Reaching
+pub mod Simple

@@ -17,7 +17,7 @@ use Rattle.cq_meaning.specs.Sorting.{placed, sorted_by, sorted, keys_cmp, cut}
 use Rattle.cq_meaning.specs.Queries.{item_rows, columns_in, joins, from_rows, meaning}
 use Rattle.cq_meaning.proofs.RowLaws.{filter_map, same_from}
 use Rattle.cq_meaning.proofs.KeyLaws.{keys_weak}
-use Rattle.cq_planning_laws.specs.Simple.{IsSteadyFrom, IsSteady}
+use Rattle.cq_planning.specs.Simple.{IsSteadyFrom, IsSteady}
 use Rattle.cq_planning_laws.proofs.Lists.{two_ways}
 use Rattle.cq_planning_laws.proofs.Columns.{filter_twice}
 use Rattle.cq_planning_laws.proofs.Tests.{sort_sifted, distinct_sifted}

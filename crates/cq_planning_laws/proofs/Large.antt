@@ -23,7 +23,7 @@ use Rattle.cq_planning.specs.Occurrences.{occurrences_from, occurrences_in}
 use Rattle.cq_planning.specs.ValueSets.{ValueSet, value_set}
 use Rattle.cq_planning.specs.Database.{shape_in}
 use Rattle.cq_planning_laws.specs.Laid.{IsLaidFrom, IsLaid, IsColumnOf}
-use Rattle.cq_planning_laws.specs.Simple.{IsSteadyFrom, IsSimpleFrom, IsSimple, GivesSimplyFrom, GivesSimply}
+use Rattle.cq_planning.specs.Simple.{IsSteadyFrom, IsSimpleFrom, IsSimple, GivesSimplyFrom, GivesSimply}
 use Rattle.cq_planning_laws.proofs.Lists.{two_ways}
 use Rattle.cq_planning_laws.proofs.SameRows.{PushesThrough}
 use Rattle.cq_planning_laws.proofs.Fewer.{Fewer, fewer_kept, fewer_from}

@@ -26,7 +26,7 @@ use Rattle.cq_planning.specs.Touched.{among, groups_of, touched_by_query, touche
 use Rattle.cq_planning.specs.Database.{shape_in, Held, joined, whole_at, whole_from, whole, IsOfGroup, IsRowOf, CanHold, narrowed}
 use Rattle.cq_planning_laws.specs.Laid.{IsLaid, IsColumnOf, IsLaidStep, IsLaidStatement}
 use Rattle.cq_planning_laws.specs.Laws.{QueriesNarrow, LargeNarrows, UntouchedAreFree}
-use Rattle.cq_planning_laws.specs.Simple.{GivesSimply}
+use Rattle.cq_planning.specs.Simple.{GivesSimply}
 use Rattle.cq_planning_laws.proofs.Lists.{two_ways, all_weaker, all_append, filter_none}
 use Rattle.std.proofs.lemmas.Bool.Decides.{eqb_tells}
 use Rattle.cq_planning_laws.proofs.SameRows.{SameKept, PushesThrough}

@@ -11,8 +11,7 @@ use Rattle.cq_tree.specs.declared.statement.Statement.TheVariants as statement
 use Rattle.cq_meaning.specs.Lists.{Has}
 use Rattle.cq_meaning.specs.Values.{Row, Tables}
 use Rattle.cq_meaning.specs.Effects.{table_of}
-use Rattle.cq_meaning.specs.Limits.{is_large}
-use Rattle.cq_meaning.specs.Results.{Answers, results_of}
+use Rattle.cq_meaning.specs.Results.{Answers}
 use Rattle.cq_meaning.specs.declared.Columns.{Columns}
 use Rattle.cq_meaning.specs.Widths.{table_bits}
 use Rattle.cq_meaning_laws.specs.WholeRules.{IsBoundStatement}
@@ -26,10 +25,10 @@ use Rattle.cq_planning.specs.Classes.{Connected, first_of_class}
 use Rattle.cq_planning.specs.ValueSets.{ascending, IsAscending, IsAscendingSet}
 use Rattle.cq_planning.specs.Occurrences.{Occurrence, occurrences_of}
 use Rattle.cq_planning.specs.Touched.{among, touched}
-use Rattle.cq_planning.specs.Database.{Held, whole, CanHold, Narrows, shape_in}
+use Rattle.cq_planning.specs.Database.{Held, whole, CanHold, Narrows, IsLarge, shape_in}
 use Rattle.cq_planning.specs.Reaching.{IsTouchedBy}
 use Rattle.cq_planning_laws.specs.Laid.{IsColumnOf, IsLaidStatement}
-use Rattle.cq_planning_laws.specs.Simple.{GivesSimply}
+use Rattle.cq_planning.specs.Simple.{GivesSimply}
 
 -- a condition is what the binder makes of `x IN (literals)`, with these values
 abbrev pub IsIn : Cond → ℕ → List Value → Type 0
@@ -72,10 +71,6 @@ UntouchedAreFree = (c : Contents) (widths : ℕ → ℕ) (q : Query) → IsWhole
     (held other : Held) → ((g : ℕ) → CanHold c g (held g)) → ((g : ℕ) → CanHold c g (other g)) →
     ((g table : ℕ) → among g (touched c (statement.Select q)) ≡ true → held g table ≡ other g table) →
     (rows : List Row) → Answers q (whole c held) rows → Answers q (whole c other) rows
-
--- the query has a group of more rows than the limit
-abbrev pub IsLarge : Query → Tables → Type 0
-IsLarge q db = is_large q db (results_of q db) ≡ true
 
 -- a group that is too large over the touched groups alone is too large over the whole
 abbrev pub LargeNarrows : Type 0

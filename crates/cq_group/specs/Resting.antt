@@ -1,0 +1,25 @@
+-- Several shard groups between two statements, and after one.
+use Rattle.std.specs.Prelude.{◌≡◌, ℕ, List, map, length, Some, slice_get}
+use Rattle.cq_journal.specs.Records.{Journal}
+use Rattle.cq_store.specs.Stores.{StoreState}
+use Rattle.cq_group.specs.declared.group.GroupState.{GroupState}
+use Rattle.cq_group.specs.Groups.{IsKept, IsQuiet, IsSteady, journal_of}
+use Rattle.cq_group.specs.Calls.{GroupGoesOn}
+
+-- the journals of groups, in their order
+abbrev pub journals_of : {X : Type 0} → List (GroupState X) → List Journal
+journals_of {X} groups = map (λ (g : GroupState X). journal_of g) groups
+
+-- what a group keeps between two statements: its stores hold what its journal leaves, nothing is staged, and the stores are steady
+pub record IsResting {X : Type 0} (state : X → StoreState) (g : GroupState X) : Type 0 where
+  pub kept : IsKept state g
+  pub quiet : IsQuiet state g
+  pub steady : IsSteady state g
+
+abbrev pub AreResting : {X : Type 0} → (X → StoreState) → List (GroupState X) → Type 0
+AreResting {X} state groups = (i : ℕ) (g : GroupState X) → slice_get groups i ≡ Some g → IsResting state g
+
+-- the groups after a statement: each is as it was but for its entries and the rows of its stores, and rests again
+pub record GoOn {X : Type 0} (state : X → StoreState) (old new : List (GroupState X)) : Type 0 where
+  pub count : length new ≡ length old
+  pub each : (i : ℕ) (g h : GroupState X) → slice_get old i ≡ Some g → slice_get new i ≡ Some h → GroupGoesOn state g h × IsResting state h
