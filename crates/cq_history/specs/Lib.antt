@@ -6,4 +6,5 @@ pub mod Standing
 pub mod Deeds
 pub mod Log
 pub mod Refusals
+pub mod Computable
 pub mod Laws
