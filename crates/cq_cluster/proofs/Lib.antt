@@ -16,3 +16,4 @@ pub mod DistributeLaws
 pub mod PlanLaws
 pub mod DoneLaws
 pub mod CreatingLaws
+pub mod GroupLaws
