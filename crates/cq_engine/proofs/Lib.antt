@@ -1,2 +1,4 @@
+pub mod TwinLaws
+pub mod KeyOrder
 pub mod KeyLaws
 pub mod ChangeLaws

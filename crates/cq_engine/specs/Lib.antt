@@ -1,1 +1,2 @@
 pub mod WriteEffects
+pub mod Keys
