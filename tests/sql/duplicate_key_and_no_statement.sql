@@ -6,6 +6,6 @@ SELECT create_distributed_table('t', 'k', shard_count => 4);
 INSERT INTO t VALUES (1,10);
 INSERT INTO t VALUES (1,10);
 SELECT * FROM t WHERE k = 5;
-DELETE FROM t;
+EXPLAIN SELECT * FROM t WHERE k = 5;
 DROP TABLE t;
 SELECT * FROM t WHERE k = 5

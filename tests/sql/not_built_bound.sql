@@ -27,10 +27,6 @@ WITH c AS (SELECT k FROM t), d AS (SELECT k FROM c) SELECT c.k FROM c, d WHERE c
 WITH t AS (SELECT name FROM u) SELECT name FROM t;
 SELECT s.n FROM (SELECT v, count(*) AS n FROM t GROUP BY v) s LEFT JOIN r ON s.n = r.id;
 EXPLAIN SELECT k FROM t;
-INSERT INTO t VALUES (1, 2), (-3, NULL);
-UPDATE t SET v = v + 1 WHERE k = 1;
-UPDATE t SET k = 9;
-DELETE FROM u WHERE name = 'a';
 COPY u (name, k) FROM STDIN WITH (FORMAT CSV, HEADER);
 SELECT create_reference_table('l');
 SELECT citus_move_shard_placement(102008, 1, 2);

@@ -1,4 +1,4 @@
--- Queries over one distributed table whose condition names no single value of its distribution column.
+-- Queries over one distributed table whose condition leaves several shards.
 
 -- Two distributed tables, and one that is not.
 CREATE TABLE sales (tenant bigint, id bigint, price bigint, quantity integer, note text, PRIMARY KEY (tenant, id));
@@ -11,17 +11,10 @@ CREATE TABLE loose (id bigint, name text);
 SELECT id FROM sales;
 SELECT count(*) FROM sales WHERE id = 1;
 SELECT id FROM sales WHERE tenant > 1;
-SELECT id FROM sales WHERE tenant = NULL;
-SELECT id FROM sales WHERE 1 = tenant;
 SELECT id FROM sales WHERE tenant = 1 + 0;
 SELECT id FROM sales WHERE tenant = - -1;
 SELECT id FROM sales WHERE tenant + 0 = 1;
 SELECT id FROM sales WHERE tenant = id;
 SELECT id FROM sales WHERE NOT tenant <> 1;
 SELECT id FROM sales WHERE tenant = 1 OR id = 1;
-SELECT id FROM sales WHERE tenant = 1 OR tenant = 1;
-SELECT id FROM sales WHERE tenant IN (1, 1);
 SELECT id FROM sales WHERE tenant BETWEEN 1 AND 1;
-SELECT id FROM sales WHERE tenant = 1 AND tenant = 1;
-SELECT id FROM sales WHERE tenant = 1 AND tenant > 0;
-SELECT id FROM sales WHERE tenant = 1 AND (id = 1 OR tenant = 2);

@@ -1,0 +1,24 @@
+-- INSERT, UPDATE and DELETE in every form.
+CREATE TABLE t (k bigint, v integer, s text, PRIMARY KEY (k));
+CREATE TABLE u (k bigint, w bigint, name text);
+CREATE TABLE r (id bigint, name text, PRIMARY KEY (id));
+CREATE TABLE cc1 (id bigint);
+CREATE TABLE r2 (r1 bigint, r2 bigint);
+CREATE TABLE text (bigint bigint, format integer, header text, off text, csv integer, PRIMARY KEY (bigint, format));
+SELECT create_distributed_table('t', 'k');
+SELECT create_distributed_table('u', 'k');
+SELECT create_distributed_table('r', 'id');
+SELECT create_distributed_table('cc1', 'id');
+SELECT create_distributed_table('r2', 'r1');
+SELECT create_distributed_table('text', 'bigint');
+INSERT INTO t VALUES (1, 2, 'a'), (-3, NULL, 'it''s');
+INSERT INTO u (name, k) VALUES ('x', -9223372036854775807 - 1), ('y', 2 * 3);
+UPDATE t SET v = v + 1, s = 'x' WHERE k = 1 AND v IS NOT NULL;
+UPDATE t SET v = NULL;
+UPDATE text SET header = CASE WHEN text.csv > 1 THEN 'a' ELSE off END, off = NULL, csv = csv + 1 WHERE bigint IN (1, 2);
+DELETE FROM text WHERE bigint = 1 AND format IS NOT NULL OR text.csv = 2;
+DELETE FROM t;
+DELETE FROM t WHERE NOT (k = 1 OR v > 2);
+SELECT k, v, s FROM t WHERE k = 1;
+SELECT k, v, s FROM t WHERE k = -3;
+SELECT w FROM u WHERE k = 6;
