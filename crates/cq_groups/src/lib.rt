@@ -3,5 +3,7 @@
 #![tactic(auto)]
 
 mod error;
+mod reads;
 
 pub use error::WriteError;
+pub use reads::{Look, Looks, pick_group, read_groups};
