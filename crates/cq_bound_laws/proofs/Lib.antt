@@ -1,10 +1,9 @@
-pub mod Counting
-pub mod CountingParts
-pub mod CountingFrom
-pub mod CountingSelects
-pub mod CountingSelect
-pub mod CountingWalk
 pub mod Yields
 pub mod Rows
 pub mod Statements
-pub mod Points
+pub mod Values
+pub mod Sorts
+pub mod Tables
+pub mod Alone
+pub mod Columns
+pub mod Computable

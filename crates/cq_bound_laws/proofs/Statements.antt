@@ -1,5 +1,5 @@
--- What a statement that is read is: a query only of a query, and an INSERT only of rows that fit.
-use Rattle.std.proofs.Common.{◌≡◌, ℕ, ◌≤◌, Bool, true, false, not, ◌&&◌, List, [], refl, Option, Ok, arith}
+-- What a statement that is read is: an INSERT is one of rows that fit, and a setting has a number that fits.
+use Rattle.std.proofs.Common.{◌≡◌, ℕ, ◌≤◌, Bool, true, false, not, ◌&&◌, List, [], Option, Ok, arith}
 use Rattle.std.specs.Prelude.{⊤, nat_le, nat_lt, length, slice_get, bytes_eq, codes}
 use Rattle.std.specs.List.{AllByRecursion, list_any}
 use Rattle.cq_value.specs.declared.schema.Column as schema
@@ -32,16 +32,15 @@ use Rattle.cq_reading.specs.Widths.{is_some}
 use Rattle.cq_reading.specs.Scopes.{table_sources}
 use Rattle.cq_reading.specs.Steps.{give, through}
 use Rattle.cq_reading.specs.Statements as st
-use Rattle.cq_bound_laws.specs.Laws.{RowsFit, SelectsAreQueries, SettingsFit}
+use Rattle.cq_bound_laws.specs.Laws.{RowsFit, SettingsFit}
 use Rattle.cq_bound_laws.proofs.Yields.{Yields, yields_give, yields_refuse, yields_then, yields_behind, yields_provided, yields_if, yields_outcome}
 use Rattle.cq_bound_laws.proofs.Rows.{insertion_fits}
 
 -- what is known of what a syntax tree is read as
-unfoldable Known : List TableInfo → Ast → Statement → Type 0
-Known tables a (statement.Select q) = (x : grammar.Query) × (a ≡ ast.Query x)
-Known tables a (statement.Write (Insert table rows)) = AllByRecursion (Fits (shape_of (slice_get tables table))) rows
-Known tables a (statement.Setting which n) = n ≤ 128
-Known tables a _ = ⊤
+unfoldable Known : List TableInfo → Statement → Type 0
+Known tables (statement.Write (Insert table rows)) = AllByRecursion (Fits (shape_of (slice_get tables table))) rows
+Known tables (statement.Setting which n) = n ≤ 128
+Known tables _ = ⊤
 
 both_true : (a b : Bool) → (a && b) ≡ true → b ≡ true
 both_true true b h = h
@@ -50,11 +49,11 @@ both_true false b h = cc
 at_most : (m n : ℕ) → nat_le m n ≡ true → m ≤ n
 at_most m n h = grind (arith, h)
 
-module _ (tables : List TableInfo) (a : Ast) where
+module _ (tables : List TableInfo) where
   abbrev K : Statement → Type 0
-  K = Known tables a
+  K = Known tables
 
-  -- statements that are neither a query nor an INSERT
+  -- statements other than an INSERT
 
   known_table : (name : List ℕ) (columns : List schema.Column) (key : List ℕ) → Yields K (give (statement.CreateTable name columns key))
   unfolding Known
@@ -182,37 +181,34 @@ module _ (tables : List TableInfo) (a : Ast) where
       (yields_if K (bytes_eq function.text (codes "rebalance_table_shards")) _ _ (yields_behind K (through st.with_strategy arguments false) _ known_rebalance)
       (yields_behind K (through st.with_strategy arguments false) _ known_plan))))
 
--- ---- queries and INSERT
+  known_select : (q : Query) → Yields K (give (statement.Select q))
+  unfolding Known
+  known_select q = yields_give K (statement.Select q) tt
 
-queries : (tables : List TableInfo) (x : grammar.Query) → Yields (Known tables (ast.Query x)) (st.selection tables x)
-unfolding Known
-queries tables x = yields_behind (Known tables (ast.Query x)) (st.query_of tables x) _ (λ q. yields_give (Known tables (ast.Query x)) (statement.Select q) (x, refl))
+  queries : (x : grammar.Query) → Yields K (st.selection tables x)
+  queries x = yields_behind K (st.query_of tables x) _ known_select
 
-insertions : (tables : List TableInfo) (a : Ast) (table : Name) (columns : List Name) (rows : List RowValues) → Yields (Known tables a) (st.insertion tables table columns rows)
-unfolding Known
-insertions tables a table columns rows = insertion_fits (Known tables a) tables table columns rows (λ i values h. h)
+  insertions : (table : Name) (columns : List Name) (rows : List RowValues) → Yields K (st.insertion tables table columns rows)
+  unfolding Known
+  insertions table columns rows = insertion_fits K tables table columns rows (λ i values h. h)
 
-known : (tables : List TableInfo) (a : Ast) → Yields (Known tables a) (st.statement_of tables a)
-known tables (ast.Create name columns key at) = creations tables (ast.Create name columns key at) name columns key
-known tables (ast.Insert table columns rows at) = insertions tables (ast.Insert table columns rows at) table columns rows
-known tables (ast.Update table sets filter at) = updates tables (ast.Update table sets filter at) table sets filter
-known tables (ast.Delete table filter at) = deletions tables (ast.Delete table filter at) table filter
-known tables (ast.Copy table columns spelled opts at) = copies tables (ast.Copy table columns spelled opts at) table columns opts
-known tables (ast.Set space name spelled v at) = set tables (ast.Set space name spelled v at) space name v
-known tables (ast.Explain q at) = explanations tables (ast.Explain q at) q
-known tables (ast.Call function arguments at) = calls tables (ast.Call function arguments at) function arguments
-known tables (ast.Query q) = queries tables q
+  known : (a : Ast) → Yields K (st.statement_of tables a)
+  known (ast.Create name columns key at) = creations name columns key
+  known (ast.Insert table columns rows at) = insertions table columns rows
+  known (ast.Update table sets filter at) = updates table sets filter
+  known (ast.Delete table filter at) = deletions table filter
+  known (ast.Copy table columns spelled opts at) = copies table columns opts
+  known (ast.Set space name spelled v at) = set space name v
+  known (ast.Explain q at) = explanations q
+  known (ast.Call function arguments at) = calls function arguments
+  known (ast.Query q) = queries q
 
-statement_known : (tables : List TableInfo) (a : Ast) (s : Statement) → st.reading tables a ≡ Ok s → Known tables a s
-statement_known tables a s is = yields_outcome (Known tables a) (st.statement_of tables a) _ s (known tables a) is
+statement_known : (tables : List TableInfo) (a : Ast) (s : Statement) → st.reading tables a ≡ Ok s → Known tables s
+statement_known tables a s is = yields_outcome (Known tables) (st.statement_of tables a) _ s (known tables a) is
 
 pub rows_of_insertions_fit : RowsFit
 unfolding Known
 rows_of_insertions_fit tables a table rows is = statement_known tables a (statement.Write (Insert table rows)) is
-
-pub selects_are_queries : SelectsAreQueries
-unfolding Known
-selects_are_queries tables a q is = statement_known tables a (statement.Select q) is
 
 pub settings_fit : SettingsFit
 unfolding Known

@@ -1,47 +1,50 @@
--- What a statement that is bound makes sure of, so that the engine can run it.
-use Rattle.std.specs.Prelude.{◌≡◌, ◌≤◌, ℕ, true, List, [], ◌∷◌, map, slice_get, Ok}
+-- What a text that is read makes sure of, so that its statement can be computed and planned.
+use Rattle.std.specs.Prelude.{◌≡◌, ◌≤◌, ℕ, List, length, slice_get, Ok}
 use Rattle.std.specs.List.{AllByRecursion}
 use Rattle.cq_catalog.specs.declared.info.TableInfo.{TableInfo}
-use Rattle.cq_catalog.specs.Contents.{columns_in, shape_of}
-use Rattle.cq_grammar.specs.declared.query.Query as grammar
+use Rattle.cq_catalog.specs.Contents.{Contents, shape_of}
+use Rattle.cq_catalog.specs.Placement.{place_at}
+use Rattle.cq_catalog.specs.Whole.{IsWhole}
 use Rattle.cq_grammar.specs.declared.statement.Ast.{Ast}
-use Rattle.cq_grammar.specs.declared.statement.Ast.TheVariants as ast
-use Rattle.cq_tree.specs.declared.query.FromTree as tree
-use Rattle.cq_tree.specs.declared.query.Query.{Query, out-Query}
+use Rattle.cq_tree.specs.declared.write.ShardOp.{ShardOp}
 use Rattle.cq_tree.specs.declared.write.ShardOp.TheVariants.{Insert}
+use Rattle.cq_tree.specs.declared.statement.Statement.{Statement}
 use Rattle.cq_tree.specs.declared.statement.Statement.TheVariants as statement
 use Rattle.cq_meaning.specs.Values.{Row}
-use Rattle.cq_meaning.specs.Safety.{IsSafeQuery}
-use Rattle.cq_meaning.specs.Widths.{bits_of_kind, AllWithin}
-use Rattle.cq_journal.specs.Fitting.{Fits}
+use Rattle.cq_meaning.specs.Effects.{table_of}
+use Rattle.cq_journal.specs.Fitting.{Fits, WriteSetsSorts}
+use Rattle.cq_journal.specs.Records.{Journal}
+use Rattle.cq_answer.specs.declared.answered.Answered.{Answered}
+use Rattle.cq_planning.specs.Database.{shape_in}
+use Rattle.cq_planning_laws.specs.Laid.{IsColumnOf}
 use Rattle.cq_reading.specs.Statements.{reading}
-use Rattle.cq_reading_laws.specs.Written.{written_select}
-use Rattle.cq_reading_laws.specs.QueryLaws.{written_tables}
-
--- a query as the grammar gives it
-abbrev pub IsWrittenQuery : grammar.Query → Type 0
-IsWrittenQuery x = (written_tables x.tables ≡ true) × (written_select x.select ≡ true)
-
--- the bits of the columns of a table, of which there are none where the table isn't there
-abbrev pub column_bits : List TableInfo → ℕ → List ℕ
-column_bits tables table = map (λ c. bits_of_kind c.kind) (columns_in (slice_get tables table))
-
--- a query of one table with neither CTEs nor IN subqueries reads no result, and is safe over the table's rows alone
-abbrev pub PointsAreSafe : Type 0
-PointsAreSafe = (tables : List TableInfo) (x : grammar.Query) (q : Query) (table n : ℕ) (rows : List Row) →
-    IsWrittenQuery x → reading tables (ast.Query x) ≡ Ok (statement.Select q) →
-    (out-Query q).ctes ≡ [] → (out-Query q).subs ≡ [] → (out-Query q).from ≡ tree.Table table n →
-    AllWithin (column_bits tables table) rows → IsSafeQuery q ((table, rows) ∷ []) []
+use Rattle.cq_written_laws.specs.TextLaws.{Spells}
+use Rattle.cq_history.specs.Run.{Run, Rules, Environment}
+use Rattle.cq_history.specs.Log.{IsConsistent}
+use Rattle.cq_history.specs.Computable.{IsComputable}
 
 -- the rows of an INSERT fit their table
 abbrev pub RowsFit : Type 0
 RowsFit = (tables : List TableInfo) (a : Ast) (table : ℕ) (rows : List Row) → reading tables a ≡ Ok (statement.Write (Insert table rows)) →
     AllByRecursion (Fits (shape_of (slice_get tables table))) rows
 
--- only a query is bound to a query
-abbrev pub SelectsAreQueries : Type 0
-SelectsAreQueries = (tables : List TableInfo) (a : Ast) (q : Query) → reading tables a ≡ Ok (statement.Select q) → (x : grammar.Query) × (a ≡ ast.Query x)
-
 -- a setting has a number that fits
 abbrev pub SettingsFit : Type 0
 SettingsFit = (tables : List TableInfo) (a : Ast) (which n : ℕ) → reading tables a ≡ Ok (statement.Setting which n) → n ≤ 128
+
+-- an UPDATE sets values of its columns' sorts
+abbrev pub UpdatesSetSorts : Type 0
+UpdatesSetSorts = (tables : List TableInfo) (text : List ℕ) (a : Ast) (op : ShardOp) → Spells text a → reading tables a ≡ Ok (statement.Write op) →
+    WriteSetsSorts (shape_of (slice_get tables (table_of op))) op
+
+-- each distribution column is a column of its table
+abbrev pub HasColumns : Contents → Type 0
+HasColumns c = (table : ℕ) → IsColumnOf (length (shape_in c table).kinds) (place_at c table)
+
+-- what a text is read as can be computed and planned over the catalogue
+abbrev pub TextsCompute : Type 0
+TextsCompute = (c : Contents) (text : List ℕ) (a : Ast) (s : Statement) → IsWhole c → HasColumns c → Spells text a → reading c.tables a ≡ Ok s → IsComputable c s
+
+-- between two statements of a serial script each distribution column is a column of its table
+abbrev pub ColumnsStand : Type 0
+ColumnsStand = (rules : Rules) (run : Run) (e : Environment) (answers : List Answered) (journals : List Journal) → IsConsistent rules run e answers journals → HasColumns e.catalog

@@ -1,13 +1,19 @@
-//! The laws on what a statement is bound to, each as the contract of a function that does nothing.
+//! The laws on what a text is bound to, each as the contract of a function that does nothing.
 #![tactic(auto)]
 
-ghost use Rattle.cq_bound_laws.specs.Laws.{PointsAreSafe, RowsFit, SelectsAreQueries, SettingsFit};
+ghost use Rattle.cq_bound_laws.specs.Laws.{ColumnsStand, RowsFit, SettingsFit, TextsCompute, UpdatesSetSorts};
 
-/// A query of one table with neither CTEs nor IN subqueries is safe over the table's rows alone, the rows of an INSERT fit their
-/// table, only a query is bound to a query, and a setting's number fits. Does nothing.
+/// What a text is read as can be computed and planned: the rows of an INSERT fit their table, an UPDATE sets values of its columns'
+/// sorts, a setting's number fits, and no computation overflows; and the shard groups that the statement doesn't touch don't
+/// matter to it. Does nothing.
 pub fn bound_laws()
-    ensures points { PointsAreSafe }
     ensures rows { RowsFit }
-    ensures selects { SelectsAreQueries }
     ensures settings { SettingsFit }
+    ensures sorts { UpdatesSetSorts }
+    ensures computable { TextsCompute }
+{}
+
+/// Between two statements of a serial script each distribution column is a column of its table. Does nothing.
+pub fn catalog_laws()
+    ensures columns { ColumnsStand }
 {}

@@ -1,2 +1,1 @@
-pub mod Computable
 pub mod ReadingLaws

@@ -6,25 +6,23 @@ use Rattle.cq_answer.specs.declared.answer.Answer.TheVariants.{Failed}
 use Rattle.cq_answer.specs.declared.fault.Fault.{Fault}
 use Rattle.cq_answer.specs.declared.fault.Fault.TheVariants as fault
 use Rattle.cq_catalog.specs.Contents.{Contents}
+use Rattle.cq_catalog.specs.Whole.{IsWhole}
 use Rattle.cq_statement.specs.Finding.{Reads}
 use Rattle.cq_statement.specs.Meanings.{Means}
-use Rattle.cq_coordinator.specs.Coordination.{IsComputable}
+use Rattle.cq_history.specs.Computable.{IsComputable}
+use Rattle.cq_bound_laws.specs.Laws.{HasColumns}
+use Rattle.cq_bound_laws.proofs.Computable.{texts_compute}
 use Rattle.cq_session.specs.Responses.{ReadsAs}
-use Rattle.cq_session.proofs.Computable.{computable}
-
-by_ok : (a : Answer) (s : Statement) → ReadsAs (Some s) a (Ok s)
-by_ok (Failed fault.Memory) s = tt
-by_ok a s = refl
 
 pub reads_ok : (a : Answer) (s : Statement) (read : Result Statement Fault) → Reads read (Ok s) → ReadsAs (Some s) a read
-reads_ok a s read h = subst (λ (r : Result Statement Fault). ReadsAs (Some s) a r) (sym h) (by_ok a s)
+reads_ok a s read h = subst (λ (r : Result Statement Fault). ReadsAs (Some s) a r) (sym h) refl
 
 pub reads_err : (f : Fault) (read : Result Statement Fault) → Reads read (Err f) → ReadsAs None (Failed f) read
 reads_err fault.Memory read h = tt
-reads_err f read h = subst (λ (r : Result Statement Fault). ReadsAs None (Failed f) r) (sym h) (refl, refl)
+reads_err f read h = subst (λ (r : Result Statement Fault). ReadsAs None (Failed f) r) (sym h) refl
 
--- what is bound, the engine can compute
-pub computable_read : (c : Contents) (text : List ℕ) (s : Statement) (read : Result Statement Fault) → Means text c.tables read → Reads read (Ok s) → IsComputable c s
-computable_read c text s read means is =
+-- what a text is bound to can be computed and planned
+pub computable_read : (c : Contents) (text : List ℕ) (s : Statement) (read : Result Statement Fault) → IsWhole c → HasColumns c → Means text c.tables read → Reads read (Ok s) → IsComputable c s
+computable_read c text s read whole columns means is =
     let m = subst (Means text c.tables) is means in
-    computable c text m.found m.tree m.lexed m.spelled s m.reads
+    texts_compute c text m.tree s whole columns (record { words = m.found; cut = m.lexed; accepted = m.spelled }) m.reads

@@ -1,9 +1,11 @@
 ghost use Rattle.std.specs.Prelude.{◌≡◌, ℕ, List};
-ghost use Rattle.cq_history.specs.Between.{Responds};
-ghost use Rattle.cq_history.specs.Places.{EachJournal};
-ghost use Rattle.cq_history.specs.Legality.{IsLegal};
+ghost use Rattle.cq_bound_laws.specs.Laws.{HasColumns};
+ghost use Rattle.cq_history.specs.Journals.{journal_in};
+ghost use Rattle.cq_history.specs.Legality.{IsLegal, IsKeyed};
+ghost use Rattle.cq_history.specs.Log.{IsAnswered};
+ghost use Rattle.cq_history.specs.Refusals.{rules};
 ghost use Rattle.cq_store.specs.declared.worker.Worker.{Worker};
-ghost use Rattle.cq_cluster.specs.Cluster.{IsSound, KeepsStores, AreWorkers, whole_at};
+ghost use Rattle.cq_cluster.specs.Cluster.{IsSound, KeepsStores, AreWorkers, run_of};
 ghost use Rattle.cq_coordinator.specs.Coordination.{environment, journals};
 ghost use Rattle.cq_statement.specs.Meanings.{Means};
 ghost use Rattle.cq_statement.specs.Reading.{reading_of};
@@ -25,9 +27,10 @@ pub struct Response {
 
 /// Reads a statement's text over the catalogue and answers it.
 ///
-/// Conditions: the journals are legal. The bound form is what the text stands for over the tables that there are, by the grammar and the binder, or
-/// the answer is its first refusal; the answer is what `Responds` says: the statement's meaning over the undistributed database, or a refusal with
-/// its cause, or want of memory.
+/// Conditions: the journals are legal, primary keys of distributed tables have the distribution column, and that is a column of its table.
+/// The bound form is what the text stands for over the tables that there are, by the grammar and the binder; there is none where the
+/// answer is the text's first refusal, or memory ran out as it was read. The answer is what `IsAnswered` says: the statement's meaning
+/// over the undistributed database, or a refusal with its cause, or want of memory.
 pub fn respond<S: Store>(
     alloc: Global,
     coordinator: &mut Coordinator<S>,
@@ -35,8 +38,10 @@ pub fn respond<S: Store>(
     text: &[u8],
 ) -> Response
     requires sound { IsSound S.state coordinator.old.cluster }
-    requires legal { EachJournal (IsLegal coordinator.old.cluster.catalog) (journals coordinator.old) }
-    ensures responds { (entry : List (Worker S)) → AreWorkers S.state entry coordinator.old.cluster.groups.items coordinator.old.cluster.workers.items → Responds (whole_at entry) (environment coordinator.old) (environment coordinator.new) who (journals coordinator.old) (journals coordinator.new) result.bound result.answer }
+    requires legal { (g : ℕ) → IsLegal coordinator.old.cluster.catalog g (journal_in (journals coordinator.old) g) }
+    requires keyed { (table : ℕ) → IsKeyed coordinator.old.cluster.catalog table }
+    requires columns { HasColumns coordinator.old.cluster.catalog }
+    ensures answered { (entry : List (Worker S)) → AreWorkers S.state entry coordinator.old.cluster.groups.items coordinator.old.cluster.workers.items → IsAnswered rules (run_of entry) (environment coordinator.old) (environment coordinator.new) who (journals coordinator.old) (journals coordinator.new) result.bound result.answer }
     ensures reads { ReadsAs result.bound result.answer (reading_of text.now coordinator.old.cluster.catalog.tables) }
     ensures means { Means text.now coordinator.old.cluster.catalog.tables (reading_of text.now coordinator.old.cluster.catalog.tables) }
     ensures sound { IsSound S.state coordinator.new.cluster }

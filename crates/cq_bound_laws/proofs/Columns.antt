@@ -1,0 +1,172 @@
+-- Between two statements of a serial script each distribution column is a column of its table.
+use Rattle.std.proofs.Common.{◌≡◌, ◌<◌, zero, suc, ℕ, Bool, true, false, List, [], ◌∷◌, ◌++◌, length, refl, sym, ap, ◌∙◌, subst, arith, Some, None, Option, slice_get, position}
+use Rattle.std.specs.Prelude.{⊤, option_and_then, option_map, unwrap_or, is_none}
+use Rattle.std.proofs.lemmas.List.{length-map}
+use Rattle.std.proofs.lemmas.List.Quantifiers.{position-Some}
+use Rattle.cq_value.specs.declared.schema.Column.{Column}
+use Rattle.cq_value.specs.declared.schema.Kind.{Kind}
+use Rattle.cq_value.specs.declared.schema.With.{With}
+use Rattle.cq_catalog.specs.Contents.{Contents, number_of, table_named, place_in, columns_in, key_in, with_place, shape_of}
+use Rattle.cq_catalog.specs.Creation.{refusal_if, with_table}
+use Rattle.cq_catalog.specs.Distribution.{column_named, column_refusal, lacks, target_refusal, room_refusal, local_refusal, decision_of, distribution_refusal, distributed_at, distributed_by, with_reference}
+use Rattle.cq_catalog.specs.Refusals.{first_of}
+use Rattle.cq_catalog.specs.declared.decision.Target.{Target}
+use Rattle.cq_catalog.specs.declared.decision.Target.TheVariants.{Joins, Opens}
+use Rattle.cq_catalog.specs.declared.error.CatalogError.{CatalogError}
+use Rattle.cq_catalog.specs.declared.error.CatalogError.TheVariants.{UnknownColumn, KeyLacksColumn}
+use Rattle.cq_catalog.specs.declared.info.Place.{Place}
+use Rattle.cq_catalog.specs.declared.info.Place.TheVariants.{Local, Distributed, Reference}
+use Rattle.cq_catalog.specs.declared.info.TableInfo.{TableInfo}
+use Rattle.cq_tree.specs.declared.statement.Statement.{Statement}
+use Rattle.cq_tree.specs.declared.statement.Statement.TheVariants as statement
+use Rattle.cq_answer.specs.declared.answer.Answer.{Answer}
+use Rattle.cq_answer.specs.declared.answer.Answer.TheVariants as answer
+use Rattle.cq_answer.specs.declared.answer.Tag.{Tag}
+use Rattle.cq_answer.specs.declared.answered.Answered.{Answered}
+use Rattle.cq_answer.specs.declared.fault.Fault.{Fault}
+use Rattle.cq_answer.specs.Faults.{fault_of_catalog}
+use Rattle.cq_planning_laws.specs.Laid.{IsColumnOf}
+use Rattle.cq_journal.specs.Records.{Journal}
+use Rattle.cq_history.specs.Run.{Run, Rules, Environment, first, after, environment_from}
+use Rattle.cq_history.specs.Standing.{View, Yields, Runs, RunsUnless, distribution_fault}
+use Rattle.cq_history.specs.Deeds.{Deed, Does, in_deed}
+use Rattle.cq_history.specs.Log.{AllDoneFrom}
+use Rattle.cq_bound_laws.specs.Laws.{HasColumns, ColumnsStand}
+
+-- ---- lists of tables
+
+abbrev HasColumn : Option TableInfo → Type 0
+HasColumn o = IsColumnOf (length (shape_of o).kinds) (place_in o)
+
+one_more : (ts : List TableInfo) (t : TableInfo) → HasColumn (Some t) → ((i : ℕ) → HasColumn (slice_get ts i)) → (i : ℕ) → HasColumn (slice_get (ts ++ t ∷ []) i)
+one_more [] t own h zero = own
+one_more [] t own h (suc i) = tt
+one_more (u ∷ ts) t own h zero = h 0
+one_more (u ∷ ts) t own h (suc i) = one_more ts t own (λ j. h (suc j)) i
+
+one_placed : (ts : List TableInfo) (n : ℕ) (p : Place) → ((t : TableInfo) → slice_get ts n ≡ Some t → IsColumnOf (length (shape_of (Some t)).kinds) p) → ((i : ℕ) → HasColumn (slice_get ts i)) → (i : ℕ) → HasColumn (slice_get (with_place ts n p) i)
+one_placed [] n p own h i = h i
+one_placed (t ∷ ts) zero p own h zero = own t refl
+one_placed (t ∷ ts) zero p own h (suc i) = h (suc i)
+one_placed (t ∷ ts) (suc n) p own h zero = h 0
+one_placed (t ∷ ts) (suc n) p own h (suc i) = one_placed ts n p own (λ j. h (suc j)) i
+
+-- ---- the column by which a table is distributed
+
+first_none : {X : Type 0} (o : Option X) (rest : List (Option X)) → first_of (o ∷ rest) ≡ None → (o ≡ None) × (first_of rest ≡ None)
+first_none None rest h = (refl, h)
+first_none (Some x) rest h = absurd (cc h)
+
+not_refused : (b : Bool) (x : CatalogError) → refusal_if b x ≡ None → b ≡ false
+not_refused true x h = absurd (cc h)
+not_refused false x h = refl
+
+found_below : (columns : List Column) (test : Column → Bool) (o : Option ℕ) → position test columns ≡ o → is_none o ≡ false → unwrap_or o 0 < length columns
+found_below columns test None is h = absurd (cc h)
+found_below [] test (Some k) is h = absurd (cc is)
+found_below (c ∷ cs) test (Some k) is h = (position-Some test (c ∷ cs) k c is).0
+
+column_below : (columns : List Column) (name : List ℕ) → column_refusal columns name ≡ None → unwrap_or (column_named columns name) 0 < length columns
+column_below columns name h = found_below columns _ (column_named columns name) refl (not_refused (is_none (column_named columns name)) (UnknownColumn name) h)
+
+of_table : (tables : List TableInfo) (o : Option ℕ) (name : List ℕ) → column_refusal (columns_in (option_and_then (slice_get tables) o)) name ≡ None →
+    (t : TableInfo) → slice_get tables (unwrap_or o 0) ≡ Some t → unwrap_or (column_named (columns_in (option_and_then (slice_get tables) o)) name) 0 < length t.columns
+of_table tables None name h t is = absurd (omega (arith, column_below [] name h))
+of_table tables (Some n) name h t is =
+    subst (λ (u : Option TableInfo). unwrap_or (column_named (columns_in u) name) 0 < length t.columns) (sym is) (column_below t.columns name (ap (λ (u : Option TableInfo). column_refusal (columns_in u) name) (sym is) ∙ h))
+
+module _ (c : Contents) (columns : HasColumns c) where
+  created : (name : List ℕ) (cs : List Column) (key : List ℕ) → HasColumns (with_table c name cs key)
+  created name cs key = one_more c.tables (record { name = name; columns = cs; key = key; place = Local }) tt columns
+
+  referenced : (table : List ℕ) → HasColumns (with_reference c table)
+  referenced table = one_placed c.tables (unwrap_or (number_of c.tables table) 0) (Reference c.groups c.next_shard) (λ t is. tt) columns
+
+  distributed_to : (table column : ℕ) (kind : Kind) (target : Target) → ((t : TableInfo) → slice_get c.tables table ≡ Some t → column < length (shape_of (Some t)).kinds) → HasColumns (distributed_at c table column kind target)
+  distributed_to table column kind (Joins colocation) own = one_placed c.tables table (Distributed column colocation c.next_shard) own columns
+  distributed_to table column kind (Opens count joinable) own = one_placed c.tables table (Distributed column (length c.colocations) c.next_shard) own columns
+
+  distributed : (table column : List ℕ) (count : Option ℕ) (beside : With) (default : ℕ) → distribution_refusal c table column count beside default ≡ None → HasColumns (distributed_by c (decision_of c table column count beside default))
+  distributed table column count beside default h =
+      let info = table_named c.tables table in
+      let d = decision_of c table column count beside default in
+      let rest : List (Option CatalogError) =
+      refusal_if (lacks (key_in info) d.column) (KeyLacksColumn table) ∷ (target_refusal c d.kind count beside default ∷ (room_refusal c.groups d.target ∷ [])) in
+      let one = first_none (local_refusal c.tables table) (column_refusal (columns_in info) column ∷ rest) h in
+      let two = first_none (column_refusal (columns_in info) column) rest one.1 in
+      distributed_to d.table d.column d.kind d.target (λ t is.
+      subst (λ n. d.column < n) (sym (length-map t.columns (λ (x : Column). x.kind))) (of_table c.tables (number_of c.tables table) column two.0 t is))
+
+-- ---- statements
+
+-- an answer that isn't a refusal
+abbrev IsGiven : Answer → Type 0
+IsGiven (answer.Tag t) = ⊤
+IsGiven (answer.Table names rows) = ⊤
+IsGiven (answer.Failed f) = ⊥
+
+given_yields : (o : Option Fault) (done : Answer → Type 0) (a : Answer) → IsGiven a → Yields o done a → o ≡ None
+given_yields None done a g y = refl
+given_yields (Some f) done (answer.Tag t) g y = absurd (cc y)
+given_yields (Some f) done (answer.Table names rows) g y = absurd (cc y)
+given_yields (Some f) done (answer.Failed x) g y = absurd g
+
+given_runs : (o : Option Fault) (touched : List ℕ) (run : Run) (e : Environment) (v : View) (s : Statement) (a : Answer) → IsGiven a → RunsUnless o touched run e v s a → Runs touched run e v s a
+given_runs None touched run e v s a g r = r
+given_runs (Some f) touched run e v s a g r = absurd (cc (given_yields (Some f) (λ b. ⊥) a g r.1))
+
+none_before : (o : Option CatalogError) (more : List (Option Fault)) → first_of (option_map fault_of_catalog o ∷ more) ≡ None → o ≡ None
+none_before None more h = refl
+none_before (Some x) more h = absurd (cc h)
+
+module _ (rules : Rules) (run : Run) (e : Environment) (d : Deed) (columns : HasColumns e.catalog) where
+  runs : (s : Statement) (a : Answer) → IsGiven a → Does rules run e d (Some s) a → Runs (rules.touched e.catalog s) run e (in_deed e.catalog d) s a
+  runs s a g h = given_runs (rules.refusal e s) (rules.touched e.catalog s) run e (in_deed e.catalog d) s a g h.stands
+
+  after_distribution : (table column : List ℕ) (count : Option ℕ) (beside : With) (done : Answer → Type 0) (a : Answer) → IsGiven a → Yields (distribution_fault run e.catalog e.settings.shard_count table column count beside) done a →
+      HasColumns (distributed_by e.catalog (decision_of e.catalog table column count beside e.settings.shard_count))
+  after_distribution table column count beside done a g y =
+      distributed e.catalog columns table column count beside e.settings.shard_count (none_before (distribution_refusal e.catalog table column count beside e.settings.shard_count) _ (given_yields _ done a g y))
+
+  after_tag : (s : Statement) (t : Tag) → Does rules run e d (Some s) (answer.Tag t) → HasColumns (after e (Some s) (answer.Tag t)).catalog
+  after_tag (statement.CreateTable name cs key) t h = created e.catalog columns name cs key
+  after_tag (statement.Distribute table column count beside) t h = after_distribution table column count beside _ (answer.Tag t) tt (runs (statement.Distribute table column count beside) (answer.Tag t) tt h).1
+  after_tag (statement.Reference table) t h = referenced e.catalog columns table
+  after_tag (statement.Setting which value) t h = columns
+  after_tag (statement.Select q) t h = columns
+  after_tag (statement.Write op) t h = columns
+  after_tag (statement.Copy table cs csv header) t h = columns
+  after_tag (statement.Explain q) t h = columns
+  after_tag (statement.Move shard from to) t h = columns
+  after_tag (statement.Rebalance by_size) t h = columns
+  after_tag (statement.RebalancePlan by_size) t h = columns
+
+  after_table : (s : Statement) (names : _) (rows : _) → Does rules run e d (Some s) (answer.Table names rows) → HasColumns (after e (Some s) (answer.Table names rows)).catalog
+  after_table (statement.CreateTable name cs key) names rows h = created e.catalog columns name cs key
+  after_table (statement.Distribute table column count beside) names rows h =
+      after_distribution table column count beside _ (answer.Table names rows) tt (runs (statement.Distribute table column count beside) (answer.Table names rows) tt h).1
+  after_table (statement.Reference table) names rows h = referenced e.catalog columns table
+  after_table (statement.Setting which value) names rows h = columns
+  after_table (statement.Select q) names rows h = columns
+  after_table (statement.Write op) names rows h = columns
+  after_table (statement.Copy table cs csv header) names rows h = columns
+  after_table (statement.Explain q) names rows h = columns
+  after_table (statement.Move shard from to) names rows h = columns
+  after_table (statement.Rebalance by_size) names rows h = columns
+  after_table (statement.RebalancePlan by_size) names rows h = columns
+
+  after_any : (bound : Option Statement) (a : Answer) → Does rules run e d bound a → HasColumns (after e bound a).catalog
+  after_any None (answer.Tag t) h = columns
+  after_any None (answer.Table names rows) h = columns
+  after_any bound (answer.Failed f) h = columns
+  after_any (Some s) (answer.Tag t) h = after_tag s t h
+  after_any (Some s) (answer.Table names rows) h = after_table s names rows h
+
+after_all : (rules : Rules) (run : Run) (e : Environment) (last : Contents) (journals : List Journal) (answers : List Answered) → AllDoneFrom rules run e last journals answers → HasColumns e.catalog → HasColumns (environment_from e answers).catalog
+after_all rules run e last journals [] done h = h
+after_all rules run e last journals (a ∷ more) done h =
+    after_all rules run (after e a.bound a.answer) last journals more done.2 (after_any rules run e done.0.0 h a.bound a.answer done.0.1)
+
+pub columns_stand : ColumnsStand
+columns_stand rules run e answers journals c =
+    subst (λ (v : Environment). HasColumns v.catalog) (sym c.environment) (after_all rules run (first run) e.catalog journals answers c.done (λ table. tt))
