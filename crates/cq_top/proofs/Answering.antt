@@ -1,21 +1,20 @@
 -- Answers, one after another, to the texts of a script.
-use Rattle.std.proofs.Common.{suc, zero, ◌≡◌, ◌≢◌, ◌+◌, ◌-◌, ◌≤◌, inl, inr, ℕ, List, [], ◌∷◌, ◌++◌, length, take, drop, refl, sym, ◌∙◌, ap, subst, arith, Some, Option, append_assoc, append-nil}
-use Rattle.std.specs.Prelude.{fold, ◌↔◌}
+use Rattle.std.proofs.Common.{suc, zero, ◌≡◌, ◌+◌, ◌-◌, ◌≤◌, inl, inr, ℕ, List, [], ◌∷◌, ◌++◌, length, take, drop, refl, sym, ◌∙◌, ap, subst, arith, Some, Option, append-nil}
+use Rattle.std.specs.Prelude.{fold, min, ◌↔◌}
 use Rattle.std.proofs.Math.ListN.{set}
 use Rattle.std.proofs.lemmas.Grind.{common_steps}
-use Rattle.std.proofs.lemmas.List.{take-append-drop}
 use Rattle.cq_answer.specs.declared.answered.Answered.{Answered}
 use Rattle.cq_statement.specs.Reading.{reading_of}
-use Rattle.cq_history.specs.Environment.{Environment, after, first as at_first}
+use Rattle.cq_history.specs.Run.{Environment, after}
 use Rattle.cq_session.specs.Responses.{ReadsAs}
-use Rattle.cq_script.specs.Scripts.{Cut, Gives, pieces, statement_of, statements, whole_statements, rest_of, if_any}
+use Rattle.cq_script.specs.Scripts.{Gives, pieces, statement_of, statements, whole_statements, if_any}
 use Rattle.cq_script.specs.Streams.{SourceState, SinkState, Took, Moved}
 use Rattle.cq_script.proofs.CuttingLaws.{cut_first, cutting_more, cutting_gives, cutting_done, cut_last}
 use Rattle.cq_top.specs.declared.stop.Stop.{Stop}
 use Rattle.cq_top.specs.declared.stop.Stop.TheVariants as stops
 use Rattle.cq_top.specs.declared.status.Status.{Status}
 use Rattle.cq_top.specs.declared.status.Status.TheVariants.{WriteFault, Memory}
-use Rattle.cq_top.specs.Scripts.{AnswersFrom, AnswersTo, AnswersFirst, IsAnswered}
+use Rattle.cq_top.specs.Scripts.{start, AnswersFrom, AnswersTo, AnswersFirst, AnswersSome, most_bytes, IsAnswered}
 use Rattle.cq_top.specs.Serving.{AnswersNext, AnswersAny, AnswersAnyMaybe, IsAnsweredUpTo, IsAnswering, IsTaken, IsShownInPart, IsShownBy}
 
 -- the last item is exchanged
@@ -35,7 +34,7 @@ answers_from_more e [] (b ∷ answers) text a all r = absurd all
 answers_from_more e (t ∷ texts) [] text a all r = absurd all
 
 pub answers_more : (texts : List (List ℕ)) (old new : List Answered) (text : List ℕ) → AnswersTo texts old → AnswersNext old new text → AnswersTo (texts ++ text ∷ []) new
-answers_more texts old new text all next = subst (AnswersTo (texts ++ text ∷ [])) (sym next.1) (answers_from_more at_first texts old text next.0 all next.2)
+answers_more texts old new text all next = subst (AnswersTo (texts ++ text ∷ [])) (sym next.1) (answers_from_more start texts old text next.0 all next.2)
 
 -- one more text with its answer, if it has a byte
 pub answers_any : (texts : List (List ℕ)) (old new : List Answered) (text : List ℕ) → AnswersTo texts old → AnswersAny old new text → AnswersTo (texts ++ if_any text) new
@@ -88,27 +87,13 @@ answered_maybe bytes text old new a (inl e) = subst (AnswersFirst (statements by
 answered_maybe bytes text old new a (inr next) = answers_first (statements bytes) (statements bytes) [] new (append-nil (statements bytes)) (answered_last bytes text old new a next)
 
 -- a run that is stopped has answered the first statements
-pub answered_stop : (stop : Stop) (status : Status) (bytes : List ℕ) (n : ℕ) (answers : List Answered) → ((stop ≡ stops.WriteFault) ↔ (status ≡ WriteFault)) → ((stop ≡ stops.Memory) ↔ (status ≡ Memory)) → AnswersFirst (statements bytes) answers → IsAnswered status bytes n answers
+pub answered_stop : (stop : Stop) (status : Status) (bytes : List ℕ) (n : ℕ) (answers : List Answered) → ((stop ≡ stops.WriteFault) ↔ (status ≡ WriteFault)) → ((stop ≡ stops.Memory) ↔ (status ≡ Memory)) → AnswersSome bytes n answers → IsAnswered status bytes n answers
 answered_stop stops.WriteFault status bytes n answers w m first = subst (λ (s : Status). IsAnswered s bytes n answers) (sym (w.0 refl)) first
 answered_stop stops.Memory status bytes n answers w m first = subst (λ (s : Status). IsAnswered s bytes n answers) (sym (m.0 refl)) first
 
 pub shown_stop : (stop : Stop) (status : Status) (before : List ℕ) (sink : SinkState) (answers : List Answered) → ((stop ≡ stops.WriteFault) ↔ (status ≡ WriteFault)) → ((stop ≡ stops.Memory) ↔ (status ≡ Memory)) → IsShownInPart before sink answers → IsShownBy status before sink answers
 shown_stop stops.WriteFault status before sink answers w m part = subst (λ (s : Status). IsShownBy s before sink answers) (sym (w.0 refl)) part
 shown_stop stops.Memory status before sink answers w m part = subst (λ (s : Status). IsShownBy s before sink answers) (sym (m.0 refl)) part
-
--- the whole statements of some bytes are the first statements of these and more
-whole_first : (taken more : List ℕ) → (rest : List (List ℕ)) × (whole_statements taken ++ rest ≡ statements (taken ++ more))
-whole_first taken more =
-    let c = cutting_more taken more (whole_statements taken) (rest_of taken) (record { whole = refl; rest = refl }) in
-    let e = cut_last (taken ++ more) (whole_statements (taken ++ more)) (rest_of (taken ++ more)) (record { whole = refl; rest = refl }) in (
-      whole_statements (rest_of taken ++ more) ++ if_any (statement_of (rest_of (taken ++ more))),
-      sym (append_assoc (whole_statements taken) (whole_statements (rest_of taken ++ more)) (if_any (statement_of (rest_of (taken ++ more))))) ∙ ap (λ v. v ++ if_any (statement_of (rest_of (taken ++ more)))) c.whole ∙ e,
-    )
-
-pub first_of_all : (taken more : List ℕ) (answers : List Answered) → AnswersFirst (whole_statements taken) answers → AnswersFirst (statements (taken ++ more)) answers
-first_of_all taken more answers first =
-    let w = whole_first taken more in
-    (first.0, first.1 ++ w.0, sym w.1 ∙ ap (λ v. v ++ w.0) first.2 ∙ append_assoc first.0 first.1 w.0, first.3)
 
 -- before anything is taken
 pub taken_first : (s : SourceState) → IsTaken s s 0 [] []
@@ -167,15 +152,12 @@ taken_piece first old new taken n end room text after piece bytes answers more t
 
 -- or the first of them are
 pub taken_piece_first : (first old new : SourceState) (taken n end : ℕ) (room text piece bytes : List ℕ) (answers more : List Answered) → IsTaken first old taken text answers → Took old new n room → end ≤ n → piece ≡ take end room →
-    ((given : List ℕ) → IsAnsweredUpTo given text answers → AnswersFirst (whole_statements (given ++ piece)) more) → first.left ≡ Some bytes →
-    (new.left ≡ Some (drop (taken + n) bytes)) × AnswersFirst (statements bytes) more
-taken_piece_first first old new taken n end room text piece bytes answers more t took h is f e =
+    taken + end ≡ min (taken + n) most_bytes → ((given : List ℕ) → IsAnsweredUpTo given text answers → AnswersFirst (whole_statements (given ++ piece)) more) → first.left ≡ Some bytes →
+    (new.left ≡ Some (drop (taken + n) bytes)) × AnswersSome bytes (taken + n) more
+taken_piece_first first old new taken n end room text piece bytes answers more t took h is upto f e =
     let m = more_taken first old new taken n room text bytes answers t took e in
-    let front : take taken bytes ++ piece ≡ take (taken + end) bytes = ap (λ v. take taken bytes ++ v) is ∙ front_more bytes room taken n end h m.2 in (
-      m.0,
-      subst (λ (v : List ℕ). AnswersFirst (statements v) more) (ap (λ v. v ++ drop (taken + end) bytes) front ∙ take-append-drop (taken + end) bytes)
-          (first_of_all (take taken bytes ++ piece) (drop (taken + end) bytes) more (f (take taken bytes) (t bytes e).2)),
-    )
+    let front : take taken bytes ++ piece ≡ take (taken + end) bytes = ap (λ v. take taken bytes ++ v) is ∙ front_more bytes room taken n end h m.2 in
+    (m.0, inl (subst (λ (v : List ℕ). AnswersFirst (whole_statements v) more) (front ∙ ap (λ k. take k bytes) upto) (f (take taken bytes) (t bytes e).2)))
 
 pub length-take_le : {X : Type 0} (n : ℕ) (xs : List X) → length (take n xs) ≤ n
 length-take_le zero xs = omega arith

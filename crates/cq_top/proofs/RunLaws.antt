@@ -1,77 +1,68 @@
 -- The end of a run: its log, its stores, and the status after its last line.
-use Rattle.std.proofs.Common.{◌≡◌, ◌≢◌, ◌+◌, ◌<◌, ◌≤◌, ◌⊎◌, inl, inr, ℕ, List, [], ◌∷◌, length, map, take, drop, All, refl, sym, ◌∙◌, ap, subst, arith, Some, Option, slice_get, IsTrue, append-nil}
-use Rattle.std.specs.Prelude.{◌↔◌, nat_eq}
+use Rattle.std.proofs.Common.{◌≡◌, ◌≢◌, ◌+◌, ◌<◌, ◌≤◌, ◌⊎◌, inl, inr, ℕ, List, [], ◌∷◌, length, map, take, All, refl, sym, ◌∙◌, ap, subst, arith, Some, Option, IsTrue, append-nil}
+use Rattle.std.specs.Prelude.{◌↔◌, min, nat_eq}
 use Rattle.std.proofs.lemmas.Bool.{eqb-true}
 use Rattle.std.proofs.lemmas.Bool.Decides.{nat_tests}
 use Rattle.std.specs.List.{AllByRecursion}
-use Rattle.std.proofs.lemmas.List.{length-map, take-append-drop}
 use Rattle.std.proofs.lemmas.List.Elements.{All-head, All-tail}
 use Rattle.cq_answer.specs.declared.answered.Answered.{Answered}
-use Rattle.cq_tree.specs.declared.journal.Entry.{Entry}
 use Rattle.cq_catalog.specs.Contents.{Contents, nothing}
-use Rattle.cq_journal.specs.declared.journal.Journal.{Journal}
-use Rattle.cq_history.specs.Environment.{Environment, first, first_settings}
-use Rattle.cq_history.specs.Places.{EachJournal}
-use Rattle.cq_history.specs.Legality.{IsLegal}
-use Rattle.cq_history.specs.Log.{AllStand, IsInOrder, IsOfFirst}
-use Rattle.cq_history.specs.Room.{nodes}
-use Rattle.cq_history.specs.Between.{IsConsistent}
-use Rattle.cq_history.proofs.Standing.{all_stand}
+use Rattle.cq_journal.specs.Records.{Journal}
+use Rattle.cq_journal.specs.declared.journal.Journal as kept
+use Rattle.cq_history.specs.Run.{Environment, first, first_settings}
+use Rattle.cq_history.specs.Log.{AllStand, IsConsistent, IsWhole as IsWholeHistory}
+use Rattle.cq_history.specs.Refusals.{rules}
 use Rattle.cq_history.proofs.Lists.{two_ways}
-use Rattle.cq_history.proofs.Ddl.{consistent_first}
+use Rattle.cq_history.proofs.Script.{log_begins, log_stands}
 use Rattle.cq_store.specs.Stores.{StoreState, IsSpare}
 use Rattle.cq_store.specs.declared.worker.Worker.{Worker}
-use Rattle.cq_cluster.specs.Cluster.{stores_in, whole_at, AreIdle, IsWaiting}
-use Rattle.cq_cluster.specs.Ending.{IsFinal, AreJournals}
-use Rattle.cq_script.specs.Scripts.{statements, whole_statements}
+use Rattle.cq_cluster.specs.Cluster.{stores_in, run_of, AreIdle, IsWaiting}
+use Rattle.cq_cluster.specs.Ending.{IsFinal, record_of}
+use Rattle.cq_script.specs.Scripts.{whole_statements}
 use Rattle.cq_script.specs.Streams.{SourceState, SinkState, Rose}
 use Rattle.cq_top.specs.declared.log.RunLog.{RunLog}
 use Rattle.cq_top.specs.declared.status.Status.{Status}
 use Rattle.cq_top.specs.declared.status.Status.TheVariants.{Done, Usage, ReadFault, Stopped, WriteFault, Memory, TooLong, Script}
-use Rattle.cq_top.specs.Scripts.{AnswersTo, AnswersFirst, IsAnswered, Serves}
+use Rattle.cq_top.specs.Scripts.{AnswersTo, AnswersFirst, AnswersSome, most_bytes, IsAnswered, Serves}
 use Rattle.cq_top.specs.Serving.{IsEndedBy, IsRunEnd, BlamesSource, BlamesSink, BlamesLast}
-use Rattle.cq_top.specs.Runs.{IsEmptyLog, IsWhole, Stand, IsMisused, HasCause, journals_of}
-use Rattle.cq_top.proofs.Answering.{answers_first, first_of_all}
+use Rattle.cq_top.specs.Runs.{IsEmptyLog, IsWhole, Stand, IsMisused, HasCause, MayEnd, journals_of}
+use Rattle.cq_top.proofs.Answering.{answers_first}
 
 -- a log of consistent answers and journals
-pub whole_of : {X : Type 0} (log : RunLog X) (stores : ℕ → ℕ) (e : Environment) (histories : List (List Entry)) → IsConsistent stores e log.answers histories → log.catalog ≡ e.catalog → journals_of log ≡ histories →
-    AreJournals log.catalog log.journals.list → log.retired ≡ [] → log.waves ≡ [] → IsWhole log
-whole_of log stores e histories c catalog is opened retired waves = record {
+pub whole_of : {X Y : Type 0} (log : RunLog X) (entry : List (Worker Y)) (e : Environment) (journals : List Journal) → IsConsistent rules (run_of entry) e log.answers journals → log.catalog ≡ e.catalog →
+    journals_of log ≡ journals → log.retired ≡ [] → log.waves ≡ [] → IsWhole entry log
+whole_of log entry e journals c catalog is retired waves = record {
   catalog = catalog ∙ ap (λ (v : Environment). v.catalog) c.environment;
-  numbered = c.numbered;
-  opened = opened;
-  legal = subst (EachJournal (IsLegal log.catalog)) (sym is) (subst (λ (v : Contents). EachJournal (IsLegal v) histories) (sym catalog) c.legal);
-  known = subst (EachJournal (λ group es. AllByRecursion (IsOfFirst (length log.answers)) es)) (sym is) c.older;
-  ordered = subst (EachJournal (λ group es. IsInOrder es)) (sym is) c.order;
+  history = subst (IsWholeHistory (run_of entry) log.catalog log.answers) (sym is) (subst (λ (v : Contents). IsWholeHistory (run_of entry) v log.answers journals) (sym catalog) c.log);
   retired = retired;
   waves = waves;
 }
 
-pub stand_of : (answers : List Answered) (journals histories : List (List Entry)) (stores : ℕ → ℕ) (e : Environment) → IsConsistent stores e answers histories → journals ≡ histories → AllStand stores journals answers
-stand_of answers journals histories stores e c is = subst (λ (v : List (List Entry)). AllStand stores v answers) (sym is) (all_stand stores e histories answers c)
+pub stand_of : {X : Type 0} (entry : List (Worker X)) (e : Environment) (answers : List Answered) (journals kept : List Journal) → IsConsistent rules (run_of entry) e answers journals → kept ≡ journals →
+    AllStand rules (run_of entry) kept answers
+stand_of entry e answers journals kept c is = subst (λ (v : List Journal). AllStand rules (run_of entry) v answers) (sym is) (log_stands rules (run_of entry) e answers journals c).0
 
 -- before the first statement
-pub consistent_new : (stores : ℕ → ℕ) (c : Contents) (answers : List Answered) (journals : List (List Entry)) → c ≡ nothing → answers ≡ [] → journals ≡ [] → IsConsistent stores (record { catalog = c; settings = first_settings }) answers journals
-consistent_new stores c answers journals a b d = rw (a, b, d) (consistent_first stores)
+pub consistent_new : {X : Type 0} (entry : List (Worker X)) (c : Contents) (answers : List Answered) (journals : List Journal) → c ≡ nothing → answers ≡ [] → journals ≡ [] →
+    IsConsistent rules (run_of entry) (record { catalog = c; settings = first_settings }) answers journals
+consistent_new entry c answers journals a b d = rw (a, b, d) (log_begins rules (run_of entry))
 
 -- the empty log
-none_opened : AreJournals nothing []
-none_opened = record { count = refl; numbered = λ group j s. cc; opened = λ colocation i co j there h s. cc }
+pub empty_whole : {X Y : Type 0} (entry : List (Worker Y)) (log : RunLog X) → IsEmptyLog log → IsWhole entry log
+empty_whole entry log e =
+    whole_of log entry (first (run_of entry)) [] (subst (λ (v : List Answered). IsConsistent rules (run_of entry) (first (run_of entry)) v []) (sym e.answers) (log_begins rules (run_of entry))) e.catalog
+    (ap (map record_of) e.journals) e.retired e.waves
 
-pub empty_whole : {X : Type 0} (log : RunLog X) → IsEmptyLog log → IsWhole log
-empty_whole log e = whole_of log (λ place. 0) first [] (subst (λ (v : List Answered). IsConsistent (λ place. 0) first v []) (sym e.answers) (consistent_first (λ place. 0))) e.catalog
-    (ap (map (λ (j : Journal). j.entries.list)) e.journals) (rw (e.catalog, e.journals) none_opened) e.retired e.waves
-
-pub empty_stands : {X : Type 0} (stores : ℕ → ℕ) (log : RunLog X) → IsEmptyLog log → Stand stores log
-empty_stands stores log e = subst (λ (v : List Answered). AllStand stores (journals_of log) v) (sym e.answers) tt
+pub empty_stands : {X Y : Type 0} (entry : List (Worker Y)) (log : RunLog X) → IsEmptyLog log → Stand entry log
+empty_stands entry log e = subst (λ (v : List Answered). AllStand rules (run_of entry) (journals_of log) v) (sym e.answers) tt
 
 -- workers whose stores all wait
 spare_of_waiting : {X : Type 0} (state : X → StoreState) (node : ℕ) (xs : List X) → All (λ x. IsWaiting node (state x)) xs → AllByRecursion (λ x. IsSpare (state x)) xs
 spare_of_waiting state node [] all = tt
 spare_of_waiting state node (x ∷ xs) all = ((All-head (λ x. IsWaiting node (state x)) x xs all).spare, spare_of_waiting state node xs (All-tail (λ x. IsWaiting node (state x)) x xs all))
 
-pub final_idle : {X : Type 0} (state : X → StoreState) (c : Contents) (journals : List Journal) (workers : List (Worker X)) → AreIdle state workers → journals ≡ [] → IsFinal state workers c journals workers
-final_idle {X} state c journals workers idle none = subst (λ (v : List Journal). IsFinal state workers c v workers) (sym none) (record {
+pub final_idle : {X : Type 0} (state : X → StoreState) (c : Contents) (journals : List kept.Journal) (workers : List (Worker X)) → AreIdle state workers → journals ≡ [] → IsFinal state workers c journals workers
+final_idle {X} state c journals workers idle none = subst (λ (v : List kept.Journal). IsFinal state workers c v workers) (sym none) (record {
   same_length = refl;
   used = λ place w h s. record {
     node = (idle place w s).node;
@@ -82,38 +73,46 @@ final_idle {X} state c journals workers idle none = subst (λ (v : List Journal)
 })
 
 -- the statements that are answered when the last line can't be written
-answered_cut : (bytes : List ℕ) (n : ℕ) (answers : List Answered) → AnswersFirst (whole_statements (take n bytes)) answers → AnswersFirst (statements bytes) answers
-answered_cut bytes n answers first = subst (λ (v : List ℕ). AnswersFirst (statements v) answers) (take-append-drop n bytes) (first_of_all (take n bytes) (drop n bytes) answers first)
-
 all_first : (texts : List (List ℕ)) (answers : List Answered) → AnswersTo texts answers → AnswersFirst texts answers
 all_first texts answers all = answers_first texts texts [] answers (append-nil texts) all
 
-cut_usage : (bytes : List ℕ) (n : ℕ) (answers : List Answered) → IsAnswered Usage bytes n answers → AnswersFirst (statements bytes) answers
-cut_usage bytes n answers a = answers_first (statements bytes) [] (statements bytes) answers refl a.1
+some_of : (bytes : List ℕ) (n m : ℕ) (answers : List Answered) → min n most_bytes ≡ m → AnswersTo (whole_statements (take m bytes)) answers → AnswersSome bytes n answers
+some_of bytes n m answers e all = inl (subst (λ (k : ℕ). AnswersFirst (whole_statements (take k bytes)) answers) (sym e) (all_first (whole_statements (take m bytes)) answers all))
 
-cut_read : (bytes : List ℕ) (n : ℕ) (answers : List Answered) → IsAnswered ReadFault bytes n answers → AnswersFirst (statements bytes) answers
-cut_read bytes n answers a = answered_cut bytes n answers (all_first (whole_statements (take n bytes)) answers a)
+cut_usage : (bytes : List ℕ) (n : ℕ) (answers : List Answered) → IsAnswered Usage bytes n answers → AnswersSome bytes n answers
+cut_usage bytes n answers a = inl (answers_first (whole_statements (take (min n most_bytes) bytes)) [] (whole_statements (take (min n most_bytes) bytes)) answers refl a.1)
 
-cut_long : (bytes : List ℕ) (n : ℕ) (answers : List Answered) → IsAnswered TooLong bytes n answers → AnswersFirst (statements bytes) answers
-cut_long bytes n answers a = answered_cut bytes 16777216 answers (all_first (whole_statements (take 16777216 bytes)) answers a.1)
+cut_read : (bytes : List ℕ) (n : ℕ) (answers : List Answered) → IsAnswered ReadFault bytes n answers → AnswersSome bytes n answers
+cut_read bytes n answers a = some_of bytes n n answers (let few = a.0 in omega (arith, few)) a.1
 
-either_cut : (status end : Status) (bytes : List ℕ) (n : ℕ) (answers : List Answered) → ((end ≡ status) ⊎ ((end ≡ WriteFault) ⊎ (end ≡ Memory))) → IsAnswered status bytes n answers → AnswersFirst (statements bytes) answers → IsAnswered end bytes n answers
-either_cut status end bytes n answers (inl e) a first = subst (λ (s : Status). IsAnswered s bytes n answers) (sym e) a
-either_cut status end bytes n answers (inr (inl e)) a first = subst (λ (s : Status). IsAnswered s bytes n answers) (sym e) first
-either_cut status end bytes n answers (inr (inr e)) a first = subst (λ (s : Status). IsAnswered s bytes n answers) (sym e) first
+cut_long : (bytes : List ℕ) (n : ℕ) (answers : List Answered) → IsAnswered TooLong bytes n answers → AnswersSome bytes n answers
+cut_long bytes n answers a = some_of bytes n most_bytes answers (let more = a.1 in omega (arith, more)) a.2
+
+either_cut : (status end : Status) (bytes : List ℕ) (n : ℕ) (answers : List Answered) → ((end ≡ status) ⊎ ((end ≡ WriteFault) ⊎ (end ≡ Memory))) → IsAnswered status bytes n answers → AnswersSome bytes n answers → IsAnswered end bytes n answers
+either_cut status end bytes n answers (inl e) a some = subst (λ (s : Status). IsAnswered s bytes n answers) (sym e) a
+either_cut status end bytes n answers (inr (inl e)) a some = subst (λ (s : Status). IsAnswered s bytes n answers) (sym e) some
+either_cut status end bytes n answers (inr (inr e)) a some = subst (λ (s : Status). IsAnswered s bytes n answers) (sym e) some
 
 answered_ended : (status end : Status) (bytes : List ℕ) (n : ℕ) (answers : List Answered) → IsEndedBy status end → IsAnswered status bytes n answers → IsAnswered end bytes n answers
-answered_ended Done end bytes n answers e a = subst (λ (s : Status). IsAnswered s bytes n answers) (sym e) a
 answered_ended Usage end bytes n answers e a = either_cut Usage end bytes n answers e a (cut_usage bytes n answers a)
 answered_ended ReadFault end bytes n answers e a = either_cut ReadFault end bytes n answers e a (cut_read bytes n answers a)
-answered_ended Stopped end bytes n answers e a = subst (λ (s : Status). IsAnswered s bytes n answers) (sym e) a
-answered_ended WriteFault end bytes n answers e a = subst (λ (s : Status). IsAnswered s bytes n answers) (sym e) a
-answered_ended Memory end bytes n answers e a = subst (λ (s : Status). IsAnswered s bytes n answers) (sym e) a
 answered_ended TooLong end bytes n answers e a = either_cut TooLong end bytes n answers e a (cut_long bytes n answers a)
-answered_ended Script end bytes n answers e a = subst (λ (s : Status). IsAnswered s bytes n answers) (sym e) a
+answered_ended status end bytes n answers e a = subst (λ (s : Status). IsAnswered s bytes n answers) (sym e) a
 
 pub serves_ended : (status end : Status) (bytes : List ℕ) (left : Option (List ℕ)) (answers : List Answered) → IsEndedBy status end → Serves status bytes left answers → Serves end bytes left answers
 serves_ended status end bytes left answers e s = record { taken = s.taken; left_over = s.left_over; most = s.most; answered = answered_ended status end bytes s.taken answers e s.answered }
+
+-- how a run may end before its last line
+long_answered : (status : Status) (bytes : List ℕ) (n : ℕ) (answers : List Answered) → status ≡ TooLong → IsAnswered status bytes n answers → most_bytes < length bytes
+long_answered status bytes n answers e a = (subst (λ (s : Status). IsAnswered s bytes n answers) e a).0
+
+pub may_end : (status : Status) (words workers : ℕ) (source source_end : SourceState) (answers : List Answered) → ((status ≡ Usage) ↔ IsMisused words workers) → BlamesSource status source source_end →
+    ((bytes : List ℕ) → source.left ≡ Some bytes → Serves status bytes source_end.left answers) → MayEnd words workers source source_end status
+may_end status words workers source source_end answers usage blames served = record {
+  usage = usage;
+  read_fault = blames.rose;
+  too_long = λ e bytes left. (let s = served bytes left in long_answered status bytes s.taken answers e s.answered);
+}
 
 -- a status that no last line makes stays what it was
 pub ended_usage : (status end : Status) → IsEndedBy status end → end ≡ Usage → status ≡ Usage

@@ -24,14 +24,21 @@ last_line ReadFault = fatal_line fatal.Read
 last_line TooLong = fatal_line fatal.LimitBytes
 last_line status = []
 
--- where writing or memory failed: a front of the output, which has the texts of all answers before the last
-pub record IsCutOff (answers : List Answered) (shown : List ℕ) : Type 0 where
-  pub instead : Status
-  pub front : IsFront shown (texts answers ++ last_line instead)
+-- a front of the texts of the answers, which has those of all before the last
+pub record IsPart (answers : List Answered) (shown : List ℕ) : Type 0 where
+  pub front : IsFront shown (texts answers)
+  pub before_last : IsFront (texts (all_but_last answers)) shown
+
+-- where writing or memory failed: a front of the output that belongs to how the run ended before, which may be so; it has the texts of all
+-- answers before the last
+pub record IsCutOff (MayEnd : Status → Type 0) (answers : List Answered) (shown : List ℕ) : Type 0 where
+  pub before : Status
+  pub may : MayEnd before
+  pub front : IsFront shown (texts answers ++ last_line before)
   pub before_last : IsFront (texts (all_but_last answers)) shown
 
 -- what was written, by the status
-abbrev pub IsOutput : Status → List Answered → List ℕ → Type 0
-IsOutput WriteFault answers shown = IsCutOff answers shown
-IsOutput Memory answers shown = IsCutOff answers shown
-IsOutput status answers shown = shown ≡ texts answers ++ last_line status
+abbrev pub IsOutput : (Status → Type 0) → Status → List Answered → List ℕ → Type 0
+IsOutput MayEnd WriteFault answers shown = IsCutOff MayEnd answers shown
+IsOutput MayEnd Memory answers shown = IsCutOff MayEnd answers shown
+IsOutput MayEnd status answers shown = shown ≡ texts answers ++ last_line status

@@ -1,20 +1,20 @@
 -- What a run promises of its log, its answers, the bytes written and the stores.
-use Rattle.std.specs.Prelude.{◌≡◌, ◌≢◌, ◌<◌, ◌⊎◌, ℕ, IsTrue, Option, Some, List, [], ◌++◌, length, map}
-use Rattle.std.specs.List.{AllByRecursion}
-use Rattle.cq_tree.specs.declared.journal.Entry.{Entry}
+use Rattle.std.specs.Prelude.{◌≡◌, ◌≢◌, ◌<◌, ◌⊎◌, ◌↔◌, ℕ, IsTrue, Option, Some, List, [], ◌++◌, length, map}
 use Rattle.cq_answer.specs.declared.answered.Answered.{Answered}
 use Rattle.cq_catalog.specs.Contents.{nothing}
-use Rattle.cq_journal.specs.declared.journal.Journal.{Journal}
-use Rattle.cq_history.specs.Environment.{first, environment_of}
-use Rattle.cq_history.specs.Places.{EachJournal}
-use Rattle.cq_history.specs.Legality.{AllLegal}
-use Rattle.cq_history.specs.Log.{NumberedFrom, AllStand, IsInOrder, IsOfFirst}
-use Rattle.cq_cluster.specs.Ending.{AreJournals}
+use Rattle.cq_journal.specs.Records.{Journal}
+use Rattle.cq_history.specs.Run.{first, environment_from}
+use Rattle.cq_history.specs.Log.{AllStand, IsWhole as IsWholeHistory}
+use Rattle.cq_history.specs.Refusals.{rules}
+use Rattle.cq_store.specs.declared.worker.Worker.{Worker}
+use Rattle.cq_cluster.specs.Cluster.{run_of}
+use Rattle.cq_cluster.specs.Ending.{record_of}
 use Rattle.cq_script.specs.Streams.{SourceState, SinkState, Rose}
 use Rattle.cq_top.specs.declared.log.RunLog.{RunLog}
 use Rattle.cq_top.specs.declared.status.Status.{Status}
-use Rattle.cq_top.specs.declared.status.Status.TheVariants.{Usage, ReadFault, Stopped, WriteFault, Memory, Script}
+use Rattle.cq_top.specs.declared.status.Status.TheVariants.{Usage, ReadFault, Stopped, WriteFault, Memory, TooLong, Script}
 use Rattle.cq_top.specs.Outputs.{IsOutput}
+use Rattle.cq_top.specs.Scripts.{most_bytes}
 
 pub record IsEmptyLog {X : Type 0} (log : RunLog X) : Type 0 where
   pub answers : log.answers ≡ []
@@ -23,27 +23,23 @@ pub record IsEmptyLog {X : Type 0} (log : RunLog X) : Type 0 where
   pub retired : log.retired ≡ []
   pub waves : log.waves ≡ []
 
--- the entries of the journals, in order of group
-abbrev pub journals_of : {X : Type 0} → RunLog X → List (List Entry)
-journals_of log = map (λ (j : Journal). j.entries.list) log.journals.list
+-- the journals of a log, as answers are judged by them: each group held nothing as its entries began
+abbrev pub journals_of : {X : Type 0} → RunLog X → List Journal
+journals_of log = map record_of log.journals.list
 
--- the log is whole: its catalogue is that which its answers give; the answers are numbered, each with the settings that those before it
--- give; there is one journal for each shard group, opened on the group's node; each journal is a legal history, its entries are of
--- statements of the log, in the order of the statements
-pub record IsWhole {X : Type 0} (log : RunLog X) : Type 0 where
-  pub catalog : log.catalog ≡ (environment_of log.answers).catalog
-  pub numbered : NumberedFrom 1 first log.answers
-  pub opened : AreJournals log.catalog log.journals.list
-  pub legal : AllLegal log.catalog (journals_of log)
-  pub known : EachJournal (λ group es. AllByRecursion (IsOfFirst (length log.answers)) es) (journals_of log)
-  pub ordered : EachJournal (λ group es. IsInOrder es) (journals_of log)
+-- over workers that were handed in so, the log is whole: its catalogue is that which its answers give; the answers are numbered, each with
+-- the settings that those before it give; there is one journal for each shard group, opened on the group's node; each journal is a legal
+-- history, its entries are of statements of the log, in the order of the statements
+pub record IsWhole {X Y : Type 0} (entry : List (Worker Y)) (log : RunLog X) : Type 0 where
+  pub catalog : log.catalog ≡ (environment_from (first (run_of entry)) log.answers).catalog
+  pub history : IsWholeHistory (run_of entry) log.catalog log.answers (journals_of log)
   pub retired : log.retired ≡ []
   pub waves : log.waves ≡ []
 
--- every answer stands: it is its statement's meaning over the undistributed database, at the statement's places in the journals, or a
--- refusal with its cause, where the nodes had so many stores
-abbrev pub Stand : {X : Type 0} → (ℕ → ℕ) → RunLog X → Type 0
-Stand stores log = AllStand stores (journals_of log) log.answers
+-- every answer stands: it is its statement's meaning over the undistributed database, at every choice of places in the journals that takes the
+-- statement's own, or a refusal with its cause
+abbrev pub Stand : {X Y : Type 0} → List (Worker Y) → RunLog X → Type 0
+Stand entry log = AllStand rules (run_of entry) (journals_of log) log.answers
 
 -- the command line is wrong, or there are too few workers
 abbrev pub IsMisused : ℕ → ℕ → Type 0
@@ -61,6 +57,13 @@ pub record HasCause (status : Status) (words workers : ℕ) (source source_end :
   pub no_stop : status ≢ Stopped
   pub no_script : status ≢ Script
 
+-- how a run may end before its last line: a wrong command line ends it at once, a read fault only where the count of faults rose, and the
+-- limit of bytes only where there are more
+pub record MayEnd (words workers : ℕ) (source source_end : SourceState) (status : Status) : Type 0 where
+  pub usage : (status ≡ Usage) ↔ IsMisused words workers
+  pub read_fault : status ≡ ReadFault → Rose source.faults source_end.faults
+  pub too_long : status ≡ TooLong → (bytes : List ℕ) → source.left ≡ Some bytes → most_bytes < length bytes
+
 -- what was written after the bytes that stood there before
-abbrev pub Writes : Status → List Answered → List ℕ → Option (List ℕ) → Type 0
-Writes status answers before written = (shown : List ℕ) × (written ≡ Some (before ++ shown)) × IsOutput status answers shown
+abbrev pub Writes : (Status → Type 0) → Status → List Answered → List ℕ → Option (List ℕ) → Type 0
+Writes MayEnd status answers before written = (shown : List ℕ) × (written ≡ Some (before ++ shown)) × IsOutput MayEnd status answers shown

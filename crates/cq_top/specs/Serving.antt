@@ -2,11 +2,12 @@
 use Rattle.std.specs.Prelude.{◌≡◌, ◌≢◌, ◌≤◌, ◌⊎◌, ⊤, ℕ, IsTrue, Option, Some, None, List, [], ◌∷◌, ◌++◌, length, take, drop}
 use Rattle.cq_answer.specs.declared.answered.Answered.{Answered}
 use Rattle.cq_statement.specs.Reading.{reading_of}
-use Rattle.cq_history.specs.Environment.{environment_of}
-use Rattle.cq_history.specs.Between.{IsConsistent}
+use Rattle.cq_history.specs.Run.{environment_from}
+use Rattle.cq_history.specs.Log.{IsConsistent}
+use Rattle.cq_history.specs.Refusals.{rules}
 use Rattle.cq_store.specs.Stores.{StoreState}
 use Rattle.cq_store.specs.declared.worker.Worker.{Worker}
-use Rattle.cq_cluster.specs.Cluster.{IsSound, AreWorkers, whole_at}
+use Rattle.cq_cluster.specs.Cluster.{IsSound, AreWorkers, run_of}
 use Rattle.cq_script.specs.Scripts.{Cut, Cutting}
 use Rattle.cq_script.specs.Streams.{SourceState, SinkState, Rose}
 use Rattle.cq_script.specs.declared.fatal.Fatal.{Fatal}
@@ -16,12 +17,12 @@ use Rattle.cq_session.specs.Responses.{ReadsAs}
 use Rattle.cq_top.specs.declared.serving.Serving.{Serving}
 use Rattle.cq_top.specs.declared.status.Status.{Status}
 use Rattle.cq_top.specs.declared.status.Status.TheVariants.{Done, Usage, ReadFault, WriteFault, Memory, TooLong}
-use Rattle.cq_top.specs.Outputs.{texts, IsCutOff}
-use Rattle.cq_top.specs.Scripts.{AnswersTo}
+use Rattle.cq_top.specs.Outputs.{texts, IsPart}
+use Rattle.cq_top.specs.Scripts.{start, AnswersTo}
 
 -- over workers that were handed in so: the answers and the journals fit together, and the coordinator keeps its groups and stores
 pub record IsServingOver {X : Type 0} (state : X → StoreState) (entry : List (Worker X)) (s : Serving X) : Type 0 where
-  pub consistent : IsConsistent (whole_at entry) (environment s.coordinator) s.answers (journals s.coordinator)
+  pub consistent : IsConsistent rules (run_of entry) (environment s.coordinator) s.answers (journals s.coordinator)
   pub sound : IsSound state s.coordinator.cluster
   pub workers : AreWorkers state entry s.coordinator.cluster.groups.items s.coordinator.cluster.workers.items
 
@@ -35,7 +36,7 @@ KeepsServing {X} state old new = (entry : List (Worker X)) → IsServingOver sta
 
 -- one more answer, to this text
 abbrev pub AnswersNext : List Answered → List Answered → List ℕ → Type 0
-AnswersNext old new text = (a : Answered) × (new ≡ old ++ a ∷ []) × ReadsAs a.bound a.answer (reading_of text (environment_of old).catalog.tables)
+AnswersNext old new text = (a : Answered) × (new ≡ old ++ a ∷ []) × ReadsAs a.bound a.answer (reading_of text (environment_from start old).catalog.tables)
 
 -- the same, or there was no memory for it
 abbrev pub AnswersMaybe : List Answered → List Answered → List ℕ → Type 0
@@ -68,7 +69,7 @@ IsShown before sink answers = sink.written ≡ Some (before ++ texts answers)
 
 -- where writing was cut off
 abbrev pub IsShownInPart : List ℕ → SinkState → List Answered → Type 0
-IsShownInPart before sink answers = (shown : List ℕ) × (sink.written ≡ Some (before ++ shown)) × IsCutOff answers shown
+IsShownInPart before sink answers = (shown : List ℕ) × (sink.written ≡ Some (before ++ shown)) × IsPart answers shown
 
 -- a call that writes the texts of the answers that it adds
 abbrev pub ShowsMore : SinkState → SinkState → List Answered → List Answered → Type 0
@@ -118,6 +119,10 @@ HasLastLine Usage line = line ≡ Some fatal.Usage
 HasLastLine ReadFault line = line ≡ Some fatal.Read
 HasLastLine TooLong line = line ≡ Some fatal.LimitBytes
 HasLastLine status line = line ≡ None
+
+-- this status and no other
+abbrev pub Is : Status → Status → Type 0
+Is status s = s ≡ status
 
 -- how a run may end before its last line
 abbrev pub IsRunEnd : Status → Type 0

@@ -1,10 +1,10 @@
 ghost use Rattle.std.specs.Prelude.{◌≡◌, ◌<◌, ◌≤◌, ◌↔◌, ℕ, List, [], length, Some, map};
 ghost use Rattle.cq_store.specs.declared.worker.Worker.{Worker};
-ghost use Rattle.cq_cluster.specs.Cluster.{AreIdle, whole_at};
+ghost use Rattle.cq_cluster.specs.Cluster.{AreIdle};
 ghost use Rattle.cq_cluster.specs.Ending.{IsFinal};
 ghost use Rattle.cq_top.specs.Scripts.{Serves};
 ghost use Rattle.cq_top.specs.Serving.{IsServing, IsServingOver, IsShownBy, IsReadingEnd, IsRunEnd, BlamesSink, BlamesSource};
-ghost use Rattle.cq_top.specs.Runs.{IsEmptyLog, IsWhole, Stand, IsMisused, HasCause, Writes};
+ghost use Rattle.cq_top.specs.Runs.{IsEmptyLog, IsWhole, Stand, IsMisused, HasCause, MayEnd, Writes};
 
 use crate::ending::end_with;
 use crate::log::RunLog;
@@ -30,8 +30,8 @@ fn close<S: Store>(serving: Serving<S>, workers: &mut Vec<Worker<S>>, log: &mut 
     requires fresh { IsEmptyLog log.old }
     requires room { 512 ≤ log.old.journals.room }
     ensures answers { log.new.answers ≡ serving.answers }
-    ensures whole { IsWhole log.new }
-    ensures stand { (entry : List (Worker S)) → IsServingOver S.state entry serving → Stand (whole_at entry) log.new }
+    ensures whole { (entry : List (Worker S)) → IsServingOver S.state entry serving → IsWhole entry log.new }
+    ensures stand { (entry : List (Worker S)) → IsServingOver S.state entry serving → Stand entry log.new }
     ensures last { (entry : List (Worker S)) → IsServingOver S.state entry serving → IsFinal S.state entry log.new.catalog log.new.journals.list workers.new.items }
 {
     let Serving {
@@ -61,8 +61,8 @@ fn run_script<S: Store, I: Source, K: Sink, G: Gate>(
     requires both { 2 ≤ length workers.old.items }
     requires fresh { IsEmptyLog log.old }
     ensures end { IsReadingEnd result }
-    ensures whole { IsWhole log.new }
-    ensures stand { Stand (whole_at workers.old.items) log.new }
+    ensures whole { IsWhole workers.old.items log.new }
+    ensures stand { Stand workers.old.items log.new }
     ensures served { (bytes : List ℕ) → (I.told source.old).left ≡ Some bytes → Serves result bytes (I.told source.new).left log.new.answers }
     ensures shown { (before : List ℕ) → (K.shown sink.old).written ≡ Some before → IsShownBy result before (K.shown sink.new) log.new.answers }
     ensures source { BlamesSource result (I.told source.old) (I.told source.new) }
@@ -92,8 +92,8 @@ fn run_words<S: Store, I: Source, K: Sink, G: Gate>(
     requires fresh { IsEmptyLog log.old }
     ensures end { IsRunEnd result }
     ensures usage { (result ≡ Status.Usage) ↔ IsMisused (length words.now) (length workers.old.items) }
-    ensures whole { IsWhole log.new }
-    ensures stand { Stand (whole_at workers.old.items) log.new }
+    ensures whole { IsWhole workers.old.items log.new }
+    ensures stand { Stand workers.old.items log.new }
     ensures served { (bytes : List ℕ) → (I.told source.old).left ≡ Some bytes → Serves result bytes (I.told source.new).left log.new.answers }
     ensures shown { (before : List ℕ) → (K.shown sink.old).written ≡ Some before → IsShownBy result before (K.shown sink.new) log.new.answers }
     ensures source { BlamesSource result (I.told source.old) (I.told source.new) }
@@ -119,10 +119,10 @@ pub fn run_over<R: Threads + Wait + Sync, S: Store, I: Source, K: Sink, G: Gate>
 ) -> Status
     requires idle { AreIdle S.state workers.old.items }
     requires fresh { IsEmptyLog log.old }
-    ensures stand { Stand (whole_at workers.old.items) log.new }
-    ensures whole { IsWhole log.new }
+    ensures stand { Stand workers.old.items log.new }
+    ensures whole { IsWhole workers.old.items log.new }
     ensures serves { (bytes : List ℕ) → (I.told source.old).left ≡ Some bytes → Serves result bytes (I.told source.new).left log.new.answers }
-    ensures writes { (before : List ℕ) → (K.shown sink.old).written ≡ Some before → Writes result log.new.answers before (K.shown sink.new).written }
+    ensures writes { (before : List ℕ) → (K.shown sink.old).written ≡ Some before → Writes (MayEnd (length words.now) (length workers.old.items) (I.told source.old) (I.told source.new)) result log.new.answers before (K.shown sink.new).written }
     ensures last { IsFinal S.state workers.old.items log.new.catalog log.new.journals.list workers.new.items }
     ensures cause { HasCause result (length words.now) (length workers.old.items) (I.told source.old) (I.told source.new) (K.shown sink.old) (K.shown sink.new) }
 {
@@ -146,10 +146,10 @@ pub fn run<R: Threads + Wait + Sync, S: Source, K: Sink, G: Gate>(
 ) -> Status
     requires idle { AreIdle ⟦<Box<dyn Store + Send> as Store>⟧.state workers.old.items }
     requires fresh { IsEmptyLog log.old }
-    ensures stand { Stand (whole_at workers.old.items) log.new }
-    ensures whole { IsWhole log.new }
+    ensures stand { Stand workers.old.items log.new }
+    ensures whole { IsWhole workers.old.items log.new }
     ensures serves { (bytes : List ℕ) → (S.told source.old).left ≡ Some bytes → Serves result bytes (S.told source.new).left log.new.answers }
-    ensures writes { (before : List ℕ) → (K.shown sink.old).written ≡ Some before → Writes result log.new.answers before (K.shown sink.new).written }
+    ensures writes { (before : List ℕ) → (K.shown sink.old).written ≡ Some before → Writes (MayEnd (length words.now) (length workers.old.items) (S.told source.old) (S.told source.new)) result log.new.answers before (K.shown sink.new).written }
     ensures last { IsFinal ⟦<Box<dyn Store + Send> as Store>⟧.state workers.old.items log.new.catalog log.new.journals.list workers.new.items }
     ensures cause { HasCause result (length words.now) (length workers.old.items) (S.told source.old) (S.told source.new) (K.shown sink.old) (K.shown sink.new) }
 {

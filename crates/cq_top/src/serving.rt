@@ -1,6 +1,6 @@
 ghost use Rattle.std.specs.Prelude.{◌≡◌, ◌<◌, ◌+◌, ◌≤◌, ◌^◌, ◌⊎◌, [], ◌∷◌, ◌++◌, length, IfOk, OnOk, OnErr};
-ghost use Rattle.cq_history.specs.Room.{nodes};
 ghost use Rattle.cq_cluster.specs.Cluster.{AreIdle};
+ghost use Rattle.cq_cluster.specs.Room.{nodes};
 ghost use Rattle.cq_top.specs.Serving.{IsServing, IsServingOver, KeepsServing, AnswersNext};
 
 use cq_answer::{Answer, Answered, AnsweredList, Fault, Settings};

@@ -28,7 +28,7 @@ returns-in-Err-clause-served g c = λ bytes e.
       taken = c.loop-cutter.taken;
       left_over = c.in-Err.ensures.err.left ∙ t.0;
       most = omega (arith, c.loop-cutter.invariant.most);
-      answered = answered_whole (take c.loop-cutter.taken bytes) c.loop-cutter.cutter c.loop-cutter.serving.answers t.2;
+      answered = (c.loop-cutter.invariant.most, answered_whole (take c.loop-cutter.taken bytes) c.loop-cutter.cutter c.loop-cutter.serving.answers t.2);
     }
 
 pub returns-then-n-eq0-clause-served : goal.returns-then-n-eq0-clause-served
@@ -46,7 +46,7 @@ returns-then-n-eq0-clause-served g c = λ bytes e.
 pub returns-in-Err-feed-clause-served : goal.returns-in-Err-feed-clause-served
 returns-in-Err-feed-clause-served g c = λ bytes e.
     let t = taken_piece_first (g.I.Source.told c.args.source.now) (g.I.Source.told c.loop-cutter.source) (g.I.Source.told c.take.new.self) c.loop-cutter.taken c.in-Ok.n (min c.in-Ok.n (16777216 - c.loop-cutter.taken)) c.take.new.room c.loop-cutter.cutter _ bytes c.loop-cutter.serving.answers c.feed.new.serving.answers
-    c.loop-cutter.invariant.reads c.in-Ok.ensures.ok (omega arith) (ap (λ k. take k c.take.new.room) (omega arith)) c.in-Err-feed.ensures.first e in
+    c.loop-cutter.invariant.reads c.in-Ok.ensures.ok (omega arith) (ap (λ k. take k c.take.new.room) (omega arith)) (omega (arith, c.loop-cutter.invariant.most)) c.in-Err-feed.ensures.first e in
     record {
       taken = c.loop-cutter.taken + c.in-Ok.n;
       left_over = t.0;
@@ -68,7 +68,11 @@ returns-then-end-n-clause-served g c = λ bytes e.
       taken = c.loop-cutter.taken + c.in-Ok.n;
       left_over = t.0;
       most = omega (arith, c.loop-cutter.invariant.most, c.in-Ok.ensures.within, length-take_le c.min-free.result c.loop-cutter.room);
-      answered = (omega (arith, c.loop-cutter.invariant.most, t.1), answered_whole (take 16777216 bytes) c.feed.new.cutter c.feed.new.serving.answers (subst (λ k. IsAnsweredUpTo (take k bytes) c.feed.new.cutter c.feed.new.serving.answers) all t.2));
+      answered = (
+        omega (arith, c.loop-cutter.invariant.most, t.1),
+        omega (arith, c.loop-cutter.invariant.most, c.in-Ok.ensures.within, length-take_le c.min-free.result c.loop-cutter.room),
+        answered_whole (take 16777216 bytes) c.feed.new.cutter c.feed.new.serving.answers (subst (λ k. IsAnsweredUpTo (take k bytes) c.feed.new.cutter c.feed.new.serving.answers) all t.2),
+      );
     }
 
 pub loop-cutter-preserved : goal.loop-cutter-preserved

@@ -1,7 +1,6 @@
-use Rattle.std.proofs.Common.{◌≤◌, length, arith, sym, subst}
+use Rattle.std.proofs.Common.{arith, sym, subst}
 use Rattle.cq_catalog.specs.Contents.{Contents}
-use Rattle.cq_cluster.specs.Cluster.{whole_at}
-use Rattle.cq_cluster.specs.Ending.{AreJournals, IsFinal}
+use Rattle.cq_cluster.specs.Ending.{IsFinal}
 use Rattle.cq_coordinator.specs.Coordination.{environment, journals}
 use Rattle.cq_top.proofs.RunLaws.{whole_of, stand_of}
 use Rattle.cq_top.proofs.running.close.Goals as goal
@@ -13,13 +12,12 @@ pub close-catalog-requires-clause-room : goal.close-catalog-requires-clause-room
 close-catalog-requires-clause-room g c = (let s = c.requires.serving.1.sound in omega (arith, s.groups.count, s.whole.few_groups, c.requires.room))
 
 pub returns-clause-whole : goal.returns-clause-whole
-returns-clause-whole g c =
-    whole_of _ (whole_at c.requires.serving.0) (environment c.args.serving.coordinator) (journals c.args.serving.coordinator) c.requires.serving.1.consistent c.close-catalog.ensures.catalog c.close-catalog.ensures.entries
-    (subst (λ (v : Contents). AreJournals v c.close-catalog.new.journals.list) (sym c.close-catalog.ensures.catalog) c.close-catalog.ensures.journals) c.requires.fresh.retired c.requires.fresh.waves
+returns-clause-whole g c = λ entry s.
+    whole_of _ entry (environment c.args.serving.coordinator) (journals c.args.serving.coordinator) s.consistent c.close-catalog.ensures.catalog c.close-catalog.ensures.journals c.requires.fresh.retired c.requires.fresh.waves
 
 pub returns-clause-stand : goal.returns-clause-stand
 returns-clause-stand g c = λ entry s.
-    stand_of c.args.serving.answers _ (journals c.args.serving.coordinator) (whole_at entry) (environment c.args.serving.coordinator) s.consistent c.close-catalog.ensures.entries
+    stand_of entry (environment c.args.serving.coordinator) c.args.serving.answers (journals c.args.serving.coordinator) _ s.consistent c.close-catalog.ensures.journals
 
 pub returns-clause-last : goal.returns-clause-last
 returns-clause-last g c = λ entry s.

@@ -1,5 +1,4 @@
-use Rattle.cq_cluster.specs.Cluster.{whole_at}
-use Rattle.cq_top.proofs.RunLaws.{empty_whole, empty_stands, final_idle}
+use Rattle.cq_top.proofs.RunLaws.{final_idle}
 use Rattle.cq_top.proofs.running.run_words.Goals as goal
 
 pub returns-then-not-is_empty-clause-last : goal.returns-then-not-is_empty-clause-last

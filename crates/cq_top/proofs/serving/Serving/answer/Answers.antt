@@ -1,9 +1,13 @@
-use Rattle.std.proofs.Common.{◌≡◌, ◌+◌, length, List, arith, sym, ap, subst, ℕ}
+use Rattle.std.proofs.Common.{◌≡◌, ◌+◌, ◌++◌, ◌∷◌, [], length, List, arith, sym, ap, subst, ℕ}
+use Rattle.cq_tree.specs.declared.journal.Who.{Who}
 use Rattle.cq_answer.specs.declared.answered.Answered.{Answered}
-use Rattle.cq_cluster.specs.Cluster.{whole_at}
+use Rattle.cq_bound_laws.proofs.Columns.{columns_stand}
+use Rattle.cq_cluster.specs.Cluster.{run_of}
 use Rattle.cq_coordinator.specs.Coordination.{environment, journals}
-use Rattle.cq_history.specs.Environment.{Environment}
-use Rattle.cq_history.specs.Between.{IsConsistent}
+use Rattle.cq_history.specs.Log.{IsConsistent, IsAnswered, next_who, answered_by}
+use Rattle.cq_history.specs.Refusals.{rules}
+use Rattle.cq_history.specs.Run.{Environment}
+use Rattle.cq_history.proofs.Script.{answers_go_on}
 use Rattle.cq_session.specs.Responses.{ReadsAs}
 use Rattle.cq_statement.specs.Reading.{reading_of}
 use Rattle.cq_top.proofs.Answering.{set_last}
@@ -13,15 +17,29 @@ pub respond-bound-requires-clause-sound : goal.respond-bound-requires-clause-sou
 respond-bound-requires-clause-sound g c = c.requires.serving.1.sound
 
 pub respond-bound-requires-clause-legal : goal.respond-bound-requires-clause-legal
-respond-bound-requires-clause-legal g c = c.requires.serving.1.consistent.legal
+respond-bound-requires-clause-legal g c = c.requires.serving.1.consistent.log.legal
+
+pub respond-bound-requires-clause-keyed : goal.respond-bound-requires-clause-keyed
+respond-bound-requires-clause-keyed g c = c.requires.serving.1.consistent.log.laid.keyed
+
+pub respond-bound-requires-clause-columns : goal.respond-bound-requires-clause-columns
+respond-bound-requires-clause-columns g c =
+    columns_stand rules (run_of c.requires.serving.0) (environment c.args.self.now.coordinator) c.args.self.now.answers (journals c.args.self.now.coordinator) c.requires.serving.1.consistent
 
 pub returns-clause-keeps : goal.returns-clause-keeps
 returns-clause-keeps g c = λ entry s.
     let number : c.len-number.result + 1 ≡ length c.args.self.now.answers + 1 = omega (arith, c.len-number.ensures) in
     let e = set_last c.args.self.now.answers c.put.new.self c.set.new.self _ _ (c.len-number.result + 1) number c.in_ok-put.ensures.ok c.set.ensures in
-    let kept = c.respond-bound.ensures.responds entry s.workers c.args.self.now.answers s.consistent (ap (λ (n : ℕ). record { session = 0; statement = n }) number) in
+    let old = c.args.self.now.coordinator in
+    let new = c.respond-bound.new.coordinator in
+    let who : Who = record { session = 0; statement = c.len-number.result + 1 } in
+    let is : who ≡ next_who c.args.self.now.answers = ap (λ (n : ℕ). record { session = 0; statement = n }) number in
+    let answered = subst (λ (w : Who). IsAnswered rules (run_of entry) (environment old) (environment new) w (journals old) (journals new) c.respond-bound.result.bound c.respond-bound.result.answer) is
+    (c.respond-bound.ensures.answered entry s.workers) in
+    let kept = answers_go_on rules (run_of entry) (λ m n h. h) (environment old) (environment new) c.args.self.now.answers (journals old) (journals new) c.respond-bound.result.bound c.respond-bound.result.answer s.consistent answered in
+    let its = subst (λ (w : Who). IsConsistent rules (run_of entry) (environment new) (c.args.self.now.answers ++ answered_by w (environment old) c.respond-bound.result.bound c.respond-bound.result.answer ∷ []) (journals new)) (sym is) kept in
     record {
-      consistent = subst (λ (v : List Answered). IsConsistent (whole_at entry) (environment c.respond-bound.new.coordinator) v (journals c.respond-bound.new.coordinator)) (sym e) kept;
+      consistent = subst (λ (v : List Answered). IsConsistent rules (run_of entry) (environment new) v (journals new)) (sym e) its;
       sound = c.respond-bound.ensures.sound;
       workers = c.respond-bound.ensures.stores entry s.workers;
     }
