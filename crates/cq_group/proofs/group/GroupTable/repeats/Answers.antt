@@ -18,7 +18,7 @@ returns-then-len-eq0-clause-repeats g c =
 pub returns-then-len-eq0-clause-same : goal.returns-then-len-eq0-clause-same
 returns-then-len-eq0-clause-same g c = table_refl (Lifted g.S.Store.state Rests) (λ x. rests (g.S.Store.state x)) c.args.self.now
 
-pub returns-in-Ok-clause-repeats : goal.returns-clause-repeats
+pub returns-in-Ok-clause-repeats : goal.returns-in-Ok-clause-repeats
 returns-in-Ok-clause-repeats g c =
     let first = first_at g.S.Store.state c.args.self.now.stores.items c.in_ok-table.table c.requires c.in_ok-table.ensures.rows in
     let key = c.as_slice-2.ensures ∙ ap (λ (shape : Shape). shape.key) c.scan.ensures.same.same.shape in
