@@ -1,2 +1,4 @@
 pub mod Growth
-pub mod Looking
+pub mod ReadLaws
+pub mod GatherLaws
+pub mod Nodes
