@@ -107,7 +107,7 @@ rows_put_all done (p ∷ ps) t =
 pub merged_rows : (tables : Tables) (t : ℕ) → table_rows (merged tables) t ≡ gathered tables t
 merged_rows tables t = rows_put_all [] tables t
 
-gathered_append : (xs ys : Tables) (t : ℕ) → gathered (xs ++ ys) t ≡ gathered xs t ++ gathered ys t
+pub gathered_append : (xs ys : Tables) (t : ℕ) → gathered (xs ++ ys) t ≡ gathered xs t ++ gathered ys t
 gathered_append [] ys t = refl
 gathered_append (x ∷ xs) ys t = ap (λ v. cond (nat_eq x.0 t) x.1 [] ++ v) (gathered_append xs ys t) ∙ sym (append_assoc (cond (nat_eq x.0 t) x.1 []) (gathered xs t) (gathered ys t))
 
@@ -192,7 +192,7 @@ module _ {X : Type 0} (c : Contents) (groups : List (GroupState X)) where
       ap (λ (s : Shape). rows_of (replay table s (entries_of h))) all.0 ∙ ap (λ (j : Journal). rows_of (held_in c j table)) (sym (journal_at groups g h _ at)) in
       λ i. (table, same i) ∷ its_rows g h at tables all.1 i
 
-  look_rows : (g : ℕ) (tables : List ℕ) → HasShapes c groups g tables → captured_of (slice_get groups g) tables ≡ seen_of c g (rows_at g) 0 tables
+  pub look_rows : (g : ℕ) (tables : List ℕ) → HasShapes c groups g tables → captured_of (slice_get groups g) tables ≡ seen_of c g (rows_at g) 0 tables
   look_rows g tables has = ap (λ (o : Option (GroupState X)). captured_of o tables) has.there ∙ its_rows g has.group has.there tables has.shaped
 
   module _ (tables : List ℕ) (t : ℕ) (m : among t tables ≡ true) where

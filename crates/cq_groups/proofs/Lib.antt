@@ -1,4 +1,6 @@
 pub mod Growth
 pub mod ReadLaws
 pub mod GatherLaws
+pub mod LookLaws
+pub mod QueryLaws
 pub mod Nodes
