@@ -1,7 +1,7 @@
 -- One shard group of several goes on.
-use Rattle.std.proofs.Common.{◌≡◌, ◌≢◌, inl, inr, ℕ, zero, suc, ◌<◌, ◌≤◌, true, false, List, [], ◌∷◌, ◌++◌, length, map, refl, sym, ap, ◌∙◌, subst, arith, Some, None, slice_get, get_or, ◌⊎◌}
-use Rattle.std.specs.List.{AllByRecursion, AllZip}
-use Rattle.std.specs.Prelude.{nat_eq, slice_index_or, IsSome}
+use Rattle.std.proofs.Common.{◌≡◌, ◌≢◌, inl, inr, ℕ, zero, suc, ◌<◌, true, false, List, [], ◌∷◌, ◌++◌, length, map, refl, sym, ap, ◌∙◌, subst, arith, Some, slice_get, get_or}
+use Rattle.std.specs.List.{AllZip}
+use Rattle.std.specs.Prelude.{nat_eq, slice_index_or}
 use Rattle.std.proofs.Math.ListN.{set}
 use Rattle.std.proofs.lemmas.List.{length-set}
 use Rattle.std.proofs.lemmas.Bool.Decides.{eqb_tells}
@@ -11,11 +11,11 @@ use Rattle.cq_tree.specs.declared.journal.EntryKind.{EntryKind}
 use Rattle.cq_journal.specs.Records.{Journal}
 use Rattle.cq_store.specs.Stores.{StoreState}
 use Rattle.cq_group.specs.declared.group.GroupState.{GroupState}
-use Rattle.cq_group.specs.Groups.{IsSameGroup, HasTable, outlines, shape_at, entries_of, journal_of, stores_of}
+use Rattle.cq_group.specs.Groups.{IsSameGroup, entries_of, journal_of, stores_of}
 use Rattle.cq_group.specs.Calls.{GroupGoesOn, Lifted, GoesOn}
 use Rattle.cq_group.specs.Resting.{journals_of, IsResting, AreResting, GoOn}
 use Rattle.cq_group.proofs.WriteLaws.{goes_on_twice}
-use Rattle.cq_history.specs.Journals.{journal_in, in_each, with_entries}
+use Rattle.cq_history.specs.Journals.{in_each, with_entries}
 use Rattle.cq_history.specs.Deeds.{Grows}
 use Rattle.cq_history.proofs.Growing.{one_grows}
 

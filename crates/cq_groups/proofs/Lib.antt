@@ -1,2 +1,6 @@
 pub mod Growth
-pub mod Looking
+pub mod ReadLaws
+pub mod GatherLaws
+pub mod LookLaws
+pub mod QueryLaws
+pub mod Nodes

@@ -3,7 +3,13 @@
 #![tactic(auto)]
 
 mod error;
+mod gathering;
+mod looks;
 mod reads;
+mod tables;
 
 pub use error::WriteError;
+pub use gathering::gather;
+pub use looks::looks_at;
 pub use reads::{Look, Looks, pick_group, read_groups};
+pub use tables::tables_of;

@@ -5,6 +5,7 @@ ghost use Rattle.cq_planning.specs.Reaching.{IsAscendingFrom};
 ghost use Rattle.cq_group.specs.Resting.{journals_of, AreResting, GoOn};
 ghost use Rattle.cq_groups.specs.Reads.{captured_of, captured_by, groups_in, CanLook, AreRead, AreReadInPart, Leaves, rows_in};
 
+use crate::gathering::put_all;
 use cq_group::{GroupError, GroupState, Tables};
 use cq_store::{ColumnValues, Store};
 use cq_tree::Who;
@@ -44,16 +45,6 @@ fn read_group<S: Store>(
     }
 }
 
-/// Puts more tables behind the rest.
-fn put_tables(seen: &mut Tables, more: Tables) -> Result<(), NoMemory>
-    ensures { OnOk result (seen.new ≡ seen.old ++ more) }
-{
-    for table in more.into_vec() {
-        seen.put(table)?;
-    }
-    Ok(())
-}
-
 /// The rows of these tables of several shard groups, each of which has one Read in its journal then. The groups are in ascending order.
 ///
 /// Errors: want of memory. Some of the groups have a Read then.
@@ -74,7 +65,7 @@ pub fn read_groups<S: Store>(
     let mut seen = Tables::new(alloc);
     for look in looks {
         let tables = read_group(alloc, groups, who, look)?;
-        put_tables(&mut seen, tables)?;
+        put_all(&mut seen, tables)?;
     }
     Ok(seen)
 }

@@ -1,10 +1,9 @@
-use Rattle.std.proofs.Common.{[], ◌∷◌, ap, sym, ◌∙◌, ◌≡◌, false, true}
+use Rattle.std.proofs.Common.{[], ◌∷◌, sym, ◌∙◌, ◌≡◌}
 use Rattle.cq_tree.specs.declared.journal.EntryKind.TheVariants.{Read}
-use Rattle.cq_group.specs.declared.group.GroupError.{GroupError}
 use Rattle.cq_group.specs.declared.group.GroupError.TheVariants.{Worker, Memory}
 use Rattle.cq_store.specs.Stores.{has_values}
 use Rattle.cq_groups.proofs.Growth.{grows_in, same_in, go_on_set}
-use Rattle.cq_groups.proofs.Looking.{group_at, has_tables, is_near, rows_seen}
+use Rattle.cq_groups.proofs.ReadLaws.{group_at, has_tables, is_near, rows_seen}
 use Rattle.cq_groups.proofs.reads.pick_group.Goals as goal
 
 pub pick-requires-clause-kept : goal.pick-requires-clause-kept

@@ -1,5 +1,5 @@
 use Rattle.std.proofs.Common.{take}
-use Rattle.cq_groups.proofs.Looking.{ReadSoFar}
+use Rattle.cq_groups.proofs.ReadLaws.{ReadSoFar}
 use Rattle.cq_groups.proofs.reads.read_groups.Given as goal
 
 abbrev pub invariant-loop-look : goal.invariant-loop-look

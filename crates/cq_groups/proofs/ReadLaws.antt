@@ -1,7 +1,7 @@
 -- Looks at one shard group after another.
-use Rattle.std.proofs.Common.{◌≡◌, inl, inr, ℕ, zero, suc, ◌+◌, ◌<◌, ◌≤◌, Bool, true, false, List, [], ◌∷◌, ◌++◌, length, map, take, refl, sym, ap, ◌∙◌, subst, arith, Some, None, Option, slice_get, get_or}
-use Rattle.std.specs.List.{AllByRecursion, flat_map}
-use Rattle.std.specs.Prelude.{nat_eq, IsSome, filter}
+use Rattle.std.proofs.Common.{◌≡◌, inl, inr, ℕ, zero, suc, ◌+◌, ◌<◌, ◌≤◌, Bool, true, false, List, [], ◌∷◌, ◌++◌, length, map, take, refl, sym, ap, ◌∙◌, subst, arith, Some, Option, slice_get, get_or}
+use Rattle.std.specs.List.{AllByRecursion}
+use Rattle.std.specs.Prelude.{IsSome, filter}
 use Rattle.std.proofs.Math.ListN.{set}
 use Rattle.std.proofs.lemmas.List.{take_more}
 use Rattle.std.proofs.lemmas.Grind.{flat_map-append}
@@ -22,14 +22,14 @@ use Rattle.cq_planning.specs.Reaching.{IsAscendingFrom}
 use Rattle.cq_planning.specs.Touched.{among}
 use Rattle.cq_group.specs.declared.group.GroupState.{GroupState}
 use Rattle.cq_group.specs.Groups.{IsSameGroup, HasTable, Outline, outlines, shape_at, or_no_shape, shapes, entries_of}
-use Rattle.cq_group.specs.Calls.{captured, GroupGoesOn}
-use Rattle.cq_group.specs.Resting.{journals_of, IsResting, AreResting, GoOn}
+use Rattle.cq_group.specs.Calls.{captured}
+use Rattle.cq_group.specs.Resting.{journals_of, AreResting, GoOn}
 use Rattle.cq_history.specs.Journals.{in_each}
 use Rattle.cq_history.specs.Standing.{AreAmong}
 use Rattle.cq_history.specs.Deeds.{Grows}
 use Rattle.cq_history.proofs.Growing.{none_grow, each_grows}
 use Rattle.cq_groups.specs.Reads.{Look, captured_of, captured_by, groups_in, rows_in, CanLook, AreRead, AreReadInPart, Leaves}
-use Rattle.cq_groups.proofs.Growth.{got_at, got_below, got, one_item, set_there, set_beside, grows_in, same_in, go_on_itself, go_on_twice, rest_again, as_many}
+use Rattle.cq_groups.proofs.Growth.{got_at, got_below, got, one_item, set_there, set_beside, go_on_itself, go_on_twice, as_many}
 
 -- ---- what the entries leave
 
