@@ -3,5 +3,8 @@
 #![tactic(auto)]
 
 mod error;
+mod staging;
+mod writes;
 
 pub use error::WriteError;
+pub use writes::write_groups;

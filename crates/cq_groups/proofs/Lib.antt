@@ -1,0 +1,9 @@
+pub mod Turning
+pub mod Holding
+pub mod Stopping
+pub mod Counting
+pub mod Entering
+pub mod Written
+pub mod Touching
+pub mod Judging
+pub mod Answering
