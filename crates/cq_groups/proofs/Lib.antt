@@ -4,3 +4,12 @@ pub mod GatherLaws
 pub mod LookLaws
 pub mod QueryLaws
 pub mod Nodes
+pub mod Turning
+pub mod Holding
+pub mod Stopping
+pub mod Counting
+pub mod Entering
+pub mod Written
+pub mod Touching
+pub mod Judging
+pub mod Answering

@@ -54,15 +54,15 @@ AscendFrom low [] = ⊤
 AscendFrom low (p ∷ ps) = (low ≤ p.group) × AscendFrom (p.group + 1) ps
 
 -- one Write in the group of each of these parts, with its count
-abbrev pub entered : (ℕ → ℕ) → List Part → Kinds
+abbrev pub entered : (Part → ℕ) → List Part → Kinds
 entered counts [] g = []
-entered counts (p ∷ ps) g = in_each (p.group ∷ []) (λ h. entry.Write p.op (Count (counts h))) g ++ entered counts ps g
+entered counts (p ∷ ps) g = in_each (p.group ∷ []) (λ h. entry.Write p.op (Count (counts p))) g ++ entered counts ps g
 
 -- every part was made, and the counts' sum is this
 pub record AreMade {X : Type 0} (who : Who) (parts : List Part) (old new : List (GroupState X)) (n : ℕ) : Type 0 where
-  pub counts : ℕ → ℕ
-  pub sum : n ≡ sum_by (λ (p : Part). counts p.group) parts
-  pub replied : AllByRecursion (λ (p : Part). Replies old p (Count (counts p.group))) parts
+  pub counts : Part → ℕ
+  pub sum : n ≡ sum_by counts parts
+  pub replied : AllByRecursion (λ (p : Part). Replies old p (Count (counts p))) parts
   pub grows : Grows who (entered counts parts) (journals_of old) (journals_of new)
 
 -- the parts before this one could be made

@@ -6,10 +6,13 @@ mod error;
 mod gathering;
 mod looks;
 mod reads;
+mod staging;
 mod tables;
+mod writes;
 
 pub use error::WriteError;
 pub use gathering::gather;
 pub use looks::looks_at;
 pub use reads::{Look, Looks, pick_group, read_groups};
 pub use tables::tables_of;
+pub use writes::write_groups;
