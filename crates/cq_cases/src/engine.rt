@@ -93,7 +93,10 @@ impl Database {
 fn rows_of(alloc: Global, catalog: &Catalog, text: &str) -> Option<(u32, Rows)> {
     match bound(alloc, catalog, text)? {
         Statement::Write(ShardOp::Insert { table, rows }) => Some((table, rows)),
-        _other => None,
+        other => {
+            drop(other);
+            None
+        }
     }
 }
 
@@ -190,7 +193,10 @@ fn said(rt: &impl Abort, alloc: Global, catalog: &Catalog, text: &str) -> Result
     match bound(alloc, catalog, text) {
         Some(Statement::Select(query)) => queried(rt, alloc, catalog, &query),
         Some(Statement::Write(op)) => written(rt, alloc, catalog, &op),
-        _other => Err(Fail::from("no query and no write")),
+        other => {
+            drop(other);
+            Err(Fail::from("no query and no write"))
+        }
     }
 }
 

@@ -72,7 +72,7 @@ fn settle<S: Store>(group: &mut GroupState<S>, who: Who, op: ShardOp, staged: St
         Staged::Ready(reply) | Staged::Refused(reply) => {
             group.commit_write(who, op, reply);
         }
-        Staged::NoIds => {}
+        Staged::NoIds => drop(op),
     }
 }
 
@@ -93,9 +93,16 @@ fn insert<S: Store>(
     let Ok(op) = insertion(alloc, key) else {
         return Err(GroupError::Memory);
     };
-    let staged = group.stage_write(alloc, &op)?;
-    settle(group, who, op, staged);
-    Ok(staged)
+    match group.stage_write(alloc, &op) {
+        Ok(staged) => {
+            settle(group, who, op, staged);
+            Ok(staged)
+        }
+        Err(error) => {
+            drop(op);
+            Err(error)
+        }
+    }
 }
 
 fn who(statement: u64) -> Who {

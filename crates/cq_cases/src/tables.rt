@@ -27,7 +27,10 @@ fn create(alloc: Global, catalog: &mut Catalog, text: &'static str) -> Result<()
             catalog.create_table(&name, columns, key)?;
             Ok(())
         }
-        _other => Err(Fail::from(text)),
+        other => {
+            drop(other);
+            Err(Fail::from(text))
+        }
     }
 }
 

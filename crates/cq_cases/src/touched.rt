@@ -109,7 +109,10 @@ fn touched(alloc: Global, catalog: &Catalog, text: &str) -> Option<Touched> {
     let op = match bound(alloc, catalog, text)? {
         Statement::Select(q) => return prune(alloc, catalog, &q).ok(),
         Statement::Write(op) => op,
-        _other => return None,
+        other => {
+            drop(other);
+            return None;
+        }
     };
     let mut groups = Touched::new(alloc);
     groups.put(written(alloc, catalog, &op).ok()?).ok()?;
