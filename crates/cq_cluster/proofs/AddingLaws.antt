@@ -4,13 +4,14 @@ use Rattle.std.specs.Prelude.{nat_eq, nat_le, nat_lt}
 use Rattle.std.specs.List.{AllByRecursion}
 use Rattle.std.proofs.Math.ListN.{set}
 use Rattle.std.proofs.lemmas.Bool.Decides.{nat_tests, eqb_tells}
+use Rattle.std.proofs.lemmas.Nat.{mod_below}
 use Rattle.std.proofs.lemmas.Option.{slice_get_read}
 use Rattle.cq_value.specs.declared.schema.Shape.{Shape}
 use Rattle.cq_journal.specs.declared.journal.Journal.{Journal}
 use Rattle.cq_store.specs.Stores.{StoreState}
 use Rattle.cq_store.specs.Workers.{room}
 use Rattle.cq_store.specs.declared.worker.Worker.{Worker}
-use Rattle.cq_cluster.specs.Room.{nodes, shards_on}
+use Rattle.cq_cluster.specs.Room.{shards_on}
 use Rattle.cq_group.specs.declared.group.GroupState.{GroupState}
 use Rattle.cq_group.specs.Groups.{IsKept, IsQuiet, IsSteady, Outline, outlines, entries_of, stores_of, shape_at}
 use Rattle.cq_group.specs.Opening.{EndsUnwritten}
@@ -18,6 +19,7 @@ use Rattle.cq_cluster.specs.declared.shards.Shards.{Shards}
 use Rattle.cq_cluster.specs.Cluster.{held, node_of}
 use Rattle.cq_cluster.specs.Steps.{AllWait, Lacks, Goes, Loses, more_at, AreSpent, IsUnwritten, shard_outline, Adding}
 use Rattle.cq_cluster.proofs.ListLaws.{got_after, got_other, there}
+use Rattle.cq_cluster.proofs.RoomLaws.{next_here, next_elsewhere, none_on, fewer_on}
 use Rattle.cq_cluster.proofs.GoneLaws.{goes_on, goes_back, gone_set, held_set}
 
 -- ---- which groups have the table
@@ -53,16 +55,16 @@ zero_either false = refl
 
 -- ---- the workers
 
-module _ {X : Type 0} (state : X → StoreState) where
+module _ {X : Type 0} (state : X → StoreState) (nodes : ℕ) (some : 0 < nodes) where
   -- one worker changes, so that it is as it must be for another number of shards
-  spent_set : (old now : List (Worker X)) (n m place : ℕ) (w new : Worker X) → place < nodes → ((k : ℕ) → k < nodes → k ≢ place → shards_on m k ≡ shards_on n k) → AreSpent state n old now → slice_get now place ≡ Some w →
-      ((v : Worker X) → Lacks (shards_on n place) v w → Lacks (shards_on m place) v new) → AllWait state new → AreSpent state m old (set now place new)
+  spent_set : (old now : List (Worker X)) (n m place : ℕ) (w new : Worker X) → place < nodes → ((k : ℕ) → k < nodes → k ≢ place → shards_on nodes m k ≡ shards_on nodes n k) → AreSpent state nodes n old now → slice_get now place ≡ Some w →
+      ((v : Worker X) → Lacks (shards_on nodes n place) v w → Lacks (shards_on nodes m place) v new) → AllWait state new → AreSpent state nodes m old (set now place new)
   spent_set old now n m place w new h same p there_is step wait = record {
     same_length = length-set now place new ∙ p.same_length;
     used = λ k v x l s t. elim (got_after now place new k x t) [
       | inl e ↦
           let first = p.used place v w h (subst (λ j. slice_get old j ≡ Some v) e.0 s) there_is in
-          (subst (λ (y : Worker X). Lacks (shards_on m k) v y) (sym e.1) (subst (λ j. Lacks (shards_on m j) v new) (sym e.0) (step v first.0)), subst (λ (y : Worker X). AllWait state y) (sym e.1) wait)
+          (subst (λ (y : Worker X). Lacks (shards_on nodes m k) v y) (sym e.1) (subst (λ j. Lacks (shards_on nodes m j) v new) (sym e.0) (step v first.0)), subst (λ (y : Worker X). AllWait state y) (sym e.1) wait)
       | inr e ↦
           let was = p.used k v x l s e.1 in
           (subst (λ j. Lacks j v x) (sym (same k l e.0)) was.0, was.1)
@@ -70,53 +72,64 @@ module _ {X : Type 0} (state : X → StoreState) where
     unused = λ k l. got_other now place new k (λ e. absurd (omega (arith, e, l, h))) ∙ p.unused k l;
   }
 
-  one_spent : (old now : List (Worker X)) (n place : ℕ) (w new : Worker X) → place ≡ n % 2 → AreSpent state n old now → slice_get now place ≡ Some w → Lacks 1 w new → AllWait state new → AreSpent state (n + 1) old (set now place new)
+  pub low : (n place : ℕ) → place ≡ n % nodes → place < nodes
+  low n place e = let below = mod_below n nodes some in omega (arith, e, below)
+
+  one_spent : (old now : List (Worker X)) (n place : ℕ) (w new : Worker X) → place ≡ n % nodes → AreSpent state nodes n old now → slice_get now place ≡ Some w → Lacks 1 w new → AllWait state new → AreSpent state nodes (n + 1) old (set now place new)
   one_spent old now n place w new e p there_is lacks wait =
-      spent_set old now n (n + 1) place w new (omega (arith, e)) (λ k l d. omega (arith, e)) p there_is
-      (λ v was. record { node = lacks.node ∙ was.node; total = omega (arith, e, lacks.total, was.total); room = omega (arith, e, lacks.room, was.room) }) wait
+      let more = next_here nodes some n place e in
+      spent_set old now n (n + 1) place w new (low n place e) (λ k l d. next_elsewhere nodes some n k l (λ f. d (f ∙ sym e))) p there_is
+      (λ v was. record { node = lacks.node ∙ was.node; total = omega (arith, more, lacks.total, was.total); room = omega (arith, more, lacks.room, was.room) }) wait
 
-  one_back : (old now : List (Worker X)) (n place : ℕ) (w new : Worker X) → place ≡ n % 2 → AreSpent state (n + 1) old now → slice_get now place ≡ Some w → Lacks 1 new w → AllWait state new → AreSpent state n old (set now place new)
+  one_back : (old now : List (Worker X)) (n place : ℕ) (w new : Worker X) → place ≡ n % nodes → AreSpent state nodes (n + 1) old now → slice_get now place ≡ Some w → Lacks 1 new w → AllWait state new → AreSpent state nodes n old (set now place new)
   one_back old now n place w new e p there_is lacks wait =
-      spent_set old now (n + 1) n place w new (omega (arith, e)) (λ k l d. omega (arith, e)) p there_is
-      (λ v was. record { node = sym lacks.node ∙ was.node; total = omega (arith, e, lacks.total, was.total); room = omega (arith, e, lacks.room, was.room) }) wait
+      let more = next_here nodes some n place e in
+      spent_set old now (n + 1) n place w new (low n place e) (λ k l d. sym (next_elsewhere nodes some n k l (λ f. d (f ∙ sym e)))) p there_is
+      (λ v was. record { node = sym lacks.node ∙ was.node; total = omega (arith, more, lacks.total, was.total); room = omega (arith, more, lacks.room, was.room) }) wait
 
-  none_spent : (old now : List (Worker X)) (n place : ℕ) (w new : Worker X) → place < nodes → AreSpent state n old now → slice_get now place ≡ Some w → Lacks 0 w new → AllWait state new → AreSpent state n old (set now place new)
+  none_spent : (old now : List (Worker X)) (n place : ℕ) (w new : Worker X) → place < nodes → AreSpent state nodes n old now → slice_get now place ≡ Some w → Lacks 0 w new → AllWait state new → AreSpent state nodes n old (set now place new)
   none_spent old now n place w new h p there_is lacks wait =
       spent_set old now n n place w new h (λ k l d. refl) p there_is
       (λ v was. record { node = lacks.node ∙ was.node; total = omega (arith, lacks.total, was.total); room = omega (arith, lacks.room, was.room) }) wait
 
   -- before the first shard
-  pub spent_none : (workers : List (Worker X)) → ((place : ℕ) (w : Worker X) → place < nodes → slice_get workers place ≡ Some w → AllWait state w) → AreSpent state 0 workers workers
+  pub spent_none : (workers : List (Worker X)) → ((place : ℕ) (w : Worker X) → place < nodes → slice_get workers place ≡ Some w → AllWait state w) → AreSpent state nodes 0 workers workers
   spent_none workers wait = record {
     same_length = refl;
     used = λ place v w h s t.
         let same : v ≡ w = some_is (sym s ∙ t) in
-        (subst (λ (x : Worker X). Lacks (shards_on 0 place) v x) same (record { node = refl; total = omega (arith, h); room = omega (arith, h) }), wait place w h t);
+        let none = none_on nodes some place h in
+        (subst (λ (x : Worker X). Lacks (shards_on nodes 0 place) v x) same (record { node = refl; total = omega (arith, none); room = omega (arith, none) }), wait place w h t);
     unused = λ place h. refl;
   }
     where
       some_is : {a b : Worker X} → Some a ≡ Some b → a ≡ b
       some_is e = cc
 
+module _ {X : Type 0} (state : X → StoreState) where
   -- the worker of the next shard: its stores wait, and it has one for it
   pub worker_of : (shards : Shards) (shape : Shape) (old groups : List (GroupState X)) (full workers : List (Worker X)) (n place : ℕ) (w : Worker X) → Adding state shards shape old full n groups workers → n < shards.count →
-      place ≡ n % 2 → w ≡ get_or workers place w → (slice_get workers place ≡ Some w) × AllWait state w × (w.node ≡ node_of n) × (0 < length w.stores.items)
+      place ≡ n % shards.nodes → w ≡ get_or workers place w → (slice_get workers place ≡ Some w) × AllWait state w × (w.node ≡ node_of shards.nodes n) × (0 < length w.stores.items)
   worker_of shards shape old groups full workers n place w a less e is =
-      let s : slice_get workers place ≡ Some w = slice_get_read workers (length workers) place w refl (omega (arith, e, a.both, a.spent.same_length)) is in
+      let within = low state shards.nodes a.some n place e in
+      let fewer = fewer_on shards.nodes a.some n shards.count place less e in
+      let s : slice_get workers place ≡ Some w = slice_get_read workers (length workers) place w refl (omega (arith, within, a.enough, a.spent.same_length)) is in
       let before = there full workers place w w a.spent.same_length s in
-      let used = a.spent.used place (get_or full place w) w (omega (arith, e)) before s in
-      let had = a.stores place (get_or full place w) (omega (arith, e)) before in
-      (s, used.1, used.0.node ∙ had.0 ∙ ap (λ m. m + 1) e, omega (arith, e, used.0.total, had.2, less))
+      let used = a.spent.used place (get_or full place w) w within before s in
+      let had = a.stores place (get_or full place w) within before in
+      (s, used.1, used.0.node ∙ had.0 ∙ ap (λ m. m + 1) e, omega (arith, fewer, used.0.total, had.2))
 
   -- the worker of the last shard has room for its store
   pub worker_back : (shards : Shards) (shape : Shape) (old groups : List (GroupState X)) (full workers : List (Worker X)) (n place : ℕ) (w : Worker X) → Adding state shards shape old full (n + 1) groups workers →
-      place ≡ n % 2 → w ≡ get_or workers place w → (slice_get workers place ≡ Some w) × AllWait state w × (w.node ≡ node_of n) × (0 < room w.stores)
+      place ≡ n % shards.nodes → w ≡ get_or workers place w → (slice_get workers place ≡ Some w) × AllWait state w × (w.node ≡ node_of shards.nodes n) × (0 < room w.stores)
   worker_back shards shape old groups full workers n place w a e is =
-      let s : slice_get workers place ≡ Some w = slice_get_read workers (length workers) place w refl (omega (arith, e, a.both, a.spent.same_length)) is in
+      let within = low state shards.nodes a.some n place e in
+      let more = next_here shards.nodes a.some n place e in
+      let s : slice_get workers place ≡ Some w = slice_get_read workers (length workers) place w refl (omega (arith, within, a.enough, a.spent.same_length)) is in
       let before = there full workers place w w a.spent.same_length s in
-      let used = a.spent.used place (get_or full place w) w (omega (arith, e)) before s in
-      let had = a.stores place (get_or full place w) (omega (arith, e)) before in
-      (s, used.1, used.0.node ∙ had.0 ∙ ap (λ m. m + 1) e, omega (arith, e, used.0.room))
+      let used = a.spent.used place (get_or full place w) w within before s in
+      let had = a.stores place (get_or full place w) within before in
+      (s, used.1, used.0.node ∙ had.0 ∙ ap (λ m. m + 1) e, omega (arith, more, used.0.room))
 
   -- ---- the groups
 
@@ -138,7 +151,7 @@ module _ {X : Type 0} (state : X → StoreState) where
     pub quiet : IsQuiet state g
     pub steady : IsSteady state g
     pub new : shape_at (outlines g) shards.table ≡ None
-    pub node : g.node ≡ node_of n
+    pub node : g.node ≡ node_of shards.nodes n
 
   pub next_group : (shards : Shards) (shape : Shape) (old groups : List (GroupState X)) (full workers : List (Worker X)) (n k : ℕ) (g : GroupState X) → Adding state shards shape old full n groups workers → n < shards.count →
       k ≡ shards.first_group + n → g ≡ get_or groups k g → NextGroup shards n groups g
@@ -158,7 +171,7 @@ module _ {X : Type 0} (state : X → StoreState) where
         quiet = goes.quiet;
         steady = goes.steady;
         new = ap (λ (v : List Outline). shape_at v shards.table) same ∙ ready.0;
-        node = goes.node ∙ ready.1 ∙ ap node_of offset;
+        node = goes.node ∙ ready.1 ∙ ap (node_of shards.nodes) offset;
       }
 
   -- the group whose table was added last
@@ -168,7 +181,7 @@ module _ {X : Type 0} (state : X → StoreState) where
     pub quiet : IsQuiet state g
     pub steady : IsSteady state g
     pub unwritten : EndsUnwritten g
-    pub node : g.node ≡ node_of n
+    pub node : g.node ≡ node_of shards.nodes n
 
   pub last_group : (shards : Shards) (shape : Shape) (old groups : List (GroupState X)) (full workers : List (Worker X)) (n k : ℕ) (g : GroupState X) → Adding state shards shape old full (n + 1) groups workers →
       k ≡ shards.first_group + n → g ≡ get_or groups k g → LastGroup shards n groups g
@@ -187,31 +200,31 @@ module _ {X : Type 0} (state : X → StoreState) where
         quiet = goes.quiet;
         steady = goes.steady;
         unwritten = record { others = outlines was.0; last = o n; tables = goes.outlined; unwritten = unwritten_at shards.table groups (first + n) g a.unwritten here };
-        node = goes.node ∙ ready.1 ∙ ap node_of offset;
+        node = goes.node ∙ ready.1 ∙ ap (node_of shards.nodes) offset;
       }
 
   -- ---- one step
 
-  module _ (shards : Shards) (shape : Shape) (old groups : List (GroupState X)) (full workers : List (Worker X)) (n k place : ℕ) (g new : GroupState X) (w after : Worker X) (e : k ≡ shards.first_group + n) (p : place ≡ n % 2) where
-    counted : (q m : ℕ) → slice_get groups k ≡ Some g → new.node ≡ g.node → g.node ≡ node_of n → length (stores_of new) + q ≡ length (stores_of g) + m → (j : ℕ) → j < nodes →
-        held j (set groups k new) + cond (nat_eq (node_of n) (j + 1)) q 0 ≡ held j groups + cond (nat_eq (node_of n) (j + 1)) m 0
+  module _ (shards : Shards) (shape : Shape) (old groups : List (GroupState X)) (full workers : List (Worker X)) (n k place : ℕ) (g new : GroupState X) (w after : Worker X) (e : k ≡ shards.first_group + n) (p : place ≡ n % shards.nodes) where
+    counted : (q m : ℕ) → slice_get groups k ≡ Some g → new.node ≡ g.node → g.node ≡ node_of shards.nodes n → length (stores_of new) + q ≡ length (stores_of g) + m → (j : ℕ) → j < shards.nodes →
+        held j (set groups k new) + cond (nat_eq (node_of shards.nodes n) (j + 1)) q 0 ≡ held j groups + cond (nat_eq (node_of shards.nodes n) (j + 1)) m 0
     counted q m s same node count j h =
         let further = rw node at (held_set state j groups k g new s same) in
-        elim (eqb_tells (node_of n) (j + 1)) [
+        elim (eqb_tells (node_of shards.nodes n) (j + 1)) [
           | inl y ↦ (let f = rw y.0 at further in rw y.0 (omega (arith, f, count)))
           | inr z ↦ (let f = rw z.0 at further in rw z.0 (omega (arith, f)))
         ]
 
-    on_node : (j : ℕ) → j < nodes → shards_on (n + 1) j ≡ shards_on n j + cond (nat_eq (node_of n) (j + 1)) 1 0
-    on_node j h = elim (eqb_tells (node_of n) (j + 1)) [ inl y ↦ (let f = y.1 in rw y.0 (omega (arith, f, h))) | inr z ↦ rw z.0 (apart z.1) ]
-      where
-        apart : node_of n ≢ j + 1 → shards_on (n + 1) j ≡ shards_on n j + 0
-        apart ne = omega (arith, ne, h)
+    on_node : 0 < shards.nodes → (j : ℕ) → j < shards.nodes → shards_on shards.nodes (n + 1) j ≡ shards_on shards.nodes n j + cond (nat_eq (node_of shards.nodes n) (j + 1)) 1 0
+    on_node some j h = elim (eqb_tells (node_of shards.nodes n) (j + 1)) [
+      | inl y ↦ (let here : j ≡ n % shards.nodes = omega (arith, y.1) in rw y.0 (next_here shards.nodes some n j here))
+      | inr z ↦ rw z.0 (let same = next_elsewhere shards.nodes some n j h (λ f. z.1 (omega (arith, f))) in omega (arith, same))
+    ]
 
     same_entries : new.journal ≡ g.journal → entries_of new ≡ entries_of g
     same_entries j = ap (λ (v : Journal). v.entries.list) j
 
-    pub adding_more : n < shards.count → Adding state shards shape old full n groups workers → slice_get groups k ≡ Some g → slice_get workers place ≡ Some w → g.node ≡ node_of n → Goes state (shard_outline shards shape n ∷ []) g new →
+    pub adding_more : n < shards.count → Adding state shards shape old full n groups workers → slice_get groups k ≡ Some g → slice_get workers place ≡ Some w → g.node ≡ node_of shards.nodes n → Goes state (shard_outline shards shape n ∷ []) g new →
         Lacks 1 w after → AllWait state after → Adding state shards shape old full (n + 1) (set groups k new) (set workers place after)
     adding_more less a s t node goes lacks wait =
         let first = shards.first_group in
@@ -222,15 +235,16 @@ module _ {X : Type 0} (state : X → StoreState) where
           numbers = a.numbers;
           some_shard = a.some_shard;
           ids = a.ids;
-          both = a.both;
+          some = a.some;
+          enough = a.enough;
           ready = a.ready;
           stores = a.stores;
           gone = gone_set state (more_at first o n) (more_at first o (n + 1)) old groups k g new a.gone s
               (λ was q. subst (λ (v : List Outline). Goes state v was new) (here_again o) (goes_on state [] (o n ∷ []) was g new (subst (λ (v : List Outline). Goes state v was g) (here_none o) q) goes))
               (λ h ne. more_other first o n h (λ d. ne (d ∙ sym e)));
-          held = λ j h. let c = counted 0 1 s goes.node node (omega (arith, goes.count)) j h in omega (arith, c, a.held j h, on_node j h, zero_either (nat_eq (node_of n) (j + 1)));
+          held = λ j h. let c = counted 0 1 s goes.node node (omega (arith, goes.count)) j h in omega (arith, c, a.held j h, on_node a.some j h, zero_either (nat_eq (node_of shards.nodes n) (j + 1)));
           unwritten = unwritten_set shards.table groups k new a.unwritten (subst (IsUnwritten shards.table) (sym (same_entries goes.journal)) (unwritten_at shards.table groups k g a.unwritten s));
-          spent = one_spent full workers n place w after p a.spent t lacks wait;
+          spent = one_spent state shards.nodes a.some full workers n place w after p a.spent t lacks wait;
         }
       where
         here_none : (o : ℕ → Outline) → more_at shards.first_group o n k ≡ []
@@ -239,7 +253,7 @@ module _ {X : Type 0} (state : X → StoreState) where
         here_again : (o : ℕ → Outline) → o n ∷ [] ≡ more_at shards.first_group o (n + 1) k
         here_again o = sym (ap (more_at shards.first_group o (n + 1)) e ∙ more_here shards.first_group o n)
 
-    pub adding_same : Adding state shards shape old full n groups workers → slice_get groups k ≡ Some g → slice_get workers place ≡ Some w → g.node ≡ node_of n → Goes state [] g new →
+    pub adding_same : Adding state shards shape old full n groups workers → slice_get groups k ≡ Some g → slice_get workers place ≡ Some w → g.node ≡ node_of shards.nodes n → Goes state [] g new →
         Lacks 0 w after → AllWait state after → Adding state shards shape old full n (set groups k new) (set workers place after)
     adding_same a s t node goes lacks wait =
         let first = shards.first_group in
@@ -250,7 +264,8 @@ module _ {X : Type 0} (state : X → StoreState) where
           numbers = a.numbers;
           some_shard = a.some_shard;
           ids = a.ids;
-          both = a.both;
+          some = a.some;
+          enough = a.enough;
           ready = a.ready;
           stores = a.stores;
           gone = gone_set state (more_at first o n) (more_at first o n) old groups k g new a.gone s
@@ -258,10 +273,10 @@ module _ {X : Type 0} (state : X → StoreState) where
               (λ h ne. refl);
           held = λ j h. let c = counted 0 0 s goes.node node (omega (arith, goes.count)) j h in omega (arith, c, a.held j h);
           unwritten = unwritten_set shards.table groups k new a.unwritten (subst (IsUnwritten shards.table) (sym (same_entries goes.journal)) (unwritten_at shards.table groups k g a.unwritten s));
-          spent = none_spent full workers n place w after (omega (arith, p)) a.spent t lacks wait;
+          spent = none_spent state shards.nodes a.some full workers n place w after (low state shards.nodes a.some n place p) a.spent t lacks wait;
         }
 
-    pub adding_less : Adding state shards shape old full (n + 1) groups workers → slice_get groups k ≡ Some g → slice_get workers place ≡ Some w → g.node ≡ node_of n → Loses state g new →
+    pub adding_less : Adding state shards shape old full (n + 1) groups workers → slice_get groups k ≡ Some g → slice_get workers place ≡ Some w → g.node ≡ node_of shards.nodes n → Loses state g new →
         Lacks 1 after w → AllWait state after → Adding state shards shape old full n (set groups k new) (set workers place after)
     adding_less a s t node lost lacks wait =
         let first = shards.first_group in
@@ -272,15 +287,16 @@ module _ {X : Type 0} (state : X → StoreState) where
           numbers = a.numbers;
           some_shard = a.some_shard;
           ids = a.ids;
-          both = a.both;
+          some = a.some;
+          enough = a.enough;
           ready = a.ready;
           stores = a.stores;
           gone = gone_set state (more_at first o (n + 1)) (more_at first o n) old groups k g new a.gone s
               (λ was q. subst (λ (v : List Outline). Goes state v was new) (here_none o) (goes_back state (o n) was g new (subst (λ (v : List Outline). Goes state v was g) (here_again o) q) lost))
               (λ h ne. sym (more_other first o n h (λ d. ne (d ∙ sym e))));
-          held = λ j h. let c = counted 1 0 s lost.node node (omega (arith, lost.count)) j h in omega (arith, c, a.held j h, on_node j h, zero_either (nat_eq (node_of n) (j + 1)));
+          held = λ j h. let c = counted 1 0 s lost.node node (omega (arith, lost.count)) j h in omega (arith, c, a.held j h, on_node a.some j h, zero_either (nat_eq (node_of shards.nodes n) (j + 1)));
           unwritten = unwritten_set shards.table groups k new a.unwritten (subst (IsUnwritten shards.table) (sym (same_entries lost.journal)) (unwritten_at shards.table groups k g a.unwritten s));
-          spent = one_back full workers n place w after p a.spent t lacks wait;
+          spent = one_back state shards.nodes a.some full workers n place w after p a.spent t lacks wait;
         }
       where
         here_none : (o : ℕ → Outline) → [] ≡ more_at shards.first_group o n k
@@ -291,7 +307,7 @@ module _ {X : Type 0} (state : X → StoreState) where
 
   -- ---- one call
 
-  module _ (shards : Shards) (shape : Shape) (groups : List (GroupState X)) (workers : List (Worker X)) (n k place : ℕ) (g new : GroupState X) (w after : Worker X) (e : k ≡ shards.first_group + n) (p : place ≡ n % 2) (less : n < shards.count)
+  module _ (shards : Shards) (shape : Shape) (groups : List (GroupState X)) (workers : List (Worker X)) (n k place : ℕ) (g new : GroupState X) (w after : Worker X) (e : k ≡ shards.first_group + n) (p : place ≡ n % shards.nodes) (less : n < shards.count)
       (at_group : g ≡ get_or groups k g) (at_worker : w ≡ get_or workers place w) where
     pub adding_result_ok : {T E : Type 0} (r : Result T E) → OnOk r (Goes state (shard_outline shards shape n ∷ []) g new) → OnOk r (Lacks 1 w after) → AllWait state after →
         OnOk r ((old : List (GroupState X)) (full : List (Worker X)) → Adding state shards shape old full n groups workers → Adding state shards shape old full (n + 1) (set groups k new) (set workers place after))

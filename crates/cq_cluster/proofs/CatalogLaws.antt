@@ -19,7 +19,7 @@ use Rattle.cq_catalog.specs.declared.info.Place.TheVariants.{Local, Distributed,
 use Rattle.cq_catalog.specs.declared.info.TableInfo.{TableInfo}
 use Rattle.cq_store.specs.Stores.{StoreState}
 use Rattle.cq_planning.specs.Database.{shape_in}
-use Rattle.cq_cluster.specs.Room.{nodes, shards_on, taken_by, taken_in, taken}
+use Rattle.cq_cluster.specs.Room.{shards_on, taken_by, taken_in, taken}
 use Rattle.cq_group.specs.declared.group.GroupState.{GroupState}
 use Rattle.cq_group.specs.Groups.{Outline, outlines, shape_at, stores_of}
 use Rattle.cq_cluster.specs.Cluster.{IsShardOf, held, AreGroups}
@@ -94,10 +94,10 @@ placed_table c colocation i table (o ∷ os) all h = elim (eqb_tells o.0 table) 
   | inr z ↦ (let r = placed_table c colocation i table os all.1 (rw z.0 at h) in (r.0, r.1, r.2, rw z.0 r.3))
 ]
 
-module _ {X : Type 0} (state : X → StoreState) where
+module _ {X : Type 0} (state : X → StoreState) (nodes : ℕ) where
   -- ---- groups that go on as they were
 
-  pub groups_again : (c : Contents) (old new : List (GroupState X)) → AreGone state nothing_more old new → AreGroups state c old → AreGroups state c new
+  pub groups_again : (c : Contents) (old new : List (GroupState X)) → AreGone state nothing_more old new → AreGroups state nodes c old → AreGroups state nodes c new
   groups_again c old new gone all = record {
     count = gone.count ∙ all.count;
     each = λ colocation i co g there within s.
@@ -121,19 +121,19 @@ module _ {X : Type 0} (state : X → StoreState) where
 
   -- ---- a new co-location group
 
-  placed_below : (c : Contents) (ts : List TableInfo) → ((i : ℕ) (t : TableInfo) → slice_get ts i ≡ Some t → IsPlaced c t.place) → (g : Colocation) (place : ℕ) → taken_in (c.colocations ++ g ∷ []) place ts ≡ taken_in c.colocations place ts
+  placed_below : (c : Contents) (ts : List TableInfo) → ((i : ℕ) (t : TableInfo) → slice_get ts i ≡ Some t → IsPlaced c t.place) → (g : Colocation) (place : ℕ) → taken_in nodes (c.colocations ++ g ∷ []) place ts ≡ taken_in nodes c.colocations place ts
   placed_below c [] placed g place = refl
   placed_below c (t ∷ ts) placed g place = both (by_place t.place (placed 0 t refl)) (placed_below c ts (λ i u s. placed (suc i) u s) g place)
     where
       both : {a b x y : ℕ} → a ≡ b → x ≡ y → a + x ≡ b + y
       both e f = omega (arith, e, f)
 
-      by_place : (p : Place) → IsPlaced c p → taken_by (c.colocations ++ g ∷ []) place p ≡ taken_by c.colocations place p
+      by_place : (p : Place) → IsPlaced c p → taken_by nodes (c.colocations ++ g ∷ []) place p ≡ taken_by nodes c.colocations place p
       by_place Local h = refl
       by_place (Reference group shard) h = refl
-      by_place (Distributed at colocation first_shard) h = ap (λ (o : Option Colocation). shards_on (count_in o) place) (before_more c.colocations (g ∷ []) colocation h.0)
+      by_place (Distributed at colocation first_shard) h = ap (λ (o : Option Colocation). shards_on nodes (count_in o) place) (before_more c.colocations (g ∷ []) colocation h.0)
 
-  pub held_empty : (place first : ℕ) (old opened : List (GroupState X)) → AreOpened state first opened → held place (old ++ opened) ≡ held place old
+  pub held_empty : (place first : ℕ) (old opened : List (GroupState X)) → AreOpened state nodes first opened → held place (old ++ opened) ≡ held place old
   held_empty place first [] opened all = none 0 opened (λ i g s. (all i g s).tables)
     where
       none : (n : ℕ) (gs : List (GroupState X)) → ((i : ℕ) (g : GroupState X) → slice_get gs i ≡ Some g → g.tables.items ≡ []) → held place gs ≡ 0
@@ -147,8 +147,8 @@ module _ {X : Type 0} (state : X → StoreState) where
           by_node false e = omega (arith, e)
   held_empty place first (g ∷ gs) opened all = ap (λ n. cond (nat_eq g.node (place + 1)) (length (stores_of g)) 0 + n) (held_empty place first gs opened all)
 
-  pub groups_opened : (c : Contents) (kind : Kind) (count : ℕ) (joinable : Bool) (old opened : List (GroupState X)) → IsWhole c → AreGroups state c old → length opened ≡ count → AreOpened state c.groups opened →
-      AreGroups state (with_colocation c kind count joinable) (old ++ opened)
+  pub groups_opened : (c : Contents) (kind : Kind) (count : ℕ) (joinable : Bool) (old opened : List (GroupState X)) → IsWhole c → AreGroups state nodes c old → length opened ≡ count → AreOpened state nodes c.groups opened →
+      AreGroups state nodes (with_colocation c kind count joinable) (old ++ opened)
   groups_opened c kind count joinable old opened whole all number fresh =
       let more : Colocation = record { kind = kind; count = count; first_group = c.groups; joinable = joinable; ends = ends count } in
       record {
@@ -220,12 +220,12 @@ same_shape (t ∷ ts) zero (suc i) p = refl
 same_shape (t ∷ ts) (suc n) zero p = refl
 same_shape (t ∷ ts) (suc n) (suc i) p = same_shape ts n i p
 
-taken_placed : (cs : List Colocation) (place : ℕ) (ts : List TableInfo) (n : ℕ) (p : Place) (t : TableInfo) → slice_get ts n ≡ Some t → t.place ≡ Local → taken_in cs place (with_place ts n p) ≡ taken_in cs place ts + taken_by cs place p
-taken_placed cs place [] n p t s local = cc
-taken_placed cs place (u ∷ ts) zero p t s local =
-    let none : taken_by cs place u.place ≡ 0 = ap (taken_by cs place) (ap (λ (v : TableInfo). v.place) (some_is s) ∙ local) in
+taken_placed : (nodes : ℕ) (cs : List Colocation) (place : ℕ) (ts : List TableInfo) (n : ℕ) (p : Place) (t : TableInfo) → slice_get ts n ≡ Some t → t.place ≡ Local → taken_in nodes cs place (with_place ts n p) ≡ taken_in nodes cs place ts + taken_by nodes cs place p
+taken_placed nodes cs place [] n p t s local = cc
+taken_placed nodes cs place (u ∷ ts) zero p t s local =
+    let none : taken_by nodes cs place u.place ≡ 0 = ap (taken_by nodes cs place) (ap (λ (v : TableInfo). v.place) (some_is s) ∙ local) in
     omega (arith, none)
-taken_placed cs place (u ∷ ts) (suc n) p t s local = let further = taken_placed cs place ts n p t s local in omega (arith, further)
+taken_placed nodes cs place (u ∷ ts) (suc n) p t s local = let further = taken_placed nodes cs place ts n p t s local in omega (arith, further)
 
 two_ways : (b : Bool) → (b ≡ true) ⊎ (b ≡ false)
 two_ways true = inl refl
@@ -251,11 +251,11 @@ more_outside first o n h out = elim (two_ways (nat_le first h)) [
   | inr f ↦ rw f refl
 ]
 
-module _ {X : Type 0} (state : X → StoreState) where
+module _ {X : Type 0} (state : X → StoreState) (nodes : ℕ) where
   -- the table is there and local, and its shards are added to the groups of the co-location group
   pub groups_spread : (c : Contents) (table at colocation shards : ℕ) (co : Colocation) (info : TableInfo) (old new : List (GroupState X)) → IsWhole c → slice_get c.tables table ≡ Some info → info.place ≡ Local →
       slice_get c.colocations colocation ≡ Some co → AreGone state (more_at co.first_group (λ j. (table, shape_in c table, c.next_shard + j, 1)) co.count) old new →
-      ((place : ℕ) → place < nodes → held place new ≡ held place old + shards_on co.count place) → AreGroups state c old → AreGroups state (spread c table (Distributed at colocation c.next_shard) shards) new
+      ((place : ℕ) → place < nodes → held place new ≡ held place old + shards_on nodes co.count place) → AreGroups state nodes c old → AreGroups state nodes (spread c table (Distributed at colocation c.next_shard) shards) new
   groups_spread c table at colocation shards co info old new whole there local joins gone counted all =
       let place = Distributed at colocation c.next_shard in
       let next = spread c table place shards in
@@ -308,7 +308,7 @@ module _ {X : Type 0} (state : X → StoreState) where
             ];
         covered = λ group h. let was = all.covered group h in record { colocation = was.colocation; i = was.i; co = was.co; there = was.there; within = was.within; is = was.is };
         apart = all.apart;
-        held = λ p h. counted p h ∙ ap (λ n. n + shards_on co.count p) (all.held p h) ∙ sym (taken_placed c.colocations p c.tables table place info there local ∙ ap (λ (v : Option Colocation). taken c p + shards_on (count_in v) p) joins);
+        held = λ p h. counted p h ∙ ap (λ n. n + shards_on nodes co.count p) (all.held p h) ∙ sym (taken_placed nodes c.colocations p c.tables table place info there local ∙ ap (λ (v : Option Colocation). taken nodes c p + shards_on nodes (count_in v) p) joins);
       }
     where
       same_colocation : (a k f a' k' f' : ℕ) → Distributed a k f ≡ Distributed a' k' f' → k ≡ k'

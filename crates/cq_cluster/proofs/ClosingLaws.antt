@@ -1,6 +1,7 @@
 -- The workers' lists, as group after group is closed and hands its stores back.
 use Rattle.std.proofs.Common.{◌≡◌, ◌≢◌, ◌⊎◌, inl, inr, ℕ, ◌+◌, ◌-◌, ◌<◌, ◌≤◌, Bool, true, false, cond, List, [], ◌∷◌, ◌++◌, length, get_or, map, refl, sym, ap, subst, ◌∙◌, arith, Some, slice_get, length-set, length-append, append_assoc, append-nil}
 use Rattle.std.specs.Prelude.{nat_eq}
+use Rattle.std.specs.List.{AllByRecursion}
 use Rattle.std.proofs.Math.ListN.{set}
 use Rattle.std.proofs.lemmas.Bool.Decides.{eqb_tells}
 use Rattle.std.proofs.lemmas.List.{map-append}
@@ -8,12 +9,11 @@ use Rattle.cq_journal.specs.declared.journal.Journal.{Journal}
 use Rattle.cq_store.specs.Stores.{StoreState}
 use Rattle.cq_store.specs.Workers.{room}
 use Rattle.cq_store.specs.declared.worker.Worker.{Worker}
-use Rattle.cq_cluster.specs.Room.{nodes}
 use Rattle.cq_group.specs.declared.group.GroupState.{GroupState}
 use Rattle.cq_group.specs.Groups.{stores_of}
 use Rattle.cq_cluster.specs.Cluster.{held}
-use Rattle.cq_cluster.specs.Closing.{stores_on, IsUsed, AreUsed, HaveRoom, HasBack, HaveBack}
-use Rattle.cq_cluster.proofs.ListLaws.{got_after, got_other, item_at, there}
+use Rattle.cq_cluster.specs.Closing.{stores_on, IsUsed, AreUsed, HasRoom, HaveRoom, HasBack, HaveBack}
+use Rattle.cq_cluster.proofs.ListLaws.{got_after, got_other, there}
 
 module _ {X : Type 0} where
   -- ---- the stores of groups, with one group more
@@ -46,7 +46,7 @@ module _ {X : Type 0} where
   pub back_none : (workers : List (Worker X)) → HaveBack [] workers workers
   back_none workers = record {
     same_length = refl;
-    used = λ place v w h s t.
+    used = λ place v w s t.
         let same : w ≡ v = some_is (sym t ∙ s) in
         record {
           node = ap (λ (x : Worker X). x.node) same;
@@ -93,19 +93,23 @@ module _ {X : Type 0} where
       told (inl p) = absurd (apart p.1)
       told (inr p) = p.0
 
+  split_last : {P : GroupState X → Type 0} (gs : List (GroupState X)) (g : GroupState X) → AllByRecursion P (gs ++ g ∷ []) → AllByRecursion P gs × P g
+  split_last [] g all = (tt, all.0)
+  split_last (f ∷ fs) g all = let parts = split_last fs g all.1 in ((all.0, parts.0), parts.1)
+
   -- one group more hands its stores back to its node's worker
-  pub back_more : (closed : List (GroupState X)) (first workers : List (Worker X)) (place : ℕ) (old new : Worker X) (g : GroupState X) → g.node ≡ place + 1 → place < nodes → slice_get workers place ≡ Some old →
+  pub back_more : (closed : List (GroupState X)) (first workers : List (Worker X)) (place : ℕ) (old new : Worker X) (g : GroupState X) → g.node ≡ place + 1 → slice_get workers place ≡ Some old →
       new.node ≡ old.node → new.stores.items ≡ old.stores.items ++ stores_of g → room new.stores + length (stores_of g) ≡ room old.stores → HaveBack closed first workers → HaveBack (closed ++ g ∷ []) first (set workers place new)
-  back_more closed first workers place old new g at used s node stores less back = record {
+  back_more closed first workers place old new g at s node stores less back = record {
     same_length = length-set workers place new ∙ back.same_length;
-    used = λ k v w h t u. elim (got_after workers place new k w u) [
+    used = λ k v w t u. elim (got_after workers place new k w u) [
       | inl p ↦
           let before : slice_get first place ≡ Some v = subst (λ (m : ℕ). slice_get first m ≡ Some v) p.0 t in
-          let here = back_here closed place v old new g at node stores less (back.used place v old used before s) in
+          let here = back_here closed place v old new g at node stores less (back.used place v old before s) in
           subst (λ (x : Worker X). HasBack (closed ++ g ∷ []) k v x) (sym p.1) (subst (λ (m : ℕ). HasBack (closed ++ g ∷ []) m v new) (sym p.0) here)
-      | inr q ↦ back_elsewhere closed k v w g (λ d. q.0 (omega (arith, d, at))) (back.used k v w h t q.1)
+      | inr q ↦ back_elsewhere closed k v w g (λ d. q.0 (omega (arith, d, at))) (back.used k v w t q.1)
     ];
-    unused = λ k h. got_other workers place new k (λ d. absurd (omega (arith, d, h, used))) ∙ back.unused k h;
+    unused = λ k h. let parts = split_last closed g h in got_other workers place new k (λ d. parts.1 (omega (arith, d, at))) ∙ back.unused k parts.0;
   }
 
   -- ---- the groups that are still to be closed
@@ -135,30 +139,29 @@ module _ {X : Type 0} where
       (closes.listed ∙ ap (λ (gs : List (GroupState X)). map (λ (g : GroupState X). g.journal) gs) same, subst (λ (gs : List (GroupState X)). HaveBack gs first workers) same closes.back)
 
   module _ (state : X → StoreState) where
-    used_last : (closed rest : List (GroupState X)) (g : GroupState X) → AreUsed state (closed ++ g ∷ rest) → IsUsed state g
-    used_last [] rest g all = all.0
-    used_last (f ∷ fs) rest g all = used_last fs rest g all.1
+    of_next : {P : GroupState X → Type 0} (closed rest : List (GroupState X)) (g : GroupState X) → AllByRecursion P (closed ++ g ∷ rest) → P g
+    of_next [] rest g all = all.0
+    of_next (f ∷ fs) rest g all = of_next fs rest g all.1
 
     -- the next group can be closed, and its node's worker has room for its stores
     pub closes_group : (all rest : List (GroupState X)) (first workers : List (Worker X)) (journals : List Journal) (g : GroupState X) → Closes all first (g ∷ rest) journals workers → AreUsed state all → IsUsed state g
-    closes_group all rest first workers journals g closes used = used_last closes.closed rest g (subst (λ (gs : List (GroupState X)). AreUsed state gs) (sym closes.all_groups) used)
+    closes_group all rest first workers journals g closes used = of_next closes.closed rest g (subst (λ (gs : List (GroupState X)). AreUsed state gs) (sym closes.all_groups) used)
 
     pub closes_worker : (all rest : List (GroupState X)) (first workers : List (Worker X)) (journals : List Journal) (g : GroupState X) → Closes all first (g ∷ rest) journals workers → AreUsed state all → HaveRoom all first →
         (w : Worker X) × (slice_get workers (g.node - 1) ≡ Some w) × (w.node ≡ g.node) × (length (stores_of g) ≤ room w.stores)
     closes_worker all rest first workers journals g closes used ready =
         let here = closes_group all rest first workers journals g closes used in
         let place = g.node - 1 in
-        let low : place < nodes = omega (arith, here.some_node, here.few_nodes) in
-        let old = item_at first place (let both = ready.both in omega (arith, low, both)) in
-        let now = there workers first place old.0 old.0 (sym closes.back.same_length) old.1 in
-        let welcome = ready.used place old.0 low old.1 in
-        let is = closes.back.used place old.0 (get_or workers place old.0) low old.1 now in
+        let welcome = of_next closes.closed rest g (subst (λ (gs : List (GroupState X)). AllByRecursion (HasRoom all first) gs) (sym closes.all_groups) ready) in
+        let old = welcome.worker in
+        let now = there workers first place old old (sym closes.back.same_length) welcome.there in
+        let is = closes.back.used place old (get_or workers place old) welcome.there now in
         let at : place + 1 ≡ g.node = omega (arith, here.some_node) in
         let own : nat_eq g.node (place + 1) ≡ true = told (eqb_tells g.node (place + 1)) (sym at) in
         let count : cond (nat_eq g.node (place + 1)) (length (stores_of g)) 0 ≡ length (stores_of g) = ap (λ b. cond b (length (stores_of g)) 0) own in
         let parts = ap (λ (gs : List (GroupState X)). held place gs) closes.all_groups in
         let both = held_both place closes.closed (g ∷ rest) in
-        (get_or workers place old.0, now, is.node ∙ welcome.node ∙ at, omega (arith, is.room, welcome.room, parts, both, count))
+        (get_or workers place old, now, is.node ∙ welcome.node, omega (arith, is.room, welcome.room, parts, both, count))
       where
         told : {m n : ℕ} → ((nat_eq m n ≡ true) × (m ≡ n)) ⊎ ((nat_eq m n ≡ false) × (m ≢ n)) → m ≡ n → nat_eq m n ≡ true
         told (inl p) e = p.0

@@ -95,16 +95,16 @@ module _ (c : Contents) (name : List ℕ) (columns : List Column) (key : List �
         | inr new ↦ absurd (local_or (ap (λ (u : TableInfo). u.place) new.1 ∙ q))
       ]
 
-  taken_more : (cs : List Colocation) (place : ℕ) (ts : List TableInfo) → taken_in cs place (ts ++ more ∷ []) ≡ taken_in cs place ts
-  taken_more cs place [] = refl
-  taken_more cs place (t ∷ ts) = let further = taken_more cs place ts in omega (arith, further)
+  taken_more : (nodes : ℕ) (cs : List Colocation) (place : ℕ) (ts : List TableInfo) → taken_in nodes cs place (ts ++ more ∷ []) ≡ taken_in nodes cs place ts
+  taken_more nodes cs place [] = refl
+  taken_more nodes cs place (t ∷ ts) = let further = taken_more nodes cs place ts in omega (arith, further)
 
   shard_kept : (colocation i : ℕ) (o : Outline) → IsShardOf c colocation i o → IsShardOf (with_table c name columns key) colocation i o
   shard_kept colocation i o h =
       (h.0, h.1, place_kept o.0 h.0 colocation h.1 h.2, h.3 ∙ ap (λ (v : Shape). (o.0, v, h.1 + i, 1)) (sym (shape_kept o.0 h.0 colocation h.1 h.2)))
 
-  module _ {X : Type 0} (state : X → StoreState) where
-    groups_created : (groups : List (GroupState X)) → AreGroups state c groups → AreGroups state (with_table c name columns key) groups
+  module _ {X : Type 0} (state : X → StoreState) (nodes : ℕ) where
+    groups_created : (groups : List (GroupState X)) → AreGroups state nodes c groups → AreGroups state nodes (with_table c name columns key) groups
     groups_created groups all = record {
       count = all.count;
       each = λ colocation i co g there within s.
@@ -121,18 +121,20 @@ module _ (c : Contents) (name : List ℕ) (columns : List Column) (key : List �
           };
       covered = λ group h. let was = all.covered group h in record { colocation = was.colocation; i = was.i; co = was.co; there = was.there; within = was.within; is = was.is };
       apart = all.apart;
-      held = λ place h. all.held place h ∙ sym (taken_more c.colocations place c.tables);
+      held = λ place h. all.held place h ∙ sym (taken_more nodes c.colocations place c.tables);
     }
 
 -- a cluster stays sound
 pub sound_created : {X : Type 0} (state : X → StoreState) (old new : Cluster X) (name : List ℕ) (columns : List Column) (key : List ℕ) → IsSound state old → creation_refusal old.catalog name columns ≡ None →
-    new.catalog ≡ with_table old.catalog name columns key → new.groups ≡ old.groups → new.workers ≡ old.workers → IsSound state new
-sound_created state old new name columns key s allowed made groups workers =
+    new.catalog ≡ with_table old.catalog name columns key → new.groups ≡ old.groups → new.workers ≡ old.workers → new.nodes ≡ old.nodes → IsSound state new
+sound_created state old new name columns key s allowed made groups workers nodes =
     let c = old.catalog in
     record {
-      groups = subst (λ (v : Contents). AreGroups state v new.groups.items) (sym made) (rw groups (groups_created c name columns key state old.groups.items s.groups));
+      groups = subst (λ (v : Contents). AreGroups state new.nodes v new.groups.items) (sym made) (rw (groups, nodes) (groups_created c name columns key state old.nodes old.groups.items s.groups));
       whole = subst IsWhole (sym made) (whole_more c name columns key s.whole allowed);
       ids = subst (λ (v : Contents). 0 < v.next_shard) (sym made) s.ids;
-      both = rw workers s.both;
-      workers = (s.workers.0, rw (groups, workers) s.workers.1);
+      some = rw nodes s.some;
+      few = rw nodes s.few;
+      enough = rw (workers, nodes) s.enough;
+      workers = (s.workers.0, rw (groups, workers, nodes) s.workers.1);
     }

@@ -16,6 +16,8 @@ use Rattle.cq_history.specs.Deeds.{Grows}
 use Rattle.cq_history.specs.Journals.{none}
 use Rattle.cq_history.specs.Laws.{OpensGroups}
 use Rattle.cq_history.specs.Standing.{distribution_fault}
+use Rattle.cq_value.specs.declared.schema.Shape.{Shape}
+use Rattle.cq_group.specs.declared.group.GroupState.{GroupState}
 use Rattle.cq_store.specs.Stores.{StoreState}
 use Rattle.cq_store.specs.declared.worker.Worker.{Worker}
 use Rattle.cq_cluster.specs.declared.cluster.Cluster.{Cluster}
@@ -40,6 +42,17 @@ module _ (c again : Contents) (table column : List ℕ) (count : Option ℕ) (be
   made_after next made = subst (λ (v : Contents). next ≡ distributed_by v (decision_of v table column count beside default)) same made
 
 module _ {X : Type 0} (state : X → StoreState) where
+  -- on as many nodes
+  pub is_open_on : {m n : ℕ} (o : Opened) (shape : Shape) (old : List (GroupState X)) (full : List (Worker X)) (groups : List (GroupState X)) (workers : List (Worker X)) → n ≡ m → IsOpen state m o shape old full groups workers →
+      IsOpen state n o shape old full groups workers
+  is_open_on o shape old full groups workers same is = subst (λ k. IsOpen state k o shape old full groups workers) (sym same) is
+
+  pub is_undone_on : {m n : ℕ} (old : List (GroupState X)) (full : List (Worker X)) (groups : List (GroupState X)) (workers : List (Worker X)) → n ≡ m → IsUndone state n old full groups workers → IsUndone state m old full groups workers
+  is_undone_on old full groups workers same is = subst (λ k. IsUndone state k old full groups workers) same is
+
+  keeps_stores : (old new : Cluster X) → new.nodes ≡ old.nodes → ((entry : List (Worker X)) → AreWorkers state old.nodes entry old.groups.items old.workers.items → AreWorkers state old.nodes entry new.groups.items new.workers.items) → KeepsStores state old new
+  keeps_stores old new nodes stores = record { nodes = nodes; stores = λ entry at. rw nodes (stores entry at) }
+
   -- ---- all is as it was
 
   pub record IsAsItWas (old new : Cluster X) : Type 0 where
@@ -47,11 +60,11 @@ module _ {X : Type 0} (state : X → StoreState) where
     pub same : journals new ≡ journals old
     pub stores : KeepsStores state old new
 
-  pub as_it_was : (old new : Cluster X) → IsSound state old → new.catalog ≡ old.catalog → IsUndone state old.groups.items old.workers.items new.groups.items new.workers.items → IsAsItWas old new
-  as_it_was old new s same undone = record {
-    sound = sound_again state old new s same undone;
+  pub as_it_was : (old new : Cluster X) → IsSound state old → new.catalog ≡ old.catalog → new.nodes ≡ old.nodes → IsUndone state old.nodes old.groups.items old.workers.items new.groups.items new.workers.items → IsAsItWas old new
+  as_it_was old new s same nodes undone = record {
+    sound = sound_again state old new s same nodes undone;
     same = gone_journals state _ old.groups.items new.groups.items undone.gone;
-    stores = undone_stores state old.groups.items new.groups.items old.workers.items new.workers.items s.both undone;
+    stores = keeps_stores old new nodes (undone_stores state old.nodes s.some old.groups.items new.groups.items old.workers.items new.workers.items s.enough undone);
   }
 
   -- ---- the table is distributed
@@ -60,28 +73,28 @@ module _ {X : Type 0} (state : X → StoreState) where
     pub record IsDistributed : Type 0 where
       pub sound : IsSound state new
       pub grows : (who : Who) → Grows who none (journals old) (journals new)
-      pub opens : (entry : List (Worker X)) → OpensGroups (run_of entry) old.catalog new.catalog (journals new)
-      pub allowed : (entry : List (Worker X)) → AreWorkers state entry old.groups.items old.workers.items → distribution_fault (run_of entry) old.catalog default table column count beside ≡ None
+      pub opens : (entry : List (Worker X)) → OpensGroups (run_of old.nodes entry) old.catalog new.catalog (journals new)
+      pub allowed : (entry : List (Worker X)) → AreWorkers state old.nodes entry old.groups.items old.workers.items → distribution_fault (run_of old.nodes entry) old.catalog default table column count beside ≡ None
       pub stores : KeepsStores state old new
 
-    pub distributed : (o : Opened) → IsSound state old → IsPlanned old.catalog old.workers.items table column count beside default o →
-        IsOpen state o (shape_in old.catalog o.table) old.groups.items old.workers.items new.groups.items new.workers.items →
+    pub distributed : (o : Opened) → IsSound state old → new.nodes ≡ old.nodes → IsPlanned old.nodes old.catalog old.workers.items table column count beside default o →
+        IsOpen state old.nodes o (shape_in old.catalog o.table) old.groups.items old.workers.items new.groups.items new.workers.items →
         new.catalog ≡ distributed_by old.catalog (decision_of old.catalog table column count beside default) → IsDistributed
-    distributed o s p is made =
+    distributed o s nodes p is made =
         let c = old.catalog in
         let d = decision_of c table column count beside default in
         let can = can_distribute c table column count beside default p.allowed in
-        let exact : IsOpen state (opened_at c d.table d.target) (shape_in c (opened_at c d.table d.target).table) old.groups.items old.workers.items new.groups.items new.workers.items =
-        subst (λ (v : Opened). IsOpen state v (shape_in c v.table) old.groups.items old.workers.items new.groups.items new.workers.items) p.opened is in
-        let done = done_at state c d.table d.column d.kind d.target (shape_in c (opened_at c d.table d.target).table) can.info old.groups.items new.groups.items old.workers.items new.workers.items s.whole s.groups
+        let exact : IsOpen state old.nodes (opened_at c d.table d.target) (shape_in c (opened_at c d.table d.target).table) old.groups.items old.workers.items new.groups.items new.workers.items =
+        subst (λ (v : Opened). IsOpen state old.nodes v (shape_in c v.table) old.groups.items old.workers.items new.groups.items new.workers.items) p.opened is in
+        let done = done_at state old.nodes s.some c d.table d.column d.kind d.target (shape_in c (opened_at c d.table d.target).table) can.info old.groups.items new.groups.items old.workers.items new.workers.items s.whole s.groups
         can.there can.local can.can (ap (shape_in c) (table_at c d.table d.target)) exact in
         let after = whole_distributed c d.table d.column d.kind d.target s.whole (can.info, can.there, can.local) can.can in
         record {
-          sound = sound_of state old new s (subst (λ (v : Contents). AreGroups state v new.groups.items) (sym made) done.after)
+          sound = sound_of state old new s nodes (subst (λ (v : Contents). AreGroups state old.nodes v new.groups.items) (sym made) done.after)
               (subst IsWhole (sym made) after)
               (subst (λ (v : Contents). 0 < v.next_shard) (sym made) (ids_distributed c d.table d.column d.kind d.target s.ids)) done.same_length done.stores;
           grows = done.grows;
-          opens = λ entry. subst (λ (v : Contents). OpensGroups (run_of entry) c v (journals new)) (sym made) (opens_distributed state entry c d.table d.column d.kind d.target new.groups.items done.after after);
+          opens = λ entry. subst (λ (v : Contents). OpensGroups (run_of old.nodes entry) c v (journals new)) (sym made) (opens_distributed state old.nodes entry c d.table d.column d.kind d.target new.groups.items done.after after);
           allowed = by_shortage state old table column count beside default o None s p.allowed p.opened p.room;
-          stores = done.stores;
+          stores = keeps_stores old new nodes done.stores;
         }

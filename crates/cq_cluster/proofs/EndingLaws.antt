@@ -4,6 +4,7 @@ use Rattle.std.specs.Prelude.{nat_eq}
 use Rattle.std.specs.List.{AllByRecursion, AllZip, flat_map}
 use Rattle.std.proofs.lemmas.Bool.{ne_eqb}
 use Rattle.std.proofs.lemmas.Bool.Decides.{eqb_tells}
+use Rattle.std.proofs.lemmas.Nat.{mod_below}
 use Rattle.std.proofs.lemmas.Option.{slice_get_within}
 use Rattle.std.proofs.lemmas.List.{map-append}
 use Rattle.std.proofs.lemmas.List.Elements.{recursion_from_All, All-weaker, All-nil, All-cons}
@@ -16,16 +17,15 @@ use Rattle.cq_catalog.specs.Contents.{Contents}
 use Rattle.cq_catalog.specs.declared.info.Colocation.{Colocation}
 use Rattle.cq_store.specs.Stores.{StoreState, IsSpare}
 use Rattle.cq_store.specs.declared.worker.Worker.{Worker}
-use Rattle.cq_cluster.specs.Room.{nodes}
 use Rattle.cq_group.specs.declared.group.GroupTable.{GroupTable}
 use Rattle.cq_group.specs.declared.group.GroupState.{GroupState}
 use Rattle.cq_group.specs.Groups.{Outline, outline, shape_at, entries_of, journal_of, stores_of, node_at, copies_of, AreReplicasFrom, IsReplica, IsTableKept, IsTableQuiet, IsKept}
 use Rattle.cq_group.specs.Groups.{AreDistinct as HaveNumbers}
 use Rattle.cq_cluster.specs.Cluster.{Either, node_of, IsShardOf, IsGroupOf, AreGroups, IsWaiting, AreWorkers}
-use Rattle.cq_cluster.specs.Closing.{stores_on, IsUsed, AreUsed, HaveRoom, HaveBack}
+use Rattle.cq_cluster.specs.Closing.{stores_on, IsUsed, AreUsed, HasRoom, HaveRoom, AreElsewhere, HaveBack}
 use Rattle.cq_group.specs.Resting.{journals_of}
 use Rattle.cq_cluster.specs.Ending.{record_of, IsShard, IsIn, AreDistinct, AreOfGroup, BeginWith, AreOnNode, IsFinal}
-use Rattle.cq_cluster.proofs.ListLaws.{only_item, there}
+use Rattle.cq_cluster.proofs.ListLaws.{only_item, item_at, there}
 use Rattle.cq_cluster.proofs.ClosingLaws.{stores_count}
 
 -- ---- the numbers of a group's tables
@@ -101,28 +101,29 @@ module _ {X : Type 0} (state : X → StoreState) where
   pub stores_on_node : (g : GroupState X) → IsKept state g → 0 < g.node → All (λ (x : X). (state x).node ≡ g.node) (stores_of g)
   stores_on_node g kept used = on_node g.node (entries_of g) g.tables.items (kept_stores g kept used)
 
-  shard_store : (c : Contents) (colocation i node : ℕ) (es : List Entry) (t : GroupTable X) (x : X) → node ≡ node_of i → IsReplica node es t.table t.shape t.shard (state x) → (state x).staged ≡ [] → IsShardOf c colocation i (outline t) →
-      IsShard c colocation i es t.table (state x)
-  shard_store c colocation i node es t x on replica quiet is = record {
+  shard_store : (c : Contents) (colocation i node : ℕ) (es : List Entry) (t : GroupTable X) (x : X) → IsReplica node es t.table t.shape t.shard (state x) → (state x).staged ≡ [] → IsShardOf c colocation i (outline t) →
+      IsShard c colocation i node es t.table (state x)
+  shard_store c colocation i node es t x replica quiet is = record {
     at = is.0;
     first_shard = is.1;
     placed = is.2;
-    of_node = replica.of_node ∙ on;
+    of_node = replica.of_node;
     of_shard = replica.of_shard ∙ ap (λ (o : Outline). o.2) is.3;
     holds = replica.holds ∙ ap (λ (s : Shape). replay t.table s es) (ap (λ (o : Outline). o.1) is.3);
     nothing = quiet;
   }
 
-  shard_stores : (c : Contents) (colocation i node : ℕ) (es : List Entry) (ts : List (GroupTable X)) → node ≡ node_of i → AllByRecursion (HasStore node es) ts → AllByRecursion (IsTableQuiet state) ts →
-      AllByRecursion (IsShardOf c colocation i) (map outline ts) → AllZip (IsShard c colocation i es) (numbers ts) (map state (flat_map (λ (t : GroupTable X). t.stores.items) ts))
-  shard_stores c colocation i node es [] on all quiet are = tt
-  shard_stores c colocation i node es (t ∷ ts) on all quiet are =
+  shard_stores : (c : Contents) (colocation i node : ℕ) (es : List Entry) (ts : List (GroupTable X)) → AllByRecursion (HasStore node es) ts → AllByRecursion (IsTableQuiet state) ts →
+      AllByRecursion (IsShardOf c colocation i) (map outline ts) → AllZip (IsShard c colocation i node es) (numbers ts) (map state (flat_map (λ (t : GroupTable X). t.stores.items) ts))
+  shard_stores c colocation i node es [] all quiet are = tt
+  shard_stores c colocation i node es (t ∷ ts) all quiet are =
       let rest = flat_map (λ (u : GroupTable X). u.stores.items) ts in
       let still = subst (λ (xs : List X). AllByRecursion (λ (x : X). (state x).staged ≡ []) xs) all.0.only quiet.0 in
-      subst (λ (xs : List X). AllZip (IsShard c colocation i es) (t.table ∷ numbers ts) (map state (xs ++ rest))) (sym all.0.only)
-      (shard_store c colocation i node es t all.0.store on all.0.replica still.0 are.0, shard_stores c colocation i node es ts on all.1 quiet.1 are.1)
+      subst (λ (xs : List X). AllZip (IsShard c colocation i node es) (t.table ∷ numbers ts) (map state (xs ++ rest))) (sym all.0.only)
+      (shard_store c colocation i node es t all.0.store all.0.replica still.0 are.0, shard_stores c colocation i node es ts all.1 quiet.1 are.1)
 
-  of_group : (c : Contents) (colocation i : ℕ) (co : Colocation) (g : GroupState X) → slice_get c.colocations colocation ≡ Some co → i < co.count → IsGroupOf state c colocation co i g →
+module _ {X : Type 0} (state : X → StoreState) (nodes : ℕ) (some : 0 < nodes) where
+  of_group : (c : Contents) (colocation i : ℕ) (co : Colocation) (g : GroupState X) → slice_get c.colocations colocation ≡ Some co → i < co.count → IsGroupOf state nodes c colocation co i g →
       AreOfGroup c g.journal (map state (stores_of g))
   of_group c colocation i co g there_is within is =
       let ts = g.tables.items in
@@ -134,7 +135,8 @@ module _ {X : Type 0} (state : X → StoreState) where
         within = within;
         is = is.number;
         tables = numbers ts;
-        each = shard_stores c colocation i g.node (entries_of g) ts is.node (kept_stores g is.kept (let at = is.node in omega (arith, at))) is.quiet is.shards;
+        each = subst (λ n. AllZip (IsShard c colocation i n (entries_of g)) (numbers ts) (map state (stores_of g))) (is.node ∙ sym is.opening)
+            (shard_stores state c colocation i g.node (entries_of g) ts (kept_stores state g is.kept (let at = is.node in omega (arith, at))) is.quiet is.shards);
         complete = λ table at first_shard placed. in_numbers ts table (is.complete table at first_shard placed);
         once = distinct ts is.kept.distinct;
       }
@@ -153,9 +155,9 @@ module _ {X : Type 0} (state : X → StoreState) where
     there_is : slice_get c.colocations colocation ≡ Some co
     within : i < co.count
     place : h ≡ co.first_group + i
-    is : IsGroupOf state c colocation co i g
+    is : IsGroupOf state nodes c colocation co i g
 
-  group_at : (c : Contents) (groups : List (GroupState X)) → AreGroups state c groups → (h : ℕ) (g : GroupState X) → slice_get groups h ≡ Some g → IsOneOf c h g
+  group_at : (c : Contents) (groups : List (GroupState X)) → AreGroups state nodes c groups → (h : ℕ) (g : GroupState X) → slice_get groups h ≡ Some g → IsOneOf c h g
   group_at c groups all h g s =
       let was = all.covered h (let below = slice_get_within groups h g s in omega (arith, below, all.count)) in
       record {
@@ -168,17 +170,26 @@ module _ {X : Type 0} (state : X → StoreState) where
         is = all.each was.colocation was.i was.co g was.there was.within (subst (λ n. slice_get groups n ≡ Some g) was.is s);
       }
 
-  pub used_groups : (c : Contents) (groups : List (GroupState X)) → AreGroups state c groups → AreUsed state groups
+  pub used_groups : (c : Contents) (groups : List (GroupState X)) → AreGroups state nodes c groups → AreUsed state groups
   used_groups c groups all = all_from (IsUsed state) groups (λ h g s.
       let at = group_at c groups all h g s in
       let node = at.is.node in
-      record { kept = at.is.kept; some_node = omega (arith, node); few_nodes = omega (arith, node) })
+      record { kept = at.is.kept; some_node = omega (arith, node) })
 
-  pub have_room : (entry : List (Worker X)) (groups : List (GroupState X)) (workers : List (Worker X)) → nodes ≤ length workers → AreWorkers state entry groups workers → HaveRoom groups workers
-  have_room entry groups workers both now = record {
-    both = both;
-    used = λ place w h s. let at = now.used place w h s in record { node = at.node; room = at.room };
-  }
+  -- a group's node is one of those that the run uses
+  within_nodes : (i : ℕ) (g : GroupState X) → g.node ≡ node_of nodes i → g.node ≤ nodes
+  within_nodes i g at = let low = mod_below i nodes some in omega (arith, at, low)
+
+  pub have_room : (c : Contents) (entry : List (Worker X)) (groups : List (GroupState X)) (workers : List (Worker X)) → nodes ≤ length workers → AreGroups state nodes c groups → AreWorkers state nodes entry groups workers → HaveRoom groups workers
+  have_room c entry groups workers enough all now = all_from (HasRoom groups workers) groups (λ h g s.
+      let at = group_at c groups all h g s in
+      let node = at.is.node in
+      let few = within_nodes at.i g node in
+      let place = g.node - 1 in
+      let low : place < nodes = omega (arith, few, node) in
+      let w = item_at workers place (omega (arith, low, enough)) in
+      let is = now.used place w.0 low w.1 in
+      record { worker = w.0; there = w.1; node = (let own = is.node in omega (arith, own, node)); room = is.room })
 
   -- ---- the journals
 
@@ -209,20 +220,26 @@ module _ {X : Type 0} (state : X → StoreState) where
       subst (λ (n : ℕ). Either (nat_eq n (place + 1)) (BeginWith c g.journal P stores) (P stores)) (sym all.0.opening)
       (begins c g.journal P (nat_eq g.node (place + 1)) (stores_of g) (stores_on place gs) all.0.own (stores_end c place gs all.1))
 
-  closed_groups : (c : Contents) (groups : List (GroupState X)) → AreGroups state c groups → AllByRecursion (IsClosed c) groups
+  closed_groups : (c : Contents) (groups : List (GroupState X)) → AreGroups state nodes c groups → AllByRecursion (IsClosed c) groups
   closed_groups c groups all = all_from (IsClosed c) groups (λ h g s.
       let at = group_at c groups all h g s in
       record { own = of_group c at.colocation at.i at.co g at.there_is at.within at.is; opening = at.is.opening ∙ sym at.is.node })
 
-  pub final_of : (c : Contents) (entry first workers : List (Worker X)) (groups : List (GroupState X)) → AreGroups state c groups → AreWorkers state entry groups first → HaveBack groups first workers →
-      IsFinal state entry c (map (λ (g : GroupState X). g.journal) groups) workers
+  elsewhere : (c : Contents) (groups : List (GroupState X)) → AreGroups state nodes c groups → (place : ℕ) → nodes ≤ place → AreElsewhere place groups
+  elsewhere c groups all place h = all_from (λ (g : GroupState X). g.node ≢ place + 1) groups (λ k g s e.
+      let at = group_at c groups all k g s in
+      let few = within_nodes at.i g at.is.node in
+      omega (arith, few, e, h))
+
+  pub final_of : (c : Contents) (entry first workers : List (Worker X)) (groups : List (GroupState X)) → AreGroups state nodes c groups → AreWorkers state nodes entry groups first → HaveBack groups first workers →
+      IsFinal state nodes entry c (map (λ (g : GroupState X). g.journal) groups) workers
   final_of c entry first workers groups all now back = record {
     same_length = back.same_length ∙ now.same_length;
     used = λ place w h s.
         let v = get_or first place w in
         let before = there first workers place w w back.same_length s in
         let was = now.used place v h before in
-        let is = back.used place v w h before s in
+        let is = back.used place v w before s in
         record {
           node = is.node ∙ was.node;
           total = ap length is.stores ∙ length-append v.stores.items (stores_on place groups) ∙ ap (λ n. length v.stores.items + n) (stores_count place groups) ∙ was.total;
@@ -234,5 +251,5 @@ module _ {X : Type 0} (state : X → StoreState) where
             stores_end c place groups (closed_groups c groups all),
           );
         };
-    unused = λ place h. back.unused place h ∙ now.unused place h;
+    unused = λ place h. back.unused place (elsewhere c groups all place h) ∙ now.unused place h;
   }

@@ -68,16 +68,16 @@ module _ {X : Type 0} (state : X → StoreState) where
   -- ---- one group
 
   -- a group, as one of a co-location group
-  pub record IsOneOf (c : Contents) (group : ℕ) (g : GroupState X) : Type 0 where
+  pub record IsOneOf (nodes : ℕ) (c : Contents) (group : ℕ) (g : GroupState X) : Type 0 where
     pub colocation : ℕ
     pub i : ℕ
     pub co : Colocation
     pub there : slice_get c.colocations colocation ≡ Some co
     pub within : i < co.count
     pub is : group ≡ co.first_group + i
-    pub of : IsGroupOf state c colocation co i g
+    pub of : IsGroupOf state nodes c colocation co i g
 
-  pub one_of : (cl : Cluster X) (group : ℕ) (g : GroupState X) → IsSound state cl → slice_get cl.groups.items group ≡ Some g → IsOneOf cl.catalog group g
+  pub one_of : (cl : Cluster X) (group : ℕ) (g : GroupState X) → IsSound state cl → slice_get cl.groups.items group ≡ Some g → IsOneOf cl.nodes cl.catalog group g
   one_of cl group g s at =
       let was = s.groups.covered group (let below = slice_get_within cl.groups.items group g at in omega (arith, below, s.groups.count)) in
       record {
@@ -133,8 +133,8 @@ module _ {X : Type 0} (state : X → StoreState) where
 
   -- ---- groups that went on
 
-  group_again : (c : Contents) (colocation i : ℕ) (co : Colocation) (g h : GroupState X) → IsGroupOf state c colocation co i g → GroupGoesOn state g h → IsResting state h → IsGroupOf state c colocation co i h
-  group_again c colocation i co g h of on rest = record {
+  group_again : (nodes : ℕ) (c : Contents) (colocation i : ℕ) (co : Colocation) (g h : GroupState X) → IsGroupOf state nodes c colocation co i g → GroupGoesOn state g h → IsResting state h → IsGroupOf state nodes c colocation co i h
+  group_again nodes c colocation i co g h of on rest = record {
     kept = rest.kept;
     quiet = rest.quiet;
     steady = rest.steady;
@@ -155,36 +155,38 @@ module _ {X : Type 0} (state : X → StoreState) where
       let node : h.node ≡ g.node = on.same.node in
       rw (node, count) (ap (λ n. cond (nat_eq g.node (place + 1)) (length (stores_of g)) 0 + n) (held_after place gs hs (record { count = omega (arith, go.count); each = λ i x y s t. go.each (suc i) x y s t })))
 
-  groups_after : (c : Contents) (old new : List (GroupState X)) → AreGroups state c old → GoOn state old new → AreGroups state c new
-  groups_after c old new are go = record {
+  groups_after : (nodes : ℕ) (c : Contents) (old new : List (GroupState X)) → AreGroups state nodes c old → GoOn state old new → AreGroups state nodes c new
+  groups_after nodes c old new are go = record {
     count = go.count ∙ are.count;
     each = λ colocation i co h there_is within at.
         let before = there old new (co.first_group + i) h h go.count at in
         let g = get_or old (co.first_group + i) h in
         let on = go.each (co.first_group + i) g h before at in
-        group_again c colocation i co g h (are.each colocation i co g there_is within before) on.0 on.1;
+        group_again nodes c colocation i co g h (are.each colocation i co g there_is within before) on.0 on.1;
     covered = are.covered;
     apart = are.apart;
     held = λ place below. held_after place old new go ∙ are.held place below;
   }
 
-  workers_after : (entry : List (Worker X)) (old new : List (GroupState X)) (ws : List (Worker X)) → GoOn state old new → AreWorkers state entry old ws → AreWorkers state entry new ws
-  workers_after entry old new ws go are = record {
+  workers_after : (nodes : ℕ) (entry : List (Worker X)) (old new : List (GroupState X)) (ws : List (Worker X)) → GoOn state old new → AreWorkers state nodes entry old ws → AreWorkers state nodes entry new ws
+  workers_after nodes entry old new ws go are = record {
     same_length = are.same_length;
     used = λ place w below at. subst (λ n. IsWorkerAt state (whole_at entry place) n place w) (sym (held_after place old new go)) (are.used place w below at);
     unused = are.unused;
   }
 
   -- the stores stay where they are
-  pub stores_after : (old new : Cluster X) → GoOn state old.groups.items new.groups.items → new.workers ≡ old.workers → KeepsStores state old new
-  stores_after old new go workers entry are = rw workers (workers_after entry old.groups.items new.groups.items old.workers.items go are)
+  pub stores_after : (old new : Cluster X) → GoOn state old.groups.items new.groups.items → new.workers ≡ old.workers → new.nodes ≡ old.nodes → KeepsStores state old new
+  stores_after old new go workers nodes = record { nodes = nodes; stores = λ entry are. rw (workers, nodes) (workers_after old.nodes entry old.groups.items new.groups.items old.workers.items go are) }
 
   -- and the cluster stays sound
-  pub sound_after : (old new : Cluster X) → IsSound state old → GoOn state old.groups.items new.groups.items → new.catalog ≡ old.catalog → new.workers ≡ old.workers → IsSound state new
-  sound_after old new s go catalog workers = record {
-    groups = rw catalog (groups_after old.catalog old.groups.items new.groups.items s.groups go);
+  pub sound_after : (old new : Cluster X) → IsSound state old → GoOn state old.groups.items new.groups.items → new.catalog ≡ old.catalog → new.workers ≡ old.workers → new.nodes ≡ old.nodes → IsSound state new
+  sound_after old new s go catalog workers nodes = record {
+    groups = rw (catalog, nodes) (groups_after old.nodes old.catalog old.groups.items new.groups.items s.groups go);
     whole = rw catalog s.whole;
     ids = rw catalog s.ids;
-    both = rw workers s.both;
-    workers = (s.workers.0, stores_after old new go workers s.workers.0 s.workers.1);
+    some = rw nodes s.some;
+    few = rw nodes s.few;
+    enough = rw (workers, nodes) s.enough;
+    workers = (s.workers.0, (stores_after old new go workers nodes).stores s.workers.0 s.workers.1);
   }

@@ -58,10 +58,10 @@ journal_at groups h g s = index_of groups h g (record { number = h; opening = 0;
 pub same_grows : (who : Who) (old new : List Journal) → new ≡ old → Grows who none old new
 same_grows who old new same = subst (λ (v : List Journal). Grows who none old v) (sym same) (grows_none who old)
 
-module _ {X : Type 0} (state : X → StoreState) where
+module _ {X : Type 0} (state : X → StoreState) (nodes : ℕ) where
   -- ---- new groups
 
-  fresh_in : (first i : ℕ) (gs : List (GroupState X)) (d : Journal) → AreOpened state first gs → IsFresh (first + i) d → IsFresh (first + i) (slice_index_or (journals_of gs) i d)
+  fresh_in : (first i : ℕ) (gs : List (GroupState X)) (d : Journal) → AreOpened state nodes first gs → IsFresh (first + i) d → IsFresh (first + i) (slice_index_or (journals_of gs) i d)
   fresh_in first i gs d all fresh = elim (cases_lt i (length gs)) [
     | inl l ↦
         let x = item_at gs i l in
@@ -70,7 +70,7 @@ module _ {X : Type 0} (state : X → StoreState) where
     | inr m ↦ subst (IsFresh (first + i)) (sym (index_beyond (journals_of gs) i d (omega (arith, m, length-map gs (λ (g : GroupState X). journal_of g))))) fresh
   ]
 
-  pub opened_grow : (who : Who) (first : ℕ) (old opened : List (GroupState X)) (new : List Journal) → AreOpened state first opened → first ≡ length old → new ≡ journals_of old ++ journals_of opened → Grows who none (journals_of old) new
+  pub opened_grow : (who : Who) (first : ℕ) (old opened : List (GroupState X)) (new : List Journal) → AreOpened state nodes first opened → first ≡ length old → new ≡ journals_of old ++ journals_of opened → Grows who none (journals_of old) new
   opened_grow who first old opened new all start are = subst (λ (v : List Journal). Grows who none (journals_of old) v) (sym are) (record {
     count = omega (arith, length-append (journals_of old) (journals_of opened));
     kept = λ g l. index_before (journals_of old) (journals_of opened) g (nothing g) l ∙ sym (with_none who (journal_in (journals_of old) g));
@@ -92,9 +92,9 @@ module _ {X : Type 0} (state : X → StoreState) where
           (subst (λ n. IsFresh n (slice_index_or (journals_of opened) i (nothing g))) is (fresh_in first i opened (nothing g) all (record { number = sym is; base = λ table. refl; entries = refl })))
 
   -- the groups of a catalogue are opened on their nodes
-  pub opens_of : (entry : List (Worker X)) (c later : Contents) (groups : List (GroupState X)) → AreGroups state later groups → IsWhole later →
+  pub opens_of : (entry : List (Worker X)) (c later : Contents) (groups : List (GroupState X)) → AreGroups state nodes later groups → IsWhole later →
       ((k : ℕ) → k < length c.colocations → slice_get later.colocations k ≡ slice_get c.colocations k) → ((table group shard : ℕ) → place_at c table ≡ Local → place_at later table ≡ Reference group shard → ⊥) →
-      OpensGroups (run_of entry) c later (journals_of groups)
+      OpensGroups (run_of nodes entry) c later (journals_of groups)
   opens_of entry c later groups all whole kept no_new = record {
     groups = length-map groups (λ (g : GroupState X). journal_of g) ∙ all.count;
     kept = kept;
@@ -103,7 +103,7 @@ module _ {X : Type 0} (state : X → StoreState) where
   }
     where
       by_item : (k g : ℕ) (o : Option Colocation) → slice_get later.colocations k ≡ o → first_group_in o ≤ g → g < first_group_in o + count_in o →
-          (journal_in (journals_of groups) g).opening ≡ (g - first_group_in o) % 2 + 1
+          (journal_in (journals_of groups) g).opening ≡ (g - first_group_in o) % nodes + 1
       by_item k g None e l m = absurd (omega (arith, l, m))
       by_item k g (Some co) e l m =
           let i = g - co.first_group in
@@ -125,12 +125,12 @@ no_reference (x ∷ ts) zero (suc t) at k f group shard local h = local_or group
 no_reference (x ∷ ts) (suc n) zero at k f group shard local h = local_or group shard (sym local ∙ h)
 no_reference (x ∷ ts) (suc n) (suc t) at k f group shard local h = no_reference ts n t at k f group shard local h
 
-pub opens_distributed : {X : Type 0} (state : X → StoreState) (entry : List (Worker X)) (c : Contents) (table column : ℕ) (kind : Kind) (target : Target) (groups : List (GroupState X)) →
-    AreGroups state (distributed_at c table column kind target) groups → IsWhole (distributed_at c table column kind target) → OpensGroups (run_of entry) c (distributed_at c table column kind target) (journals_of groups)
-opens_distributed state entry c table column kind (Joins colocation) groups all whole =
-    opens_of state entry c (distributed_at c table column kind (Joins colocation)) groups all whole (λ k h. refl) (λ t group shard local h. no_reference c.tables table t column colocation c.next_shard group shard local h)
-opens_distributed state entry c table column kind (Opens count joinable) groups all whole =
-    opens_of state entry c (distributed_at c table column kind (Opens count joinable)) groups all whole (λ k h. before_more c.colocations (_ ∷ []) k h)
+pub opens_distributed : {X : Type 0} (state : X → StoreState) (nodes : ℕ) (entry : List (Worker X)) (c : Contents) (table column : ℕ) (kind : Kind) (target : Target) (groups : List (GroupState X)) →
+    AreGroups state nodes (distributed_at c table column kind target) groups → IsWhole (distributed_at c table column kind target) → OpensGroups (run_of nodes entry) c (distributed_at c table column kind target) (journals_of groups)
+opens_distributed state nodes entry c table column kind (Joins colocation) groups all whole =
+    opens_of state nodes entry c (distributed_at c table column kind (Joins colocation)) groups all whole (λ k h. refl) (λ t group shard local h. no_reference c.tables table t column colocation c.next_shard group shard local h)
+opens_distributed state nodes entry c table column kind (Opens count joinable) groups all whole =
+    opens_of state nodes entry c (distributed_at c table column kind (Opens count joinable)) groups all whole (λ k h. before_more c.colocations (_ ∷ []) k h)
     (λ t group shard local h. no_reference c.tables table t column (length c.colocations) c.next_shard group shard local h)
 
 created_local : (ts : List TableInfo) (x : TableInfo) (t group shard : ℕ) → x.place ≡ Local → place_in (slice_get ts t) ≡ Local → place_in (slice_get (ts ++ x ∷ []) t) ≡ Reference group shard → ⊥
@@ -140,7 +140,7 @@ created_local (y ∷ ts) x zero group shard is local h = local_or group shard (s
 created_local (y ∷ ts) x (suc t) group shard is local h = created_local ts x t group shard is local h
 
 -- a local table more opens none
-pub opens_created : {X : Type 0} (state : X → StoreState) (entry : List (Worker X)) (c : Contents) (name : List ℕ) (columns : List Column) (key : List ℕ) (groups : List (GroupState X)) →
-    AreGroups state (with_table c name columns key) groups → IsWhole (with_table c name columns key) → OpensGroups (run_of entry) c (with_table c name columns key) (journals_of groups)
-opens_created state entry c name columns key groups all whole =
-    opens_of state entry c (with_table c name columns key) groups all whole (λ k h. refl) (λ t group shard local h. created_local c.tables _ t group shard refl local h)
+pub opens_created : {X : Type 0} (state : X → StoreState) (nodes : ℕ) (entry : List (Worker X)) (c : Contents) (name : List ℕ) (columns : List Column) (key : List ℕ) (groups : List (GroupState X)) →
+    AreGroups state nodes (with_table c name columns key) groups → IsWhole (with_table c name columns key) → OpensGroups (run_of nodes entry) c (with_table c name columns key) (journals_of groups)
+opens_created state nodes entry c name columns key groups all whole =
+    opens_of state nodes entry c (with_table c name columns key) groups all whole (λ k h. refl) (λ t group shard local h. created_local c.tables _ t group shard refl local h)

@@ -4,9 +4,8 @@ use Rattle.cq_catalog.specs.Contents.{nothing}
 use Rattle.cq_catalog.specs.Whole.{IsWhole}
 use Rattle.cq_store.specs.Stores.{StoreState}
 use Rattle.cq_store.specs.declared.worker.Worker.{Worker}
-use Rattle.cq_cluster.specs.Room.{nodes}
 use Rattle.cq_cluster.specs.declared.cluster.Cluster.{Cluster}
-use Rattle.cq_cluster.specs.Cluster.{AreGroups, stores_in, AreIdle, AreWorkers, IsSound}
+use Rattle.cq_cluster.specs.Cluster.{AreGroups, stores_in, AreIdle, AreWorkers, IsSound, most_nodes}
 
 whole_nothing : IsWhole nothing
 whole_nothing = record {
@@ -19,8 +18,8 @@ whole_nothing = record {
   ids = omega arith;
 }
 
-module _ {X : Type 0} (state : X → StoreState) where
-  groups_nothing : AreGroups state nothing []
+module _ {X : Type 0} (state : X → StoreState) (nodes : ℕ) where
+  groups_nothing : AreGroups state nodes nothing []
   groups_nothing = record {
     count = refl;
     each = λ colocation i co g s. cc;
@@ -30,7 +29,7 @@ module _ {X : Type 0} (state : X → StoreState) where
   }
 
   -- before the first group
-  pub workers_idle : (workers : List (Worker X)) → AreIdle state workers → AreWorkers state workers [] workers
+  pub workers_idle : (workers : List (Worker X)) → AreIdle state workers → AreWorkers state nodes workers [] workers
   workers_idle workers idle = record {
     same_length = refl;
     used = λ place w h s.
@@ -39,11 +38,13 @@ module _ {X : Type 0} (state : X → StoreState) where
     unused = λ place h. refl;
   }
 
-  pub sound_nothing : (cl : Cluster X) → cl.catalog ≡ nothing → cl.groups.items ≡ [] → nodes ≤ length cl.workers.items → AreIdle state cl.workers.items → IsSound state cl
-  sound_nothing cl catalog groups both idle = record {
-    groups = rw (catalog, groups) groups_nothing;
-    whole = rw catalog whole_nothing;
-    ids = rw catalog (omega arith);
-    both = both;
-    workers = (cl.workers.items, rw groups (workers_idle cl.workers.items idle));
-  }
+pub sound_nothing : {X : Type 0} (state : X → StoreState) (cl : Cluster X) → cl.catalog ≡ nothing → cl.groups.items ≡ [] → 0 < cl.nodes → cl.nodes ≤ most_nodes → cl.nodes ≤ length cl.workers.items → AreIdle state cl.workers.items → IsSound state cl
+sound_nothing state cl catalog groups some few enough idle = record {
+  groups = rw (catalog, groups) (groups_nothing state cl.nodes);
+  whole = rw catalog whole_nothing;
+  ids = rw catalog (omega arith);
+  some = some;
+  few = few;
+  enough = enough;
+  workers = (cl.workers.items, rw groups (workers_idle state cl.nodes cl.workers.items idle));
+}

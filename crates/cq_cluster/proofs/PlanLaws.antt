@@ -19,20 +19,18 @@ use Rattle.cq_catalog.specs.declared.info.Opened.{Opened}
 use Rattle.cq_catalog.specs.declared.info.Place.TheVariants.{Local}
 use Rattle.cq_catalog.specs.declared.info.TableInfo.{TableInfo}
 use Rattle.cq_planning.specs.Database.{shape_in}
-use Rattle.cq_cluster.specs.Room.{nodes}
 use Rattle.cq_history.specs.Standing.{distribution_fault}
 use Rattle.cq_store.specs.Stores.{StoreState}
 use Rattle.cq_store.specs.declared.worker.Worker.{Worker}
 use Rattle.cq_group.specs.declared.group.GroupState.{GroupState}
 use Rattle.cq_cluster.specs.declared.cluster.Cluster.{Cluster}
 use Rattle.cq_cluster.specs.declared.shards.Shards.{Shards}
-use Rattle.cq_cluster.specs.Cluster.{IsWaiting, AreWorkers, whole_at, run_of, IsSound}
+use Rattle.cq_cluster.specs.Cluster.{IsWaiting, AreWorkers, run_of, IsSound}
 use Rattle.cq_cluster.specs.Steps.{AllWait, shortage, HasOpened, IsBegun, forgotten, Adding, shards_of, CanBegin, IsOpen, IsUndone, IsPlanned, IsReady}
 use Rattle.cq_cluster.proofs.GoneLaws.{goes_same}
 use Rattle.cq_cluster.proofs.AddingLaws.{spent_none}
 use Rattle.cq_cluster.proofs.TargetLaws.{can_distribute}
 use Rattle.cq_cluster.proofs.SoundLaws.{have_stores, can_begin_at, room_same, undone_of}
-use Rattle.cq_cluster.proofs.RoomLaws.{same_fault}
 use Rattle.cq_cluster.proofs.DistributeLaws.{by_room, cause_of}
 
 -- ---- what a target opens
@@ -62,13 +60,13 @@ next_at c table (Opens count joinable) n e can fresh = (sym e, can.2)
 few_ids : (c : Contents) → IsWhole c → c.next_shard < 4294967296
 few_ids c whole = let n = count_by-le-length (λ (t : TableInfo). not (is_local t.place)) c.tables in omega (arith, n, whole.few_tables, whole.ids)
 
-module _ {X : Type 0} (state : X → StoreState) where
+module _ {X : Type 0} (state : X → StoreState) (nodes : ℕ) (some : 0 < nodes) where
   -- ---- groups that are opened, and closed again
 
-  pub begun_opened : (o : Opened) (old new : List (GroupState X)) → o.fresh ≡ true → HasOpened state o old new → IsBegun state o old new
+  pub begun_opened : (o : Opened) (old new : List (GroupState X)) → o.fresh ≡ true → HasOpened state nodes o old new → IsBegun state nodes o old new
   begun_opened o old new fresh has = rw fresh has
 
-  pub begun_kept : (o : Opened) (old new : List (GroupState X)) → o.fresh ≡ false → new ≡ old → IsBegun state o old new
+  pub begun_kept : (o : Opened) (old new : List (GroupState X)) → o.fresh ≡ false → new ≡ old → IsBegun state nodes o old new
   begun_kept o old new fresh same = rw fresh same
 
   pub forgotten_opened : (o : Opened) (groups : List (GroupState X)) → o.fresh ≡ true → forgotten o groups ≡ take (length groups - o.count) groups
@@ -78,35 +76,36 @@ module _ {X : Type 0} (state : X → StoreState) where
   forgotten_kept o groups fresh = rw fresh refl
 
   -- where adding a table's shards fails, and the groups that were opened for them are closed, all is as it was
-  pub open_undone : (o : Opened) (shards : Shards) (shape : Shape) (old begun groups closed : List (GroupState X)) (full started workers last : List (Worker X)) → shards ≡ shards_of o → started ≡ full → IsBegun state o old begun →
-      CanBegin state o shape old full → ((a : List (GroupState X)) (b : List (Worker X)) → Adding state shards shape a b 0 begun started → Adding state shards shape a b 0 groups workers) →
-      closed ≡ forgotten o groups → last ≡ workers → IsUndone state old full closed last
+  pub open_undone : (o : Opened) (shards : Shards) (shape : Shape) (old begun groups closed : List (GroupState X)) (full started workers last : List (Worker X)) → shards ≡ shards_of nodes o → started ≡ full → IsBegun state nodes o old begun →
+      CanBegin state nodes o shape old full → ((a : List (GroupState X)) (b : List (Worker X)) → Adding state shards shape a b 0 begun started → Adding state shards shape a b 0 groups workers) →
+      closed ≡ forgotten o groups → last ≡ workers → IsUndone state nodes old full closed last
   open_undone o shards shape old begun groups closed full started workers last is same has can step all_closed kept =
       let first : Adding state shards shape begun full 0 begun started =
       subst (λ (v : List (Worker X)). Adding state shards shape begun full 0 begun v) (sym same) (subst (λ (v : Shards). Adding state v shape begun full 0 begun full) (sym is) (can begun has)) in
-      let after : Adding state (shards_of o) shape begun full 0 groups workers = subst (λ (v : Shards). Adding state v shape begun full 0 groups workers) is (step begun full first) in
-      subst (λ (v : List (Worker X)). IsUndone state old full closed v) (sym kept)
-      (subst (λ (v : List (GroupState X)). IsUndone state old full v workers) (sym all_closed) (undone_of state o shape old begun groups full workers has after))
+      let after : Adding state (shards_of nodes o) shape begun full 0 groups workers = subst (λ (v : Shards). Adding state v shape begun full 0 groups workers) is (step begun full first) in
+      subst (λ (v : List (Worker X)). IsUndone state nodes old full closed v) (sym kept)
+      (subst (λ (v : List (GroupState X)). IsUndone state nodes old full v workers) (sym all_closed) (undone_of state nodes some o shape old begun groups full workers has after))
 
   -- taking a table's shards out again, and closing the groups that were opened for them, leaves all as it was
-  pub open_again : (o : Opened) (shards : Shards) (shape : Shape) (old groups left closed : List (GroupState X)) (full workers started last : List (Worker X)) → shards ≡ shards_of o → IsOpen state o shape old full groups workers →
+  pub open_again : (o : Opened) (shards : Shards) (shape : Shape) (old groups left closed : List (GroupState X)) (full workers started last : List (Worker X)) → shards ≡ shards_of nodes o → IsOpen state nodes o shape old full groups workers →
       ((s : Shape) (a : List (GroupState X)) (b : List (Worker X)) → Adding state shards s a b o.count groups workers → Adding state shards s a b 0 left started) →
-      closed ≡ forgotten o left → last ≡ started → IsUndone state old full closed last
+      closed ≡ forgotten o left → last ≡ started → IsUndone state nodes old full closed last
   open_again o shards shape old groups left closed full workers started last is at step all_closed kept =
       let first : Adding state shards shape at.begun full o.count groups workers = subst (λ (v : Shards). Adding state v shape at.begun full o.count groups workers) (sym is) at.added in
-      let after : Adding state (shards_of o) shape at.begun full 0 left started = subst (λ (v : Shards). Adding state v shape at.begun full 0 left started) is (step shape at.begun full first) in
-      subst (λ (v : List (Worker X)). IsUndone state old full closed v) (sym kept)
-      (subst (λ (v : List (GroupState X)). IsUndone state old full v started) (sym all_closed) (undone_of state o shape old at.begun left full started at.begins after))
+      let after : Adding state (shards_of nodes o) shape at.begun full 0 left started = subst (λ (v : Shards). Adding state v shape at.begun full 0 left started) is (step shape at.begun full first) in
+      subst (λ (v : List (Worker X)). IsUndone state nodes old full closed v) (sym kept)
+      (subst (λ (v : List (GroupState X)). IsUndone state nodes old full v started) (sym all_closed) (undone_of state nodes some o shape old at.begun left full started at.begins after))
 
+module _ {X : Type 0} (state : X → StoreState) where
   -- ---- before a distribution
 
-  all_wait : (cl : Cluster X) → IsSound state cl → (place : ℕ) (w : Worker X) → place < nodes → slice_get cl.workers.items place ≡ Some w → AllWait state w
+  all_wait : (cl : Cluster X) → IsSound state cl → (place : ℕ) (w : Worker X) → place < cl.nodes → slice_get cl.workers.items place ≡ Some w → AllWait state w
   all_wait cl s place w h t =
       let at = s.workers.1.used place w h t in
       subst (λ n. All (λ (x : X). IsWaiting n (state x)) w.stores.items) (sym at.node) at.stores
 
   -- a cluster is as it was
-  pub still_sound : (cl : Cluster X) → IsSound state cl → IsUndone state cl.groups.items cl.workers.items cl.groups.items cl.workers.items
+  pub still_sound : (cl : Cluster X) → IsSound state cl → IsUndone state cl.nodes cl.groups.items cl.workers.items cl.groups.items cl.workers.items
   still_sound cl s = record {
     gone = record {
       count = refl;
@@ -115,20 +114,22 @@ module _ {X : Type 0} (state : X → StoreState) where
           let at = s.groups.each was.colocation was.i was.co g was.there was.within (subst (λ n. slice_get cl.groups.items n ≡ Some g) was.is t) in
           (g, t, goes_same state g at.kept at.quiet at.steady);
     };
-    spent = spent_none state cl.workers.items (all_wait cl s);
+    spent = spent_none state cl.nodes s.some cl.workers.items (all_wait cl s);
   }
 
   ready_at : (cl : Cluster X) (table : ℕ) (target : Target) (info : TableInfo) → IsSound state cl → slice_get cl.catalog.tables table ≡ Some info → info.place ≡ Local → CanOpen cl.catalog target →
-      shortage (opened_at cl.catalog table target).count cl.workers.items ≡ None → IsReady state cl (opened_at cl.catalog table target)
+      shortage cl.nodes (opened_at cl.catalog table target).count cl.workers.items ≡ None → IsReady state cl (opened_at cl.catalog table target)
   ready_at cl table target info s there local can room =
       let c = cl.catalog in
       let o = opened_at c table target in
       record {
+        some = s.some;
+        few = s.few;
         there = let below = slice_get_within c.tables table info there in subst (λ n. n < length c.tables) (sym (table_at c table target)) below;
         next = next_at c table target (length cl.groups.items) s.groups.count can;
         still = still_sound cl s;
-        begins = can_begin_at state c table target (shape_in c o.table) cl.groups.items cl.workers.items s.whole s.groups (ap place_in there ∙ local) can s.ids (few_ids c s.whole) s.both
-            (have_stores state cl.groups.items s.workers.0 cl.workers.items o.count s.both s.workers.1 room);
+        begins = can_begin_at state cl.nodes s.some c table target (shape_in c o.table) cl.groups.items cl.workers.items s.whole s.groups (ap place_in there ∙ local) can s.ids (few_ids c s.whole) s.enough
+            (have_stores state cl.nodes s.some cl.groups.items s.workers.0 cl.workers.items o.count s.enough s.workers.1 room);
       }
 
   module _ (cl : Cluster X) (table column : List ℕ) (count : Option ℕ) (beside : With) (default : ℕ) where
@@ -139,32 +140,30 @@ module _ {X : Type 0} (state : X → StoreState) where
         let can = can_distribute cl.catalog table column count beside default allowed in
         subst (λ (v : Opened). v.count ≤ 128) (sym is) (few_at cl.catalog d.table d.target s.whole can.can)
 
-    pub ready_of : (o : Opened) → IsSound state cl → IsPlanned cl.catalog cl.workers.items table column count beside default o → IsReady state cl o
+    pub ready_of : (o : Opened) → IsSound state cl → IsPlanned cl.nodes cl.catalog cl.workers.items table column count beside default o → IsReady state cl o
     ready_of o s p =
         let d = decision_of cl.catalog table column count beside default in
         let can = can_distribute cl.catalog table column count beside default p.allowed in
         subst (IsReady state cl) (sym p.opened)
-        (ready_at cl d.table d.target can.info s can.there can.local can.can (subst (λ (v : Opened). shortage v.count cl.workers.items ≡ None) p.opened p.room))
+        (ready_at cl d.table d.target can.info s can.there can.local can.can (subst (λ (v : Opened). shortage cl.nodes v.count cl.workers.items ≡ None) p.opened p.room))
 
     -- why a distribution is refused for want of stores, or isn't
     pub by_shortage : (o : Opened) (r : Option Fault) → IsSound state cl → distribution_refusal cl.catalog table column count beside default ≡ None → o ≡ opened_by cl.catalog (decision_of cl.catalog table column count beside default) →
-        shortage o.count cl.workers.items ≡ r → (entry : List (Worker X)) → AreWorkers state entry cl.groups.items cl.workers.items → distribution_fault (run_of entry) cl.catalog default table column count beside ≡ r
+        shortage cl.nodes o.count cl.workers.items ≡ r → (entry : List (Worker X)) → AreWorkers state cl.nodes entry cl.groups.items cl.workers.items → distribution_fault (run_of cl.nodes entry) cl.catalog default table column count beside ≡ r
     by_shortage o r s allowed is short entry at =
         let d = decision_of cl.catalog table column count beside default in
-        same_fault entry cl.catalog default table column count beside
-        ∙ by_room cl.catalog default (whole_at entry) table column count beside r allowed
-        (sym (room_same state cl.catalog entry cl.groups.items cl.workers.items (opened_by cl.catalog d).count s.both s.groups at) ∙ ap (λ (v : Opened). shortage v.count cl.workers.items) (sym is) ∙ short)
+        by_room (run_of cl.nodes entry) cl.catalog default table column count beside r allowed
+        (sym (room_same state cl.nodes s.some cl.catalog entry cl.groups.items cl.workers.items (opened_by cl.catalog d).count s.enough s.groups at) ∙ ap (λ (v : Opened). shortage cl.nodes v.count cl.workers.items) (sym is) ∙ short)
 
     -- the error of the catalogue is the cause
     pub refused_by : (e : CatalogError) (f : Fault) → f ≡ fault_of_catalog e → IsCause e (distribution_refusal cl.catalog table column count beside default) → (entry : List (Worker X)) →
-        AreWorkers state entry cl.groups.items cl.workers.items → (f ≡ fault.Memory) ⊎ (distribution_fault (run_of entry) cl.catalog default table column count beside ≡ Some f)
+        AreWorkers state cl.nodes entry cl.groups.items cl.workers.items → (f ≡ fault.Memory) ⊎ (distribution_fault (run_of cl.nodes entry) cl.catalog default table column count beside ≡ Some f)
     refused_by e f is cause entry at =
-        subst (λ (v : Fault). (v ≡ fault.Memory) ⊎ (distribution_fault (run_of entry) cl.catalog default table column count beside ≡ Some v)) (sym is)
-        (subst (λ (o : Option Fault). (fault_of_catalog e ≡ fault.Memory) ⊎ (o ≡ Some (fault_of_catalog e))) (sym (same_fault entry cl.catalog default table column count beside))
-        (cause_of cl.catalog default (whole_at entry) table column count beside e cause))
+        subst (λ (v : Fault). (v ≡ fault.Memory) ⊎ (distribution_fault (run_of cl.nodes entry) cl.catalog default table column count beside ≡ Some v)) (sym is)
+        (cause_of (run_of cl.nodes entry) cl.catalog default table column count beside e cause)
 
     -- want of stores is the cause, where the catalogue refuses nothing
     pub short_by : (o : Opened) (f : Fault) → IsSound state cl → distribution_refusal cl.catalog table column count beside default ≡ None → o ≡ opened_by cl.catalog (decision_of cl.catalog table column count beside default) →
-        shortage o.count cl.workers.items ≡ Some f → (entry : List (Worker X)) → AreWorkers state entry cl.groups.items cl.workers.items →
-        (f ≡ fault.Memory) ⊎ (distribution_fault (run_of entry) cl.catalog default table column count beside ≡ Some f)
+        shortage cl.nodes o.count cl.workers.items ≡ Some f → (entry : List (Worker X)) → AreWorkers state cl.nodes entry cl.groups.items cl.workers.items →
+        (f ≡ fault.Memory) ⊎ (distribution_fault (run_of cl.nodes entry) cl.catalog default table column count beside ≡ Some f)
     short_by o f s allowed is short entry at = inr (by_shortage o (Some f) s allowed is short entry at)

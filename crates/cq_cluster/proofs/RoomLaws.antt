@@ -1,55 +1,75 @@
--- The room of a run with two workers, as answers are judged by it.
-use Rattle.std.proofs.Common.{◌≡◌, ℕ, ◌+◌, ◌-◌, cond, List, [], ◌∷◌, refl, ap, ◌∙◌, arith, Some, None, Option}
-use Rattle.std.specs.Prelude.{◌/◌, nat_lt, option_map}
-use Rattle.cq_value.specs.declared.schema.With.{With}
-use Rattle.cq_answer.specs.declared.fault.Fault.{Fault}
-use Rattle.cq_answer.specs.declared.fault.Fault.TheVariants as fault
-use Rattle.cq_answer.specs.Faults.{fault_of_catalog}
-use Rattle.cq_catalog.specs.Contents.{Contents}
-use Rattle.cq_catalog.specs.Distribution.{decision_of, distribution_refusal, opened_by}
-use Rattle.cq_catalog.specs.Refusals.{first_of}
+-- How many of a table's shards are on a node, one shard after another, and the stores that the catalogue's tables have.
+use Rattle.std.proofs.Common.{◌≡◌, ◌≢◌, inl, inr, ℕ, ◌+◌, ◌-◌, ◌*◌, ◌%◌, ◌<◌, ◌≤◌, List, [], ◌∷◌, refl, sym, ap, ◌∙◌, arith}
+use Rattle.std.specs.Prelude.{◌/◌}
+use Rattle.std.proofs.lemmas.Bool.{cases_lt}
+use Rattle.std.proofs.lemmas.Nat.{div-mul-add, div-add-mod', le-div, mod_below}
 use Rattle.cq_catalog.specs.declared.info.Colocation.{Colocation}
 use Rattle.cq_catalog.specs.declared.info.Place.{Place}
 use Rattle.cq_catalog.specs.declared.info.Place.TheVariants.{Local, Distributed, Reference}
 use Rattle.cq_catalog.specs.declared.info.TableInfo.{TableInfo}
+use Rattle.cq_history.specs.Run.{Run}
 use Rattle.cq_history.specs.Run as history
-use Rattle.cq_history.specs.Standing as standing
-use Rattle.cq_store.specs.declared.worker.Worker.{Worker}
-use Rattle.cq_cluster.specs.Room.{shards_on, taken_by, taken_in, taken, short_at, room_fault, distribution_fault}
-use Rattle.cq_cluster.specs.Cluster.{whole_at, run_of}
+use Rattle.cq_cluster.specs.Room.{shards_on, taken_by, taken_in}
 
--- the lower of two faults
-in_turn : (a b : Option Fault) → first_of (a ∷ first_of (b ∷ None ∷ []) ∷ []) ≡ first_of (a ∷ b ∷ [])
-in_turn None None = refl
-in_turn None (Some g) = refl
-in_turn (Some f) b = refl
+module _ (nodes : ℕ) (some : 0 < nodes) where
+  -- whole rounds, of one shard on each node, and a last round that doesn't come to the node at this place
+  whole_rounds : (rounds last place : ℕ) → last ≤ place → place < nodes → shards_on nodes (rounds * nodes + last) place ≡ rounds
+  whole_rounds rounds last place short within =
+      let parts : rounds * nodes + last + nodes - 1 - place ≡ rounds * nodes + (last + (nodes - 1 - place)) = omega (arith, within) in
+      ap (λ n. n / nodes) parts ∙ div-mul-add rounds nodes (last + (nodes - 1 - place)) (omega (arith, short, within))
 
-module _ {X : Type 0} (entry : List (Worker X)) where
-  same_shards : (count at : ℕ) → history.shards_on (run_of entry) count at ≡ shards_on count at
-  same_shards count at = ap (λ n. n / 2) (let e : count + 2 - 1 - at ≡ count + 1 - at = omega arith in e)
+  -- and one that does
+  last_round : (rounds last place : ℕ) → place < last → last ≤ nodes → shards_on nodes (rounds * nodes + last) place ≡ rounds + 1
+  last_round rounds last place far within =
+      let once : (rounds + 1) * nodes ≡ rounds * nodes + nodes = omega arith in
+      let parts : rounds * nodes + last + nodes - 1 - place ≡ (rounds + 1) * nodes + (last - 1 - place) = omega (arith, far, once) in
+      ap (λ n. n / nodes) parts ∙ div-mul-add (rounds + 1) nodes (last - 1 - place) (omega (arith, far, within))
 
-  same_taken_by : (cs : List Colocation) (at : ℕ) (p : Place) → history.taken_by (run_of entry) cs at p ≡ taken_by cs at p
-  same_taken_by cs at Local = refl
-  same_taken_by cs at (Distributed column colocation first_shard) = same_shards _ at
-  same_taken_by cs at (Reference group shard) = refl
+  -- the next shard is on the node at this place
+  pub next_here : (n place : ℕ) → place ≡ n % nodes → shards_on nodes (n + 1) place ≡ shards_on nodes n place + 1
+  next_here n place e =
+      let rounds = n / nodes in
+      let all = div-add-mod' n nodes in
+      let low = mod_below n nodes some in
+      let now : n ≡ rounds * nodes + place = omega (arith, all, e) in
+      let next : n + 1 ≡ rounds * nodes + (place + 1) = omega (arith, now) in
+      ap (λ m. shards_on nodes m place) next ∙ last_round rounds (place + 1) place (omega arith) (omega (arith, e, low))
+      ∙ sym (ap (λ m. m + 1) (ap (λ m. shards_on nodes m place) now ∙ whole_rounds rounds place place (omega arith) (omega (arith, e, low))))
 
-  same_taken : (cs : List Colocation) (at : ℕ) (ts : List TableInfo) → history.taken_in (run_of entry) cs at ts ≡ taken_in cs at ts
-  same_taken cs at [] = refl
-  same_taken cs at (t ∷ ts) = let first = same_taken_by cs at t.place in let further = same_taken cs at ts in omega (arith, first, further)
+  -- and not on another
+  pub next_elsewhere : (n place : ℕ) → place < nodes → place ≢ n % nodes → shards_on nodes (n + 1) place ≡ shards_on nodes n place
+  next_elsewhere n place within apart =
+      let rounds = n / nodes in
+      let last = n % nodes in
+      let now : n ≡ rounds * nodes + last = sym (div-add-mod' n nodes) in
+      let next : n + 1 ≡ rounds * nodes + (last + 1) = omega (arith, now) in
+      let low = mod_below n nodes some in
+      ap (λ m. shards_on nodes m place) next ∙ elim (cases_lt place last) [
+        | inl far ↦ last_round rounds (last + 1) place (omega (arith, far)) (omega (arith, low)) ∙ sym (last_round rounds last place far (omega (arith, low)))
+        | inr short ↦ whole_rounds rounds (last + 1) place (omega (arith, short, apart)) within ∙ sym (whole_rounds rounds last place (omega (arith, short)) within)
+      ] ∙ sym (ap (λ m. shards_on nodes m place) now)
 
-  same_short : (c : Contents) (count at : ℕ) → history.short_at (run_of entry) c (history.shards_on (run_of entry) count) at ≡ short_at c (whole_at entry) count at
-  same_short c count at =
-      let short : ℕ → ℕ → Option Fault = λ free needed. cond (nat_lt free needed) (Some (fault.NoRoom (at + 1) free needed)) None in
-      ap (λ n. short (whole_at entry at - n) (history.shards_on (run_of entry) count at)) (same_taken c.colocations at c.tables) ∙ ap (short (whole_at entry at - taken c at)) (same_shards count at)
+  pub none_on : (place : ℕ) → place < nodes → shards_on nodes 0 place ≡ 0
+  none_on place within =
+      let parts : 0 + nodes - 1 - place ≡ 0 * nodes + (nodes - 1 - place) = omega (arith, within) in
+      ap (λ n. n / nodes) parts ∙ div-mul-add 0 nodes (nodes - 1 - place) (omega (arith, within))
 
-  -- the lowest node with too few stores is the lower of the two
-  pub same_room : (c : Contents) (count : ℕ) → history.room_fault (run_of entry) c (history.shards_on (run_of entry) count) ≡ room_fault c (whole_at entry) count
-  same_room c count =
-      in_turn (history.short_at (run_of entry) c (history.shards_on (run_of entry) count) 0) (history.short_at (run_of entry) c (history.shards_on (run_of entry) count) 1)
-      ∙ ap (λ (o : Option Fault). first_of (o ∷ history.short_at (run_of entry) c (history.shards_on (run_of entry) count) 1 ∷ [])) (same_short c count 0)
-      ∙ ap (λ (o : Option Fault). first_of (short_at c (whole_at entry) count 0 ∷ o ∷ [])) (same_short c count 1)
+  -- more shards are no fewer on a node
+  rises : (m n : ℕ) → m ≤ n → m / nodes ≤ n / nodes
+  rises m n less = let all = div-add-mod' m nodes in le-div (m / nodes) n nodes some (omega (arith, all, less))
 
-  pub same_fault : (c : Contents) (default : ℕ) (table column : List ℕ) (count : Option ℕ) (beside : With) →
-      standing.distribution_fault (run_of entry) c default table column count beside ≡ distribution_fault c default (whole_at entry) table column count beside
-  same_fault c default table column count beside =
-      ap (λ (o : Option Fault). first_of (option_map fault_of_catalog (distribution_refusal c table column count beside default) ∷ o ∷ [])) (same_room c (opened_by c (decision_of c table column count beside default)).count)
+  pub fewer_on : (n count place : ℕ) → n < count → place ≡ n % nodes → shards_on nodes n place < shards_on nodes count place
+  fewer_on n count place less e =
+      let more = next_here n place e in
+      let up = rises (n + 1 + nodes - 1 - place) (count + nodes - 1 - place) (omega (arith, less)) in
+      omega (arith, more, up)
+
+-- the stores that tables have, as answers are judged by them
+same_taken_by : (run : Run) (cs : List Colocation) (at : ℕ) (p : Place) → history.taken_by run cs at p ≡ taken_by run.workers cs at p
+same_taken_by run cs at Local = refl
+same_taken_by run cs at (Distributed column colocation first_shard) = refl
+same_taken_by run cs at (Reference group shard) = refl
+
+pub same_taken : (run : Run) (cs : List Colocation) (at : ℕ) (ts : List TableInfo) → history.taken_in run cs at ts ≡ taken_in run.workers cs at ts
+same_taken run cs at [] = refl
+same_taken run cs at (t ∷ ts) = let first = same_taken_by run cs at t.place in let further = same_taken run cs at ts in omega (arith, first, further)

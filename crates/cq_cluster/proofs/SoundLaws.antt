@@ -3,7 +3,7 @@ use Rattle.std.proofs.Common.{◌≡◌, ◌⊎◌, inl, inr, ℕ, zero, suc, �
 use Rattle.std.specs.Prelude.{nat_lt}
 use Rattle.std.specs.List.{AllByRecursion}
 use Rattle.std.proofs.lemmas.Bool.{cases_lt}
-use Rattle.std.proofs.lemmas.Bool.Decides.{nat_tests}
+use Rattle.std.proofs.lemmas.Bool.Decides.{nat_tests, eqb_tells}
 use Rattle.std.proofs.lemmas.Option.{slice_get_within}
 use Rattle.std.proofs.lemmas.List.{map-append}
 use Rattle.cq_value.specs.declared.schema.Kind.{Kind}
@@ -33,16 +33,18 @@ use Rattle.cq_store.specs.declared.worker.Worker.{Worker}
 use Rattle.cq_planning.specs.Database.{shape_in}
 use Rattle.cq_history.specs.Deeds.{Grows}
 use Rattle.cq_history.specs.Journals.{none as nothing_made}
-use Rattle.cq_cluster.specs.Room.{nodes, shards_on, taken, short_at, room_fault}
+use Rattle.cq_history.specs.Run as history
+use Rattle.cq_cluster.specs.Room.{shards_on, taken}
 use Rattle.cq_group.specs.declared.group.GroupState.{GroupState}
 use Rattle.cq_group.specs.Groups.{IsKept, IsNamed, IsQuiet, IsSteady, Outline, outlines, shape_at, entries_of, journal_of}
 use Rattle.cq_group.specs.Resting.{journals_of}
-use Rattle.cq_cluster.specs.Cluster.{Either, node_of, IsWaiting, held, AreGroups, whole_at, AreWorkers, stores_in}
-use Rattle.cq_cluster.specs.Steps.{Goes, AreGone, more_at, nothing_more, AreSpent, HaveStores, AreOpened, IsUnwritten, shard_outline, Adding, short_of, shortage, shards_of, HasOpened, IsBegun, forgotten, CanBegin, IsOpen, IsUndone}
-use Rattle.cq_cluster.proofs.ListLaws.{there}
+use Rattle.cq_cluster.specs.Cluster.{Either, node_of, IsWaiting, held, AreGroups, whole_at, AreWorkers, run_of, stores_in}
+use Rattle.cq_cluster.specs.Steps.{Goes, AreGone, more_at, nothing_more, AreSpent, HaveStores, AreOpened, IsUnwritten, shard_outline, Adding, short_of, shortage_from, shortage, shards_of, HasOpened, IsBegun, forgotten, CanBegin, IsOpen, IsUndone}
+use Rattle.cq_cluster.proofs.ListLaws.{there, item_at}
 use Rattle.cq_cluster.proofs.GoneLaws.{goes_same, more_none, gone_journals, held_gone}
 use Rattle.cq_cluster.proofs.JournalLaws.{same_grows, opened_grow}
 use Rattle.cq_cluster.proofs.AddingLaws.{spent_none}
+use Rattle.cq_cluster.proofs.RoomLaws.{none_on, same_taken}
 use Rattle.cq_cluster.proofs.CatalogLaws.{no_shard, groups_opened, groups_spread, held_empty, before_more, behind_more, last_there}
 
 -- ---- what a group that hasn't a table has no write of
@@ -63,7 +65,7 @@ no_writes : (os : List Outline) (table : ℕ) (es : List Entry) → shape_at os 
 no_writes os table [] none all = tt
 no_writes os table (e ∷ es) none all = (no_write os table e.kind none all.0, no_writes os table es none all.1)
 
-module _ {X : Type 0} (state : X → StoreState) where
+module _ {X : Type 0} (state : X → StoreState) (nodes : ℕ) (some : 0 < nodes) where
   -- a group that can get a new table
   record IsFree (table : ℕ) (g : GroupState X) : Type 0 where
     kept : IsKept state g
@@ -71,7 +73,7 @@ module _ {X : Type 0} (state : X → StoreState) where
     steady : IsSteady state g
     free : shape_at (outlines g) table ≡ None
 
-  free_group : (c : Contents) (table : ℕ) (groups : List (GroupState X)) → AreGroups state c groups → place_at c table ≡ Local → (h : ℕ) (g : GroupState X) → slice_get groups h ≡ Some g → IsFree table g
+  free_group : (c : Contents) (table : ℕ) (groups : List (GroupState X)) → AreGroups state nodes c groups → place_at c table ≡ Local → (h : ℕ) (g : GroupState X) → slice_get groups h ≡ Some g → IsFree table g
   free_group c table groups all local h g s =
       let was = all.covered h (let below = slice_get_within groups h g s in omega (arith, below, all.count)) in
       let at = all.each was.colocation was.i was.co g was.there was.within (subst (λ n. slice_get groups n ≡ Some g) was.is s) in
@@ -89,9 +91,9 @@ module _ {X : Type 0} (state : X → StoreState) where
 
   -- ---- the workers
 
-  short_none : (count place free : ℕ) → short_of count place free ≡ None → shards_on count place ≤ free
-  short_none count place free h = elim (cases_lt free (shards_on count place)) [
-    | inl less ↦ absurd (refused (let yes : nat_lt free (shards_on count place) ≡ true = grind (arith, nat_tests, less) in rw yes at h))
+  short_none : (count place free : ℕ) → short_of nodes count place free ≡ None → shards_on nodes count place ≤ free
+  short_none count place free h = elim (cases_lt free (shards_on nodes count place)) [
+    | inl less ↦ absurd (refused (let yes : nat_lt free (shards_on nodes count place) ≡ true = grind (arith, nat_tests, less) in rw yes at h))
     | inr enough ↦ omega (arith, enough)
   ]
     where
@@ -101,30 +103,31 @@ module _ {X : Type 0} (state : X → StoreState) where
   -- ---- before a table is distributed
 
   -- where the shards of a table go: its groups are those of a co-location group, or are to be opened
-  begun_joins : (c : Contents) (o : Opened) (shape : Shape) (co : Colocation) (colocation : ℕ) (groups : List (GroupState X)) (workers : List (Worker X)) → IsWhole c → AreGroups state c groups → place_at c o.table ≡ Local →
+  begun_joins : (c : Contents) (o : Opened) (shape : Shape) (co : Colocation) (colocation : ℕ) (groups : List (GroupState X)) (workers : List (Worker X)) → IsWhole c → AreGroups state nodes c groups → place_at c o.table ≡ Local →
       slice_get c.colocations colocation ≡ Some co → o.first_group ≡ co.first_group → o.count ≡ co.count → o.first_shard ≡ c.next_shard → 0 < c.next_shard → c.next_shard < 4294967296 →
-      nodes ≤ length workers → HaveStores state o.count workers → Adding state (shards_of o) shape groups workers 0 groups workers
-  begun_joins c o shape co colocation groups workers whole all local joins first count shard some few both stores =
+      nodes ≤ length workers → HaveStores state nodes o.count workers → Adding state (shards_of nodes o) shape groups workers 0 groups workers
+  begun_joins c o shape co colocation groups workers whole all local joins first count shard first_id few both stores =
       let free = free_group c o.table groups all local in
       let cut = whole.cut colocation co joins in
       record {
         few = omega arith;
         within = omega (arith, first, count, cut.within, all.count);
         numbers = omega (arith, first, count, cut.within, whole.few_groups);
-        some_shard = omega (arith, shard, some);
+        some_shard = omega (arith, shard, first_id);
         ids = omega (arith, shard, few, count, cut.few);
-        both = both;
+        some = some;
+        enough = both;
         ready = λ h g least most s.
             let f = free h g s in
             let i = h - co.first_group in
             let index : h ≡ co.first_group + i = omega (arith, first, least) in
             let at = all.each colocation i co g joins (omega (arith, first, count, least, most)) (subst (λ n. slice_get groups n ≡ Some g) index s) in
-            (f.free, at.node ∙ ap node_of (let e : i ≡ h - o.first_group = omega (arith, first) in e));
+            (f.free, at.node ∙ ap (node_of nodes) (let e : i ≡ h - o.first_group = omega (arith, first) in e));
         stores = stores;
-        gone = gone_free o.table o.first_group (shard_outline (shards_of o) shape) groups free;
-        held = λ place h. omega (arith, h);
+        gone = gone_free o.table o.first_group (shard_outline (shards_of nodes o) shape) groups free;
+        held = λ place h. let zero_more = none_on nodes some place h in omega (arith, zero_more);
         unwritten = unwritten_free o.table groups free;
-        spent = spent_none state workers (λ place w h s. (stores place w h s).1);
+        spent = spent_none state nodes some workers (λ place w h s. (stores place w h s).1);
       }
 
   behind_opened : (groups opened : List (GroupState X)) (h : ℕ) (g : GroupState X) → slice_get (groups ++ opened) h ≡ Some g → (slice_get groups h ≡ Some g) ⊎ ((length groups ≤ h) × (slice_get opened (h - length groups) ≡ Some g))
@@ -133,10 +136,10 @@ module _ {X : Type 0} (state : X → StoreState) where
     | inr l ↦ inr (omega (arith, l), sym (behind_more groups opened (h - length groups)) ∙ ap (slice_get (groups ++ opened)) (let e : length groups + (h - length groups) ≡ h = omega (arith, l) in e) ∙ s)
   ]
 
-  begun_opens : (c : Contents) (o : Opened) (shape : Shape) (groups opened : List (GroupState X)) (workers : List (Worker X)) → AreGroups state c groups → place_at c o.table ≡ Local →
-      o.first_group ≡ c.groups → o.count ≤ 128 → o.first_group + o.count ≤ 512 → o.first_shard ≡ c.next_shard → 0 < c.next_shard → c.next_shard < 4294967296 → length opened ≡ o.count → AreOpened state o.first_group opened →
-      nodes ≤ length workers → HaveStores state o.count workers → Adding state (shards_of o) shape (groups ++ opened) workers 0 (groups ++ opened) workers
-  begun_opens c o shape groups opened workers all local first count numbers shard some few number fresh both stores =
+  begun_opens : (c : Contents) (o : Opened) (shape : Shape) (groups opened : List (GroupState X)) (workers : List (Worker X)) → AreGroups state nodes c groups → place_at c o.table ≡ Local →
+      o.first_group ≡ c.groups → o.count ≤ 128 → o.first_group + o.count ≤ 512 → o.first_shard ≡ c.next_shard → 0 < c.next_shard → c.next_shard < 4294967296 → length opened ≡ o.count → AreOpened state nodes o.first_group opened →
+      nodes ≤ length workers → HaveStores state nodes o.count workers → Adding state (shards_of nodes o) shape (groups ++ opened) workers 0 (groups ++ opened) workers
+  begun_opens c o shape groups opened workers all local first count numbers shard first_id few number fresh both stores =
       let free : (h : ℕ) (g : GroupState X) → slice_get (groups ++ opened) h ≡ Some g → IsFree o.table g =
       λ h g s. elim (behind_opened groups opened h g s) [
         | inl p ↦ free_group c o.table groups all local h g p
@@ -146,52 +149,57 @@ module _ {X : Type 0} (state : X → StoreState) where
         few = omega arith;
         within = omega (arith, first, number, all.count, length-append groups opened);
         numbers = numbers;
-        some_shard = omega (arith, shard, some);
+        some_shard = omega (arith, shard, first_id);
         ids = omega (arith, shard, few, count);
-        both = both;
+        some = some;
+        enough = both;
         ready = λ h g least most s.
             let f = free h g s in
             elim (behind_opened groups opened h g s) [
               | inl p ↦ absurd (let below = slice_get_within groups h g p in omega (arith, below, first, least, all.count))
-              | inr p ↦ (let at = fresh (h - length groups) g p.1 in (f.free, at.node ∙ ap node_of (let e : h - length groups ≡ h - o.first_group = omega (arith, first, all.count) in e)))
+              | inr p ↦ (let at = fresh (h - length groups) g p.1 in (f.free, at.node ∙ ap (node_of nodes) (let e : h - length groups ≡ h - o.first_group = omega (arith, first, all.count) in e)))
             ];
         stores = stores;
-        gone = gone_free o.table o.first_group (shard_outline (shards_of o) shape) (groups ++ opened) free;
-        held = λ place h. omega (arith, h);
+        gone = gone_free o.table o.first_group (shard_outline (shards_of nodes o) shape) (groups ++ opened) free;
+        held = λ place h. let zero_more = none_on nodes some place h in omega (arith, zero_more);
         unwritten = unwritten_free o.table (groups ++ opened) free;
-        spent = spent_none state workers (λ place w h s. (stores place w h s).1);
+        spent = spent_none state nodes some workers (λ place w h s. (stores place w h s).1);
       }
 
   -- the workers have the stores, where none is short
-  pub have_stores : (groups : List (GroupState X)) (entry workers : List (Worker X)) (count : ℕ) → nodes ≤ length workers → AreWorkers state entry groups workers → shortage count workers ≡ None → HaveStores state count workers
+  pub have_stores : (groups : List (GroupState X)) (entry workers : List (Worker X)) (count : ℕ) → nodes ≤ length workers → AreWorkers state nodes entry groups workers → shortage nodes count workers ≡ None → HaveStores state nodes count workers
   have_stores groups entry workers count both all enough place w h s =
       let at = all.used place w h s in
-      let first = first_none (short_of count 0 (stores_in (slice_get workers 0))) (short_of count 1 (stores_in (slice_get workers 1)) ∷ []) enough in
-      let second = first_none (short_of count 1 (stores_in (slice_get workers 1))) [] first.1 in (
+      let short = none_short 0 nodes enough place (omega arith) (omega (arith, h)) in (
         at.node,
         subst (λ n. All (λ (x : X). IsWaiting n (state x)) w.stores.items) (sym at.node) at.stores,
-        by_place place w h s (short_none count 0 _ first.0) (short_none count 1 _ second.0),
+        (let had = short_none count place _ short in let e = ap stores_in s in omega (arith, had, e)),
       )
     where
       first_none : {A : Type 0} (o : Option A) (rest : List (Option A)) → first_of (o ∷ rest) ≡ None → (o ≡ None) × (first_of rest ≡ None)
       first_none None rest h = (refl, h)
       first_none (Some x) rest h = cc
 
-      by_place : (place : ℕ) (w : Worker X) → place < nodes → slice_get workers place ≡ Some w → shards_on count 0 ≤ stores_in (slice_get workers 0) → shards_on count 1 ≤ stores_in (slice_get workers 1) → shards_on count place ≤ length w.stores.items
-      by_place zero w h s p q = let e = ap stores_in s in omega (arith, p, e)
-      by_place (suc zero) w h s p q = let e = ap stores_in s in omega (arith, q, e)
-      by_place (suc (suc n)) w h s p q = absurd (omega (arith, h))
+      none_short : (first more : ℕ) → shortage_from nodes count workers first more ≡ None → (k : ℕ) → first ≤ k → k < first + more → short_of nodes count k (stores_in (slice_get workers k)) ≡ None
+      none_short first zero free k least most = absurd (omega (arith, least, most))
+      none_short first (suc more) free k least most =
+          let here = first_none (short_of nodes count first (stores_in (slice_get workers first))) (shortage_from nodes count workers (first + 1) more ∷ []) free in
+          let rest = first_none (shortage_from nodes count workers (first + 1) more) [] here.1 in
+          elim (eqb_tells k first) [
+            | inl y ↦ subst (λ j. short_of nodes count j (stores_in (slice_get workers j)) ≡ None) (sym y.1) here.0
+            | inr z ↦ none_short (first + 1) more rest.0 k (omega (arith, z.1, least)) (omega (arith, most))
+          ]
 
-  pub can_begin_at : (c : Contents) (table : ℕ) (target : Target) (shape : Shape) (groups : List (GroupState X)) (workers : List (Worker X)) → IsWhole c → AreGroups state c groups → place_at c table ≡ Local → CanOpen c target →
-      0 < c.next_shard → c.next_shard < 4294967296 → nodes ≤ length workers → HaveStores state (opened_at c table target).count workers → CanBegin state (opened_at c table target) shape groups workers
-  can_begin_at c table (Opens count joinable) shape groups workers whole all local can some few both stores begun has =
+  pub can_begin_at : (c : Contents) (table : ℕ) (target : Target) (shape : Shape) (groups : List (GroupState X)) (workers : List (Worker X)) → IsWhole c → AreGroups state nodes c groups → place_at c table ≡ Local → CanOpen c target →
+      0 < c.next_shard → c.next_shard < 4294967296 → nodes ≤ length workers → HaveStores state nodes (opened_at c table target).count workers → CanBegin state nodes (opened_at c table target) shape groups workers
+  can_begin_at c table (Opens count joinable) shape groups workers whole all local can first_id few both stores begun has =
       let opened = has.0 in
-      subst (λ (gs : List (GroupState X)). Adding state (shards_of (opened_at c table (Opens count joinable))) shape gs workers 0 gs workers) (sym has.1)
-      (begun_opens c (opened_at c table (Opens count joinable)) shape groups opened workers all local refl can.1 can.2 refl some few has.2 has.3 both stores)
-  can_begin_at c table (Joins colocation) shape groups workers whole all local can some few both stores begun has =
+      subst (λ (gs : List (GroupState X)). Adding state (shards_of nodes (opened_at c table (Opens count joinable))) shape gs workers 0 gs workers) (sym has.1)
+      (begun_opens c (opened_at c table (Opens count joinable)) shape groups opened workers all local refl can.1 can.2 refl first_id few has.2 has.3 both stores)
+  can_begin_at c table (Joins colocation) shape groups workers whole all local can first_id few both stores begun has =
       let co = got c.colocations colocation can in
-      subst (λ (gs : List (GroupState X)). Adding state (shards_of (opened_at c table (Joins colocation))) shape gs workers 0 gs workers) (sym has)
-      (begun_joins c (opened_at c table (Joins colocation)) shape co.0 colocation groups workers whole all local co.1 (ap first_group_in co.1) (ap count_in co.1) refl some few both stores)
+      subst (λ (gs : List (GroupState X)). Adding state (shards_of nodes (opened_at c table (Joins colocation))) shape gs workers 0 gs workers) (sym has)
+      (begun_joins c (opened_at c table (Joins colocation)) shape co.0 colocation groups workers whole all local co.1 (ap first_group_in co.1) (ap count_in co.1) refl first_id few both stores)
     where
       got : {A : Type 0} (xs : List A) (n : ℕ) → n < length xs → (x : A) × (slice_get xs n ≡ Some x)
       got [] n h = absurd (omega (arith, h))
@@ -202,13 +210,13 @@ module _ {X : Type 0} (state : X → StoreState) where
 
   -- a table's shards are added, and what the groups, their journals and the workers are then
   pub record IsDone (c next : Contents) (old groups : List (GroupState X)) (full workers : List (Worker X)) : Type 0 where
-    pub after : AreGroups state next groups
+    pub after : AreGroups state nodes next groups
     pub grows : (who : Who) → Grows who nothing_made (journals_of old) (journals_of groups)
-    pub stores : (entry : List (Worker X)) → AreWorkers state entry old full → AreWorkers state entry groups workers
+    pub stores : (entry : List (Worker X)) → AreWorkers state nodes entry old full → AreWorkers state nodes entry groups workers
     pub same_length : length workers ≡ length full
 
-  keeps : (old groups : List (GroupState X)) (full workers : List (Worker X)) (n : ℕ) → nodes ≤ length full → AreSpent state n full workers → ((place : ℕ) → place < nodes → held place groups ≡ held place old + shards_on n place) → (entry : List (Worker X)) →
-      AreWorkers state entry old full → AreWorkers state entry groups workers
+  keeps : (old groups : List (GroupState X)) (full workers : List (Worker X)) (n : ℕ) → nodes ≤ length full → AreSpent state nodes n full workers → ((place : ℕ) → place < nodes → held place groups ≡ held place old + shards_on nodes n place) → (entry : List (Worker X)) →
+      AreWorkers state nodes entry old full → AreWorkers state nodes entry groups workers
   keeps old groups full workers n both spent count entry now = record {
     same_length = spent.same_length ∙ now.same_length;
     used = λ place w h s.
@@ -224,25 +232,25 @@ module _ {X : Type 0} (state : X → StoreState) where
     unused = λ place h. spent.unused place h ∙ now.unused place h;
   }
 
-  pub done_at : (c : Contents) (table column : ℕ) (kind : Kind) (target : Target) (shape : Shape) (info : TableInfo) (old groups : List (GroupState X)) (full workers : List (Worker X)) → IsWhole c → AreGroups state c old → slice_get c.tables table ≡ Some info →
-      info.place ≡ Local → CanOpen c target → shape ≡ shape_in c table → IsOpen state (opened_at c table target) shape old full groups workers → IsDone c (distributed_at c table column kind target) old groups full workers
+  pub done_at : (c : Contents) (table column : ℕ) (kind : Kind) (target : Target) (shape : Shape) (info : TableInfo) (old groups : List (GroupState X)) (full workers : List (Worker X)) → IsWhole c → AreGroups state nodes c old → slice_get c.tables table ≡ Some info →
+      info.place ≡ Local → CanOpen c target → shape ≡ shape_in c table → IsOpen state nodes (opened_at c table target) shape old full groups workers → IsDone c (distributed_at c table column kind target) old groups full workers
   done_at c table column kind (Joins colocation) shape info old groups full workers whole all there local can is done =
       let a = done.added in
       let same : done.begun ≡ old = done.begins in
       let co = got c.colocations colocation can in
       let o = opened_at c table (Joins colocation) in
-      let gone = subst (λ (gs : List (GroupState X)). AreGone state (more_at o.first_group (shard_outline (shards_of o) shape) o.count) gs groups) same a.gone in
+      let gone = subst (λ (gs : List (GroupState X)). AreGone state (more_at o.first_group (shard_outline (shards_of nodes o) shape) o.count) gs groups) same a.gone in
       let first : o.first_group ≡ co.0.first_group = ap first_group_in co.1 in
       let count : o.count ≡ co.0.count = ap count_in co.1 in
       let exact : AreGone state (more_at co.0.first_group (λ j. (table, shape_in c table, c.next_shard + j, 1)) co.0.count) old groups =
       subst (λ (s : Shape). AreGone state (more_at co.0.first_group (λ j. (table, s, c.next_shard + j, 1)) co.0.count) old groups) is
       (subst (λ n. AreGone state (more_at co.0.first_group (λ j. (table, shape, c.next_shard + j, 1)) n) old groups) count
       (subst (λ n. AreGone state (more_at n (λ j. (table, shape, c.next_shard + j, 1)) o.count) old groups) first gone)) in
-      let number : (place : ℕ) → place < nodes → held place groups ≡ held place old + shards_on o.count place = λ place h. a.held place h ∙ ap (λ (gs : List (GroupState X)). held place gs + shards_on o.count place) same in
+      let number : (place : ℕ) → place < nodes → held place groups ≡ held place old + shards_on nodes o.count place = λ place h. a.held place h ∙ ap (λ (gs : List (GroupState X)). held place gs + shards_on nodes o.count place) same in
       record {
-        after = groups_spread state c table column colocation (count_in (slice_get c.colocations colocation)) co.0 info old groups whole there local co.1 exact (λ place h. number place h ∙ ap (λ n. held place old + shards_on n place) count) all;
+        after = groups_spread state nodes c table column colocation (count_in (slice_get c.colocations colocation)) co.0 info old groups whole there local co.1 exact (λ place h. number place h ∙ ap (λ n. held place old + shards_on nodes n place) count) all;
         grows = λ who. same_grows who (journals_of old) (journals_of groups) (gone_journals state _ old groups gone);
-        stores = keeps old groups full workers o.count a.both a.spent number;
+        stores = keeps old groups full workers o.count a.enough a.spent number;
         same_length = a.spent.same_length;
       }
     where
@@ -256,44 +264,47 @@ module _ {X : Type 0} (state : X → StoreState) where
       let opened = done.begins.0 in
       let next = with_colocation c kind count joinable in
       let co : Colocation = record { kind = kind; count = count; first_group = c.groups; joinable = joinable; ends = ends count } in
-      let begun_groups : AreGroups state next done.begun = subst (AreGroups state next) (sym done.begins.1) (groups_opened state c kind count joinable old opened whole all done.begins.2 done.begins.3) in
+      let begun_groups : AreGroups state nodes next done.begun = subst (AreGroups state nodes next) (sym done.begins.1) (groups_opened state nodes c kind count joinable old opened whole all done.begins.2 done.begins.3) in
       let exact : AreGone state (more_at c.groups (λ j. (table, shape_in next table, c.next_shard + j, 1)) count) done.begun groups =
       subst (λ (s : Shape). AreGone state (more_at c.groups (λ j. (table, s, c.next_shard + j, 1)) count) done.begun groups) is a.gone in
-      let empty : (place : ℕ) → held place done.begun ≡ held place old = λ place. ap (held place) done.begins.1 ∙ held_empty state place c.groups old opened done.begins.3 in
+      let empty : (place : ℕ) → held place done.begun ≡ held place old = λ place. ap (held place) done.begins.1 ∙ held_empty state nodes place c.groups old opened done.begins.3 in
       record {
-        after = groups_spread state next table column (length c.colocations) count co info done.begun groups (whole_opened c kind count joinable whole can) there local (last_there c.colocations co) exact a.held begun_groups;
-        grows = λ who. opened_grow state who c.groups old opened (journals_of groups) done.begins.3 (sym all.count)
+        after = groups_spread state nodes next table column (length c.colocations) count co info done.begun groups (whole_opened c kind count joinable whole can) there local (last_there c.colocations co) exact a.held begun_groups;
+        grows = λ who. opened_grow state nodes who c.groups old opened (journals_of groups) done.begins.3 (sym all.count)
             (gone_journals state _ done.begun groups a.gone ∙ ap (λ (gs : List (GroupState X)). journals_of gs) done.begins.1 ∙ map-append (λ (g : GroupState X). journal_of g) old opened);
-        stores = keeps old groups full workers count a.both a.spent (λ place h. a.held place h ∙ ap (λ n. n + shards_on count place) (empty place));
+        stores = keeps old groups full workers count a.enough a.spent (λ place h. a.held place h ∙ ap (λ n. n + shards_on nodes count place) (empty place));
         same_length = a.spent.same_length;
       }
 
   -- ---- nothing happened
 
-  pub undone_stores : (old groups : List (GroupState X)) (full workers : List (Worker X)) → nodes ≤ length full → IsUndone state old full groups workers → (entry : List (Worker X)) → AreWorkers state entry old full → AreWorkers state entry groups workers
+  pub undone_stores : (old groups : List (GroupState X)) (full workers : List (Worker X)) → nodes ≤ length full → IsUndone state nodes old full groups workers → (entry : List (Worker X)) → AreWorkers state nodes entry old full → AreWorkers state nodes entry groups workers
   undone_stores old groups full workers both undone =
-      keeps old groups full workers 0 both undone.spent (λ place h. let same = held_gone state place old groups undone.gone in omega (arith, same, h))
+      keeps old groups full workers 0 both undone.spent (λ place h. let same = held_gone state place old groups undone.gone in let none = none_on nodes some place h in omega (arith, same, none))
 
   -- ---- room
 
-  short_same : (c : Contents) (entry : List (Worker X)) (groups : List (GroupState X)) (workers : List (Worker X)) (count place : ℕ) → place < nodes → nodes ≤ length workers → AreGroups state c groups → AreWorkers state entry groups workers →
-      short_of count place (stores_in (slice_get workers place)) ≡ short_at c (whole_at entry) count place
-  short_same c entry groups workers count place h both all now =
-      let w = got workers place (omega (arith, h, both)) in
+  short_same : (c : Contents) (entry : List (Worker X)) (groups : List (GroupState X)) (workers : List (Worker X)) (count place : ℕ) → place < nodes → nodes ≤ length workers → AreGroups state nodes c groups → AreWorkers state nodes entry groups workers →
+      short_of nodes count place (stores_in (slice_get workers place)) ≡ history.short_at (run_of nodes entry) c (history.shards_on (run_of nodes entry) count) place
+  short_same c entry groups workers count place h enough all now =
+      let w = item_at workers place (omega (arith, h, enough)) in
       let at = now.used place w.0 h w.1 in
-      let free : stores_in (slice_get workers place) ≡ whole_at entry place - taken c place = ap stores_in w.1 ∙ (let t = at.total in let e = all.held place h in omega (arith, t, e)) in
-      ap (short_of count place) free
-    where
-      got : {A : Type 0} (xs : List A) (n : ℕ) → n < length xs → (x : A) × (slice_get xs n ≡ Some x)
-      got [] n h = absurd (omega (arith, h))
-      got (x ∷ xs) zero h = (x, refl)
-      got (x ∷ xs) (suc n) h = got xs n (omega (arith, h))
+      let all_taken : history.taken_in (run_of nodes entry) c.colocations place c.tables ≡ taken nodes c place = same_taken (run_of nodes entry) c.colocations place c.tables in
+      let free : stores_in (slice_get workers place) ≡ whole_at entry place - history.taken_in (run_of nodes entry) c.colocations place c.tables =
+      ap stores_in w.1 ∙ (let t = at.total in let e = all.held place h in omega (arith, t, e, all_taken)) in
+      ap (short_of nodes count place) free
 
-  pub room_same : (c : Contents) (entry : List (Worker X)) (groups : List (GroupState X)) (workers : List (Worker X)) (count : ℕ) → nodes ≤ length workers → AreGroups state c groups → AreWorkers state entry groups workers →
-      shortage count workers ≡ room_fault c (whole_at entry) count
-  room_same c entry groups workers count both all now =
-      ap (λ (o : Option Fault). first_of (o ∷ short_of count 1 (stores_in (slice_get workers 1)) ∷ [])) (short_same c entry groups workers count 0 (omega arith) both all now)
-      ∙ ap (λ (o : Option Fault). first_of (short_at c (whole_at entry) count 0 ∷ o ∷ [])) (short_same c entry groups workers count 1 (omega arith) both all now)
+  same_from : (c : Contents) (entry : List (Worker X)) (groups : List (GroupState X)) (workers : List (Worker X)) (count place more : ℕ) → place + more ≤ nodes → nodes ≤ length workers → AreGroups state nodes c groups →
+      AreWorkers state nodes entry groups workers → shortage_from nodes count workers place more ≡ history.room_from (run_of nodes entry) c (history.shards_on (run_of nodes entry) count) place more
+  same_from c entry groups workers count place zero h enough all now = refl
+  same_from c entry groups workers count place (suc more) h enough all now =
+      let run = run_of nodes entry in
+      ap (λ (o : Option Fault). first_of (o ∷ shortage_from nodes count workers (place + 1) more ∷ [])) (short_same c entry groups workers count place (omega (arith, h)) enough all now)
+      ∙ ap (λ (o : Option Fault). first_of (history.short_at run c (history.shards_on run count) place ∷ o ∷ [])) (same_from c entry groups workers count (place + 1) more (omega (arith, h)) enough all now)
+
+  pub room_same : (c : Contents) (entry : List (Worker X)) (groups : List (GroupState X)) (workers : List (Worker X)) (count : ℕ) → nodes ≤ length workers → AreGroups state nodes c groups → AreWorkers state nodes entry groups workers →
+      shortage nodes count workers ≡ history.room_fault (run_of nodes entry) c (history.shards_on (run_of nodes entry) count)
+  room_same c entry groups workers count enough all now = same_from c entry groups workers count 0 nodes (omega arith) enough all now
 
   -- ---- undone
 
@@ -328,13 +339,13 @@ module _ {X : Type 0} (state : X → StoreState) where
             (was.0, sym (before_more old has.0 h (omega (arith, t.1, kept))) ∙ sym (ap (λ (v : List (GroupState X)). slice_get v h) has.1) ∙ was.1, was.2);
       }
 
-  pub undone_of : (o : Opened) (shape : Shape) (old begun groups : List (GroupState X)) (full workers : List (Worker X)) → IsBegun state o old begun → Adding state (shards_of o) shape begun full 0 groups workers →
-      IsUndone state old full (forgotten o groups) workers
+  pub undone_of : (o : Opened) (shape : Shape) (old begun groups : List (GroupState X)) (full workers : List (Worker X)) → IsBegun state nodes o old begun → Adding state (shards_of nodes o) shape begun full 0 groups workers →
+      IsUndone state nodes old full (forgotten o groups) workers
   undone_of o shape old begun groups full workers has a = record {
-    gone = forgets o.fresh o.count old begun groups (gone_none o.first_group (shard_outline (shards_of o) shape) begun groups a.gone) (weaker o.fresh has);
+    gone = forgets o.fresh o.count old begun groups (gone_none o.first_group (shard_outline (shards_of nodes o) shape) begun groups a.gone) (weaker o.fresh has);
     spent = a.spent;
   }
     where
-      weaker : (b : Bool) → Either b (HasOpened state o old begun) (begun ≡ old) → Either b ((opened : List (GroupState X)) × (begun ≡ old ++ opened) × (length opened ≡ o.count)) (begun ≡ old)
+      weaker : (b : Bool) → Either b (HasOpened state nodes o old begun) (begun ≡ old) → Either b ((opened : List (GroupState X)) × (begun ≡ old ++ opened) × (length opened ≡ o.count)) (begun ≡ old)
       weaker true h = (h.0, h.1, h.2)
       weaker false h = h

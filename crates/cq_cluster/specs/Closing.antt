@@ -1,10 +1,9 @@
 -- How workers change as groups are closed and hand their stores back.
-use Rattle.std.specs.Prelude.{◌≡◌, ◌+◌, ◌<◌, ◌≤◌, ℕ, List, [], ◌∷◌, ◌++◌, length, nat_eq, if◌then◌else◌, Some, slice_get}
+use Rattle.std.specs.Prelude.{◌≡◌, ◌≢◌, ◌+◌, ◌-◌, ◌<◌, ◌≤◌, ℕ, List, [], ◌∷◌, ◌++◌, length, nat_eq, if◌then◌else◌, Some, slice_get}
 use Rattle.std.specs.List.{AllByRecursion}
 use Rattle.cq_store.specs.Stores.{StoreState}
 use Rattle.cq_store.specs.Workers.{room}
 use Rattle.cq_store.specs.declared.worker.Worker.{Worker}
-use Rattle.cq_cluster.specs.Room.{nodes}
 use Rattle.cq_group.specs.declared.group.GroupState.{GroupState}
 use Rattle.cq_group.specs.Groups.{IsKept, stores_of}
 use Rattle.cq_cluster.specs.Cluster.{held}
@@ -14,24 +13,27 @@ abbrev pub stores_on : {X : Type 0} → ℕ → List (GroupState X) → List X
 stores_on place [] = []
 stores_on place (g ∷ gs) = (if nat_eq g.node (place + 1) then stores_of g else []) ++ stores_on place gs
 
--- a group that can be closed: it is on a node that a run uses
+-- a group that can be closed: it is on one node
 pub record IsUsed {X : Type 0} (state : X → StoreState) (g : GroupState X) : Type 0 where
   pub kept : IsKept state g
   pub some_node : 0 < g.node
-  pub few_nodes : g.node ≤ nodes
 
 abbrev pub AreUsed : {X : Type 0} → (X → StoreState) → List (GroupState X) → Type 0
 AreUsed state groups = AllByRecursion (IsUsed state) groups
 
--- a worker that stands at this place has room for the stores of the groups on its node
-pub record HasRoom {X : Type 0} (groups : List (GroupState X)) (place : ℕ) (w : Worker X) : Type 0 where
-  pub node : w.node ≡ place + 1
-  pub room : held place groups ≤ room w.stores
+-- the worker of a group's node is there, with room for the stores of all groups on it
+pub record HasRoom {X : Type 0} (groups : List (GroupState X)) (workers : List (Worker X)) (g : GroupState X) : Type 0 where
+  pub worker : Worker X
+  pub there : slice_get workers (g.node - 1) ≡ Some worker
+  pub node : worker.node ≡ g.node
+  pub room : held (g.node - 1) groups ≤ room worker.stores
 
--- the workers that a run uses are there, with room for the stores of the groups
-pub record HaveRoom {X : Type 0} (groups : List (GroupState X)) (workers : List (Worker X)) : Type 0 where
-  pub both : nodes ≤ length workers
-  pub used : (place : ℕ) (w : Worker X) → place < nodes → slice_get workers place ≡ Some w → HasRoom groups place w
+abbrev pub HaveRoom : {X : Type 0} → List (GroupState X) → List (Worker X) → Type 0
+HaveRoom groups workers = AllByRecursion (HasRoom groups workers) groups
+
+-- no group is on the node at this place
+abbrev pub AreElsewhere : {X : Type 0} → ℕ → List (GroupState X) → Type 0
+AreElsewhere {X} place groups = AllByRecursion (λ (g : GroupState X). g.node ≢ place + 1) groups
 
 -- a worker after the groups were closed: the stores of those on its node stand last, as they were in the groups
 pub record HasBack {X : Type 0} (groups : List (GroupState X)) (place : ℕ) (old new : Worker X) : Type 0 where
@@ -42,5 +44,5 @@ pub record HasBack {X : Type 0} (groups : List (GroupState X)) (place : ℕ) (ol
 -- the workers after the groups were closed
 pub record HaveBack {X : Type 0} (groups : List (GroupState X)) (old new : List (Worker X)) : Type 0 where
   pub same_length : length new ≡ length old
-  pub used : (place : ℕ) (v w : Worker X) → place < nodes → slice_get old place ≡ Some v → slice_get new place ≡ Some w → HasBack groups place v w
-  pub unused : (place : ℕ) → nodes ≤ place → slice_get new place ≡ slice_get old place
+  pub used : (place : ℕ) (v w : Worker X) → slice_get old place ≡ Some v → slice_get new place ≡ Some w → HasBack groups place v w
+  pub unused : (place : ℕ) → AreElsewhere place groups → slice_get new place ≡ slice_get old place

@@ -1,4 +1,4 @@
--- The shard groups of the catalogue over the two workers of a run, and what the workers' lists still hold.
+-- The shard groups of the catalogue over the workers that a run uses, and what the workers' lists still hold.
 use Rattle.std.specs.Prelude.{◌≡◌, ◌+◌, ◌%◌, ◌<◌, ◌≤◌, ℕ, IsTrue, Bool, true, false, List, [], ◌∷◌, length, All, Option, Some, None, slice_get, nat_eq, if◌then◌else◌}
 use Rattle.std.specs.List.{AllByRecursion}
 use Rattle.cq_catalog.specs.Contents.{Contents}
@@ -9,7 +9,7 @@ use Rattle.cq_catalog.specs.declared.info.Place.TheVariants.{Distributed}
 use Rattle.cq_planning.specs.Database.{shape_in}
 use Rattle.cq_journal.specs.Records.{Journal}
 use Rattle.cq_history.specs.Run.{Run, first_settings}
-use Rattle.cq_cluster.specs.Room.{nodes, taken}
+use Rattle.cq_cluster.specs.Room.{taken}
 use Rattle.cq_store.specs.Stores.{StoreState, IsSpare}
 use Rattle.cq_store.specs.Workers.{room}
 use Rattle.cq_store.specs.declared.worker.Worker.{Worker}
@@ -26,8 +26,8 @@ Either false A B = B
 -- ---- shard groups
 
 -- the node on which the i-th shard group of a co-location group is opened (Citus, `create_distributed_table`: the workers take turns)
-abbrev pub node_of : ℕ → ℕ
-node_of i = i % nodes + 1
+abbrev pub node_of : ℕ → ℕ → ℕ
+node_of nodes i = i % nodes + 1
 
 -- a table's shard in the i-th shard group of a co-location group: its number, shape and shard id, and one store
 abbrev pub shard_of : Contents → ℕ → ℕ → ℕ → Outline
@@ -40,13 +40,13 @@ IsShardOf c colocation i o =
 
 -- the i-th shard group of a co-location group, between two statements: it keeps its journal and the stores of its tables, which are those of
 -- the co-location group; nothing is staged, and the stores are steady
-pub record IsGroupOf {X : Type 0} (state : X → StoreState) (c : Contents) (colocation : ℕ) (co : Colocation) (i : ℕ) (g : GroupState X) : Type 0 where
+pub record IsGroupOf {X : Type 0} (state : X → StoreState) (nodes : ℕ) (c : Contents) (colocation : ℕ) (co : Colocation) (i : ℕ) (g : GroupState X) : Type 0 where
   pub kept : IsKept state g
   pub quiet : IsQuiet state g
   pub steady : IsSteady state g
   pub number : g.journal.group ≡ co.first_group + i
-  pub opening : g.journal.opening ≡ node_of i
-  pub node : g.node ≡ node_of i
+  pub opening : g.journal.opening ≡ node_of nodes i
+  pub node : g.node ≡ node_of nodes i
   pub shards : AllByRecursion (IsShardOf c colocation i) (outlines g)
   pub complete : (table at first_shard : ℕ) → place_at c table ≡ Distributed at colocation first_shard → HasTable g table
 
@@ -70,13 +70,13 @@ held place [] = 0
 held place (g ∷ gs) = (if nat_eq g.node (place + 1) then length (stores_of g) else 0) + held place gs
 
 -- the groups are those of the catalogue
-pub record AreGroups {X : Type 0} (state : X → StoreState) (c : Contents) (groups : List (GroupState X)) : Type 0 where
+pub record AreGroups {X : Type 0} (state : X → StoreState) (nodes : ℕ) (c : Contents) (groups : List (GroupState X)) : Type 0 where
   pub count : length groups ≡ c.groups
   pub each : (colocation i : ℕ) (co : Colocation) (g : GroupState X) → slice_get c.colocations colocation ≡ Some co → i < co.count →
-      slice_get groups (co.first_group + i) ≡ Some g → IsGroupOf state c colocation co i g
+      slice_get groups (co.first_group + i) ≡ Some g → IsGroupOf state nodes c colocation co i g
   pub covered : (group : ℕ) → group < c.groups → IsCovered c group
   pub apart : AreApart c
-  pub held : (place : ℕ) → place < nodes → held place groups ≡ taken c place
+  pub held : (place : ℕ) → place < nodes → held place groups ≡ taken nodes c place
 
 -- ---- workers
 
@@ -101,8 +101,8 @@ stores_in (Some w) = length w.stores.items
 abbrev pub whole_at : {X : Type 0} → List (Worker X) → ℕ → ℕ
 whole_at entry place = stores_in (slice_get entry place)
 
--- the workers, as they were handed in and as they are while the groups have their stores: only the first two change
-pub record AreWorkers {X : Type 0} (state : X → StoreState) (entry : List (Worker X)) (groups : List (GroupState X)) (workers : List (Worker X)) : Type 0 where
+-- the workers, as they were handed in and as they are while the groups have their stores: only those that the run uses change
+pub record AreWorkers {X : Type 0} (state : X → StoreState) (nodes : ℕ) (entry : List (Worker X)) (groups : List (GroupState X)) (workers : List (Worker X)) : Type 0 where
   pub same_length : length workers ≡ length entry
   pub used : (place : ℕ) (w : Worker X) → place < nodes → slice_get workers place ≡ Some w → IsWorkerAt state (whole_at entry place) (held place groups) place w
   pub unused : (place : ℕ) → nodes ≤ place → slice_get workers place ≡ slice_get entry place
@@ -117,22 +117,29 @@ AreIdle {X} state workers = (place : ℕ) (w : Worker X) → slice_get workers p
 
 -- ---- the whole
 
+-- a run uses at most so many workers
+abbrev pub most_nodes : ℕ
+most_nodes = 16
+
 -- the groups' journals, in order of group
 abbrev pub journals : {X : Type 0} → Cluster X → List Journal
 journals cl = journals_of cl.groups.items
 
--- what a run was given, by the workers that were handed in
-abbrev pub run_of : {X : Type 0} → List (Worker X) → Run
-run_of entry = record { workers = nodes; stores = whole_at entry; settings = first_settings; phase = λ n. n }
+-- what a run was given, by how many workers it uses, and the workers that were handed in
+abbrev pub run_of : {X : Type 0} → ℕ → List (Worker X) → Run
+run_of nodes entry = record { workers = nodes; stores = whole_at entry; settings = first_settings; phase = λ n. n }
 
 -- what a cluster keeps between two statements: its groups are those of the catalogue, and the workers have the other stores
 pub record IsSound {X : Type 0} (state : X → StoreState) (cl : Cluster X) : Type 0 where
-  pub groups : AreGroups state cl.catalog cl.groups.items
+  pub groups : AreGroups state cl.nodes cl.catalog cl.groups.items
   pub whole : IsWhole cl.catalog
   pub ids : 0 < cl.catalog.next_shard
-  pub both : nodes ≤ length cl.workers.items
-  pub workers : (entry : List (Worker X)) × AreWorkers state entry cl.groups.items cl.workers.items
+  pub some : 0 < cl.nodes
+  pub few : cl.nodes ≤ most_nodes
+  pub enough : cl.nodes ≤ length cl.workers.items
+  pub workers : (entry : List (Worker X)) × AreWorkers state cl.nodes entry cl.groups.items cl.workers.items
 
--- the stores that the groups haven't are in the workers' lists, as they were handed in
-abbrev pub KeepsStores : {X : Type 0} → (X → StoreState) → Cluster X → Cluster X → Type 0
-KeepsStores {X} state old new = (entry : List (Worker X)) → AreWorkers state entry old.groups.items old.workers.items → AreWorkers state entry new.groups.items new.workers.items
+-- the run uses as many workers, and the stores that the groups haven't are in their lists, as they were handed in
+pub record KeepsStores {X : Type 0} (state : X → StoreState) (old new : Cluster X) : Type 0 where
+  pub nodes : new.nodes ≡ old.nodes
+  pub stores : (entry : List (Worker X)) → AreWorkers state old.nodes entry old.groups.items old.workers.items → AreWorkers state new.nodes entry new.groups.items new.workers.items

@@ -11,21 +11,20 @@ use Rattle.cq_journal.specs.Journals.{replay}
 use Rattle.cq_journal.specs.declared.journal.Journal.{Journal}
 use Rattle.cq_journal.specs.Records as records
 use Rattle.cq_planning.specs.Database.{shape_in}
-use Rattle.cq_cluster.specs.Room.{nodes}
 use Rattle.cq_store.specs.Stores.{StoreState, IsSpare}
 use Rattle.cq_store.specs.declared.worker.Worker.{Worker}
-use Rattle.cq_cluster.specs.Cluster.{Either, node_of, whole_at}
+use Rattle.cq_cluster.specs.Cluster.{Either, whole_at}
 
 -- a journal, as answers are judged by it: its group held nothing as its entries began
 abbrev pub record_of : Journal → records.Journal
 record_of j = record { number = j.group; opening = j.opening; base = λ table. empty_table; entries = j.entries.list }
 
--- the store of a table's shard in the i-th shard group of its co-location group: on the group's node, with the shard's id, and it holds what the group's entries leave, ids and all
-pub record IsShard (c : Contents) (colocation i : ℕ) (es : List Entry) (table : ℕ) (s : StoreState) : Type 0 where
+-- the store of a table's shard in the i-th shard group of its co-location group: on this node, with the shard's id, and it holds what the group's entries leave, ids and all
+pub record IsShard (c : Contents) (colocation i node : ℕ) (es : List Entry) (table : ℕ) (s : StoreState) : Type 0 where
   pub at : ℕ
   pub first_shard : ℕ
   pub placed : place_at c table ≡ Distributed at colocation first_shard
-  pub of_node : s.node ≡ node_of i
+  pub of_node : s.node ≡ node
   pub of_shard : s.shard ≡ first_shard + i
   pub holds : s.rows ≡ replay table (shape_in c table) es
   pub nothing : s.staged ≡ []
@@ -47,7 +46,7 @@ pub record AreOfGroup (c : Contents) (j : Journal) (stores : List StoreState) : 
   pub within : i < co.count
   pub is : j.group ≡ co.first_group + i
   pub tables : List ℕ
-  pub each : AllZip (IsShard c colocation i j.entries.list) tables stores
+  pub each : AllZip (IsShard c colocation i j.opening j.entries.list) tables stores
   pub complete : (table at first_shard : ℕ) → place_at c table ≡ Distributed at colocation first_shard → IsIn table tables
   pub once : AreDistinct tables
 
@@ -67,7 +66,7 @@ pub record IsWorkerFinal {X : Type 0} (state : X → StoreState) (c : Contents) 
   pub stores : (spare kept : List X) × (w.stores.items ≡ spare ++ kept) × AllByRecursion (λ x. IsSpare (state x)) spare × AreOnNode c (place + 1) journals (map state kept)
 
 -- the workers at the end of a run: nothing is lost, each shard's rows stand once, on its node, and every other store is spare
-pub record IsFinal {X : Type 0} (state : X → StoreState) (entry : List (Worker X)) (c : Contents) (journals : List Journal) (workers : List (Worker X)) : Type 0 where
+pub record IsFinal {X : Type 0} (state : X → StoreState) (nodes : ℕ) (entry : List (Worker X)) (c : Contents) (journals : List Journal) (workers : List (Worker X)) : Type 0 where
   pub same_length : length workers ≡ length entry
   pub used : (place : ℕ) (w : Worker X) → place < nodes → slice_get workers place ≡ Some w → IsWorkerFinal state c journals (whole_at entry place) place w
   pub unused : (place : ℕ) → nodes ≤ place → slice_get workers place ≡ slice_get entry place

@@ -1,11 +1,11 @@
 -- How groups and workers change as a table's shards are added one by one, and taken out again.
-use Rattle.std.specs.Prelude.{◌≡◌, ◌+◌, ◌-◌, ◌<◌, ◌≤◌, ℕ, IsTrue, true, ◌&&◌, List, [], ◌∷◌, ◌++◌, length, take, All, Option, None, Some, slice_get, nat_le, nat_lt, if◌then◌else◌}
+use Rattle.std.specs.Prelude.{◌≡◌, ◌+◌, ◌-◌, ◌<◌, ◌≤◌, ℕ, zero, suc, IsTrue, true, ◌&&◌, List, [], ◌∷◌, ◌++◌, length, take, All, Option, None, Some, slice_get, nat_le, nat_lt, if◌then◌else◌}
 use Rattle.std.specs.List.{AllByRecursion}
 use Rattle.cq_store.specs.Stores.{StoreState}
 use Rattle.cq_store.specs.Workers.{room}
 use Rattle.cq_store.specs.declared.worker.Worker.{Worker}
 use Rattle.cq_planning.specs.Database.{shape_in}
-use Rattle.cq_cluster.specs.Room.{nodes, shards_on}
+use Rattle.cq_cluster.specs.Room.{shards_on}
 use Rattle.cq_group.specs.declared.group.GroupState.{GroupState}
 use Rattle.cq_group.specs.Groups.{IsKept, IsQuiet, IsSteady, Outline, outlines, entries_of, stores_of, shape_at}
 use Rattle.cq_value.specs.declared.schema.Shape.{Shape}
@@ -21,7 +21,7 @@ use Rattle.cq_catalog.specs.Contents.{Contents}
 use Rattle.cq_catalog.specs.Distribution.{decision_of, distribution_refusal, opened_by}
 use Rattle.cq_catalog.specs.Refusals.{first_of}
 use Rattle.cq_catalog.specs.declared.info.Opened.{Opened}
-use Rattle.cq_cluster.specs.Cluster.{Either, IsWaiting, node_of, held, stores_in}
+use Rattle.cq_cluster.specs.Cluster.{Either, IsWaiting, node_of, held, stores_in, most_nodes}
 
 -- a store on this node that never fails, in use or not
 pub record IsSteadyOn (node : ℕ) (s : StoreState) : Type 0 where
@@ -80,33 +80,33 @@ abbrev pub nothing_more : ℕ → List Outline
 nothing_more h = []
 
 -- the workers while so many shards more have a store out of their lists
-pub record AreSpent {X : Type 0} (state : X → StoreState) (n : ℕ) (old new : List (Worker X)) : Type 0 where
+pub record AreSpent {X : Type 0} (state : X → StoreState) (nodes n : ℕ) (old new : List (Worker X)) : Type 0 where
   pub same_length : length new ≡ length old
-  pub used : (place : ℕ) (v w : Worker X) → place < nodes → slice_get old place ≡ Some v → slice_get new place ≡ Some w → Lacks (shards_on n place) v w × AllWait state w
+  pub used : (place : ℕ) (v w : Worker X) → place < nodes → slice_get old place ≡ Some v → slice_get new place ≡ Some w → Lacks (shards_on nodes n place) v w × AllWait state w
   pub unused : (place : ℕ) → nodes ≤ place → slice_get new place ≡ slice_get old place
 
 -- the groups that so many shards of a new table are added to: on their nodes, and without the table
-abbrev pub AreReady : {X : Type 0} → ℕ → ℕ → ℕ → List (GroupState X) → Type 0
-AreReady {X} table first n groups = (h : ℕ) (g : GroupState X) → first ≤ h → h < first + n → slice_get groups h ≡ Some g →
-    (shape_at (outlines g) table ≡ None) × (g.node ≡ node_of (h - first))
+abbrev pub AreReady : {X : Type 0} → ℕ → ℕ → ℕ → ℕ → List (GroupState X) → Type 0
+AreReady {X} nodes table first n groups = (h : ℕ) (g : GroupState X) → first ≤ h → h < first + n → slice_get groups h ≡ Some g →
+    (shape_at (outlines g) table ≡ None) × (g.node ≡ node_of nodes (h - first))
 
 -- the workers have a store for each of so many shards
-abbrev pub HaveStores : {X : Type 0} → (X → StoreState) → ℕ → List (Worker X) → Type 0
-HaveStores {X} state n workers = (place : ℕ) (w : Worker X) → place < nodes → slice_get workers place ≡ Some w →
-    (w.node ≡ place + 1) × AllWait state w × (shards_on n place ≤ length w.stores.items)
+abbrev pub HaveStores : {X : Type 0} → (X → StoreState) → ℕ → ℕ → List (Worker X) → Type 0
+HaveStores {X} state nodes n workers = (place : ℕ) (w : Worker X) → place < nodes → slice_get workers place ≡ Some w →
+    (w.node ≡ place + 1) × AllWait state w × (shards_on nodes n place ≤ length w.stores.items)
 
 -- groups that were just opened, from this number on: without tables, and with empty journals
-pub record IsOpened {X : Type 0} (state : X → StoreState) (first i : ℕ) (g : GroupState X) : Type 0 where
+pub record IsOpened {X : Type 0} (state : X → StoreState) (nodes first i : ℕ) (g : GroupState X) : Type 0 where
   pub kept : IsKept state g
   pub quiet : IsQuiet state g
   pub number : g.journal.group ≡ first + i
-  pub opening : g.journal.opening ≡ node_of i
-  pub node : g.node ≡ node_of i
+  pub opening : g.journal.opening ≡ node_of nodes i
+  pub node : g.node ≡ node_of nodes i
   pub tables : g.tables.items ≡ []
   pub entries : entries_of g ≡ []
 
-abbrev pub AreOpened : {X : Type 0} → (X → StoreState) → ℕ → List (GroupState X) → Type 0
-AreOpened {X} state first groups = (i : ℕ) (g : GroupState X) → slice_get groups i ≡ Some g → IsOpened state first i g
+abbrev pub AreOpened : {X : Type 0} → (X → StoreState) → ℕ → ℕ → List (GroupState X) → Type 0
+AreOpened {X} state nodes first groups = (i : ℕ) (g : GroupState X) → slice_get groups i ≡ Some g → IsOpened state nodes first i g
 
 -- no entry is a write of the table
 abbrev pub IsUnwritten : ℕ → List Entry → Type 0
@@ -123,64 +123,72 @@ pub record Adding {X : Type 0} (state : X → StoreState) (shards : Shards) (sha
   pub numbers : shards.first_group + shards.count ≤ 512
   pub some_shard : 0 < shards.first_shard
   pub ids : shards.first_shard + shards.count < 18446744073709551616
-  pub both : nodes ≤ length full
-  pub ready : AreReady shards.table shards.first_group shards.count old
-  pub stores : HaveStores state shards.count full
+  pub some : 0 < shards.nodes
+  pub enough : shards.nodes ≤ length full
+  pub ready : AreReady shards.nodes shards.table shards.first_group shards.count old
+  pub stores : HaveStores state shards.nodes shards.count full
   pub gone : AreGone state (more_at shards.first_group (shard_outline shards shape) n) old groups
-  pub held : (place : ℕ) → place < nodes → held place groups ≡ held place old + shards_on n place
+  pub held : (place : ℕ) → place < shards.nodes → held place groups ≡ held place old + shards_on shards.nodes n place
   pub unwritten : AllByRecursion (λ (g : GroupState X). IsUnwritten shards.table (entries_of g)) groups
-  pub spent : AreSpent state n full workers
+  pub spent : AreSpent state shards.nodes n full workers
 
 -- ---- room
 
 -- the worker at a place has fewer stores than so many shards need there
-abbrev pub short_of : ℕ → ℕ → ℕ → Option Fault
-short_of count place free = if nat_lt free (shards_on count place) then Some (fault.NoRoom (place + 1) free (shards_on count place)) else None
+abbrev pub short_of : ℕ → ℕ → ℕ → ℕ → Option Fault
+short_of nodes count place free = if nat_lt free (shards_on nodes count place) then Some (fault.NoRoom (place + 1) free (shards_on nodes count place)) else None
 
 -- the lowest node with too few stores
-abbrev pub shortage : {X : Type 0} → ℕ → List (Worker X) → Option Fault
-shortage count workers = first_of (short_of count 0 (stores_in (slice_get workers 0)) ∷ short_of count 1 (stores_in (slice_get workers 1)) ∷ [])
+abbrev pub shortage_from : {X : Type 0} → ℕ → ℕ → List (Worker X) → ℕ → ℕ → Option Fault
+shortage_from nodes count workers place zero = None
+shortage_from nodes count workers place (suc more) =
+    first_of (short_of nodes count place (stores_in (slice_get workers place)) ∷ shortage_from nodes count workers (place + 1) more ∷ [])
+
+abbrev pub shortage : {X : Type 0} → ℕ → ℕ → List (Worker X) → Option Fault
+shortage nodes count workers = shortage_from nodes count workers 0 nodes
 
 -- ---- a whole distribution
 
-abbrev pub shards_of : Opened → Shards
-shards_of o = record { table = o.table; first_group = o.first_group; count = o.count; first_shard = o.first_shard }
+abbrev pub shards_of : ℕ → Opened → Shards
+shards_of nodes o = record { table = o.table; first_group = o.first_group; count = o.count; first_shard = o.first_shard; nodes = nodes }
 
 -- the groups after those of a new co-location group are opened, or as they were
-abbrev pub HasOpened : {X : Type 0} → (X → StoreState) → Opened → List (GroupState X) → List (GroupState X) → Type 0
-HasOpened {X} state o old new = (opened : List (GroupState X)) × (new ≡ old ++ opened) × (length opened ≡ o.count) × AreOpened state o.first_group opened
+abbrev pub HasOpened : {X : Type 0} → (X → StoreState) → ℕ → Opened → List (GroupState X) → List (GroupState X) → Type 0
+HasOpened {X} state nodes o old new = (opened : List (GroupState X)) × (new ≡ old ++ opened) × (length opened ≡ o.count) × AreOpened state nodes o.first_group opened
 
-abbrev pub IsBegun : {X : Type 0} → (X → StoreState) → Opened → List (GroupState X) → List (GroupState X) → Type 0
-IsBegun state o old new = Either o.fresh (HasOpened state o old new) (new ≡ old)
+abbrev pub IsBegun : {X : Type 0} → (X → StoreState) → ℕ → Opened → List (GroupState X) → List (GroupState X) → Type 0
+IsBegun state nodes o old new = Either o.fresh (HasOpened state nodes o old new) (new ≡ old)
 
 -- the groups without those that were opened for a table
 abbrev pub forgotten : {X : Type 0} → Opened → List (GroupState X) → List (GroupState X)
 forgotten o groups = if o.fresh then take (length groups - o.count) groups else groups
 
 -- a table's shards can be added, once its groups are there
-abbrev pub CanBegin : {X : Type 0} → (X → StoreState) → Opened → Shape → List (GroupState X) → List (Worker X) → Type 0
-CanBegin {X} state o shape groups workers = (begun : List (GroupState X)) → IsBegun state o groups begun → Adding state (shards_of o) shape begun workers 0 begun workers
+abbrev pub CanBegin : {X : Type 0} → (X → StoreState) → ℕ → Opened → Shape → List (GroupState X) → List (Worker X) → Type 0
+CanBegin {X} state nodes o shape groups workers = (begun : List (GroupState X)) → IsBegun state nodes o groups begun → Adding state (shards_of nodes o) shape begun workers 0 begun workers
 
 -- all of a table's shards are added
-pub record IsOpen {X : Type 0} (state : X → StoreState) (o : Opened) (shape : Shape) (old : List (GroupState X)) (full : List (Worker X)) (groups : List (GroupState X)) (workers : List (Worker X)) : Type 0 where
+pub record IsOpen {X : Type 0} (state : X → StoreState) (nodes : ℕ) (o : Opened) (shape : Shape) (old : List (GroupState X)) (full : List (Worker X)) (groups : List (GroupState X)) (workers : List (Worker X)) : Type 0 where
   pub begun : List (GroupState X)
-  pub begins : IsBegun state o old begun
-  pub added : Adding state (shards_of o) shape begun full o.count groups workers
+  pub begins : IsBegun state nodes o old begun
+  pub added : Adding state (shards_of nodes o) shape begun full o.count groups workers
 
 -- the groups and workers are as they were
-pub record IsUndone {X : Type 0} (state : X → StoreState) (old : List (GroupState X)) (full : List (Worker X)) (groups : List (GroupState X)) (workers : List (Worker X)) : Type 0 where
+pub record IsUndone {X : Type 0} (state : X → StoreState) (nodes : ℕ) (old : List (GroupState X)) (full : List (Worker X)) (groups : List (GroupState X)) (workers : List (Worker X)) : Type 0 where
   pub gone : AreGone state nothing_more old groups
-  pub spent : AreSpent state 0 full workers
+  pub spent : AreSpent state nodes 0 full workers
 
 -- nothing refuses a distribution, and what it opens
-pub record IsPlanned {X : Type 0} (c : Contents) (workers : List (Worker X)) (table column : List ℕ) (count : Option ℕ) (beside : With) (default : ℕ) (o : Opened) : Type 0 where
+pub record IsPlanned {X : Type 0} (nodes : ℕ) (c : Contents) (workers : List (Worker X)) (table column : List ℕ) (count : Option ℕ) (beside : With) (default : ℕ) (o : Opened) : Type 0 where
   pub allowed : distribution_refusal c table column count beside default ≡ None
   pub opened : o ≡ opened_by c (decision_of c table column count beside default)
-  pub room : shortage o.count workers ≡ None
+  pub room : shortage nodes o.count workers ≡ None
 
 -- a cluster to which the shards of a table of its catalogue can be added
 pub record IsReady {X : Type 0} (state : X → StoreState) (cl : Cluster X) (o : Opened) : Type 0 where
+  pub some : 0 < cl.nodes
+  pub few : cl.nodes ≤ most_nodes
   pub there : o.table < length cl.catalog.tables
   pub next : o.fresh ≡ true → (o.first_group ≡ length cl.groups.items) × (o.first_group + o.count ≤ 512)
-  pub still : IsUndone state cl.groups.items cl.workers.items cl.groups.items cl.workers.items
-  pub begins : CanBegin state o (shape_in cl.catalog o.table) cl.groups.items cl.workers.items
+  pub still : IsUndone state cl.nodes cl.groups.items cl.workers.items cl.groups.items cl.workers.items
+  pub begins : CanBegin state cl.nodes o (shape_in cl.catalog o.table) cl.groups.items cl.workers.items

@@ -68,12 +68,13 @@ impl<S: Store> Cluster<S> {
         requires room { length self.groups.items ≤ journals.old.room }
         ensures catalog { result.catalog ≡ self.catalog }
         ensures journals { map record_of journals.new.list ≡ journals_in self }
-        ensures stores { (entry : List (Worker S)) → AreWorkers S.state entry self.groups.items self.workers.items → IsFinal S.state entry self.catalog journals.new.list result.workers.items }
+        ensures stores { (entry : List (Worker S)) → AreWorkers S.state self.nodes entry self.groups.items self.workers.items → IsFinal S.state self.nodes entry self.catalog journals.new.list result.workers.items }
     {
         let Cluster {
             catalog,
             groups,
             mut workers,
+            ..
         } = self;
         close_groups(&mut workers, groups, journals);
         Ended { catalog, workers }

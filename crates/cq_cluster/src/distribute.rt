@@ -8,7 +8,7 @@ ghost use Rattle.cq_history.specs.Laws.{OpensGroups};
 ghost use Rattle.cq_history.specs.Standing.{distribution_fault};
 ghost use Rattle.cq_store.specs.declared.worker.Worker.{Worker};
 ghost use Rattle.cq_group.specs.declared.group.GroupState.{GroupState};
-ghost use Rattle.cq_cluster.specs.Cluster.{AreWorkers, journals, run_of, IsSound, KeepsStores};
+ghost use Rattle.cq_cluster.specs.Cluster.{AreWorkers, journals, run_of, most_nodes, IsSound, KeepsStores};
 ghost use Rattle.cq_cluster.specs.Steps.{shards_of as all_shards, forgotten, IsBegun, CanBegin, IsOpen, IsUndone, IsPlanned, IsReady};
 ghost use Rattle.cq_value.specs.declared.schema.Shape.{Shape};
 
@@ -22,15 +22,16 @@ use cq_store::Store;
 use cq_value::{NoMemory, Shape, Text, With};
 use std::alloc::Global;
 
-/// The shards that a distribution adds.
-fn shards_of(opened: &Opened) -> Shards
-    ensures { result ≡ all_shards opened.now }
+/// The shards that a distribution adds, on so many nodes.
+fn shards_of(nodes: u32, opened: &Opened) -> Shards
+    ensures { result ≡ all_shards nodes opened.now }
 {
     Shards {
         table: opened.table,
         first_group: opened.first_group,
         count: opened.count,
         first_shard: opened.first_shard,
+        nodes,
     }
 }
 
@@ -40,14 +41,22 @@ impl<S: Store> Cluster<S> {
     /// Errors: want of memory. The groups are as they were.
     fn begin(&mut self, alloc: Global, opened: &Opened) -> Result<(), NoMemory>
         requires next { opened.now.fresh ≡ true → (opened.now.first_group ≡ length self.old.groups.items) × (opened.now.first_group + opened.now.count ≤ 512) }
-        ensures ok { OnOk result (IsBegun S.state opened.now self.old.groups.items self.new.groups.items) }
+        requires some { 0 < self.old.nodes }
+        requires few { self.old.nodes ≤ most_nodes }
+        ensures ok { OnOk result (IsBegun S.state self.old.nodes opened.now self.old.groups.items self.new.groups.items) }
         ensures err { OnErr result (self.new.groups.items ≡ self.old.groups.items) }
         ensures rest { self.new ≡ record self.old { groups = self.new.groups } }
     {
         if !opened.fresh {
             return Ok(());
         }
-        open_empty(alloc, &mut self.groups, opened.first_group, opened.count)
+        open_empty(
+            alloc,
+            &mut self.groups,
+            self.nodes,
+            opened.first_group,
+            opened.count,
+        )
     }
 
     /// Takes away the groups that were opened for a table, if it has such.
@@ -65,14 +74,17 @@ impl<S: Store> Cluster<S> {
     /// Errors: want of memory. The groups and the workers' stores are as they were, but for the order of the spare ones.
     fn open(&mut self, alloc: Global, opened: &Opened, shape: &Shape) -> Result<(), NoMemory>
         requires next { opened.now.fresh ≡ true → (opened.now.first_group ≡ length self.old.groups.items) × (opened.now.first_group + opened.now.count ≤ 512) }
-        requires still { IsUndone S.state self.old.groups.items self.old.workers.items self.old.groups.items self.old.workers.items }
-        requires begins { CanBegin S.state opened.now shape.now self.old.groups.items self.old.workers.items }
-        ensures ok { OnOk result (IsOpen S.state opened.now shape.now self.old.groups.items self.old.workers.items self.new.groups.items self.new.workers.items) }
-        ensures err { OnErr result (IsUndone S.state self.old.groups.items self.old.workers.items self.new.groups.items self.new.workers.items) }
+        requires some { 0 < self.old.nodes }
+        requires few { self.old.nodes ≤ most_nodes }
+        requires still { IsUndone S.state self.old.nodes self.old.groups.items self.old.workers.items self.old.groups.items self.old.workers.items }
+        requires begins { CanBegin S.state self.old.nodes opened.now shape.now self.old.groups.items self.old.workers.items }
+        ensures ok { OnOk result (IsOpen S.state self.old.nodes opened.now shape.now self.old.groups.items self.old.workers.items self.new.groups.items self.new.workers.items) }
+        ensures err { OnErr result (IsUndone S.state self.old.nodes self.old.groups.items self.old.workers.items self.new.groups.items self.new.workers.items) }
         ensures catalog { self.new.catalog ≡ self.old.catalog }
+        ensures nodes { self.new.nodes ≡ self.old.nodes }
     {
         self.begin(alloc, opened)?;
-        let shards = shards_of(opened);
+        let shards = shards_of(self.nodes, opened);
         if let Err(refused) = add_shards(
             alloc,
             &mut self.workers,
@@ -88,11 +100,12 @@ impl<S: Store> Cluster<S> {
 
     /// Takes out a table's shards, and the groups that were opened for them.
     fn undo(&mut self, opened: &Opened)
-        requires open { (shape : Shape) × (old : List (GroupState S)) × (full : List (Worker S)) × IsOpen S.state opened.now shape old full self.old.groups.items self.old.workers.items }
-        ensures undone { (shape : Shape) (old : List (GroupState S)) (full : List (Worker S)) → IsOpen S.state opened.now shape old full self.old.groups.items self.old.workers.items → IsUndone S.state old full self.new.groups.items self.new.workers.items }
+        requires open { (shape : Shape) × (old : List (GroupState S)) × (full : List (Worker S)) × IsOpen S.state self.old.nodes opened.now shape old full self.old.groups.items self.old.workers.items }
+        ensures undone { (shape : Shape) (old : List (GroupState S)) (full : List (Worker S)) → IsOpen S.state self.old.nodes opened.now shape old full self.old.groups.items self.old.workers.items → IsUndone S.state self.old.nodes old full self.new.groups.items self.new.workers.items }
         ensures catalog { self.new.catalog ≡ self.old.catalog }
+        ensures nodes { self.new.nodes ≡ self.old.nodes }
     {
-        let shards = shards_of(opened);
+        let shards = shards_of(self.nodes, opened);
         drop_shards(&mut self.workers, &mut self.groups, shards, opened.count);
         self.forget(opened);
     }
@@ -109,14 +122,14 @@ impl<S: Store> Cluster<S> {
         default: u32,
     ) -> Result<Opened, Fault>
         requires sound { IsSound S.state self.now }
-        ensures ok { IfOk result (IsPlanned self.now.catalog self.now.workers.items table.now column.now count with.now default) }
-        ensures err { (entry : List (Worker S)) → AreWorkers S.state entry self.now.groups.items self.now.workers.items → IfErr result (λ f. (f ≡ Fault.Memory) ⊎ (distribution_fault (run_of entry) self.now.catalog default table.now column.now count with.now ≡ Some f)) }
+        ensures ok { IfOk result (IsPlanned self.now.nodes self.now.catalog self.now.workers.items table.now column.now count with.now default) }
+        ensures err { (entry : List (Worker S)) → AreWorkers S.state self.now.nodes entry self.now.groups.items self.now.workers.items → IfErr result (λ f. (f ≡ Fault.Memory) ⊎ (distribution_fault (run_of self.now.nodes entry) self.now.catalog default table.now column.now count with.now ≡ Some f)) }
     {
         let opened = match self.catalog.preview(table, column, count, with, default) {
             Ok(opened) => opened,
             Err(refused) => return Err(Fault::from(refused)),
         };
-        if let Err(short) = check_room(&self.workers, opened.count) {
+        if let Err(short) = check_room(&self.workers, self.nodes, opened.count) {
             return Err(short);
         }
         Ok(opened)
@@ -127,9 +140,10 @@ impl<S: Store> Cluster<S> {
     /// Errors: want of memory. The groups and the workers' stores are as they were, but for the order of the spare ones.
     fn add(&mut self, alloc: Global, opened: &Opened) -> Result<(), NoMemory>
         requires ready { IsReady S.state self.old opened.now }
-        ensures ok { OnOk result (IsOpen S.state opened.now (shape_in self.old.catalog opened.now.table) self.old.groups.items self.old.workers.items self.new.groups.items self.new.workers.items) }
-        ensures err { OnErr result (IsUndone S.state self.old.groups.items self.old.workers.items self.new.groups.items self.new.workers.items) }
+        ensures ok { OnOk result (IsOpen S.state self.old.nodes opened.now (shape_in self.old.catalog opened.now.table) self.old.groups.items self.old.workers.items self.new.groups.items self.new.workers.items) }
+        ensures err { OnErr result (IsUndone S.state self.old.nodes self.old.groups.items self.old.workers.items self.new.groups.items self.new.workers.items) }
         ensures catalog { self.new.catalog ≡ self.old.catalog }
+        ensures nodes { self.new.nodes ≡ self.old.nodes }
     {
         let Ok(shape) = self.catalog.shape(opened.table) else {
             return Err(NoMemory);
@@ -155,9 +169,9 @@ impl<S: Store> Cluster<S> {
         ensures sound { IsSound S.state self.new }
         ensures catalog { OnOk result (self.new.catalog ≡ distributed_by self.old.catalog (decision_of self.old.catalog table.now column.now count with.now default)) }
         ensures grows { OnOk result ((who : Who) → Grows who none (journals self.old) (journals self.new)) }
-        ensures opens { OnOk result ((entry : List (Worker S)) → OpensGroups (run_of entry) self.old.catalog self.new.catalog (journals self.new)) }
-        ensures allowed { (entry : List (Worker S)) → AreWorkers S.state entry self.old.groups.items self.old.workers.items → OnOk result (distribution_fault (run_of entry) self.old.catalog default table.now column.now count with.now ≡ None) }
-        ensures cause { (entry : List (Worker S)) → AreWorkers S.state entry self.old.groups.items self.old.workers.items → IfErr result (λ f. (f ≡ Fault.Memory) ⊎ (distribution_fault (run_of entry) self.old.catalog default table.now column.now count with.now ≡ Some f)) }
+        ensures opens { OnOk result ((entry : List (Worker S)) → OpensGroups (run_of self.old.nodes entry) self.old.catalog self.new.catalog (journals self.new)) }
+        ensures allowed { (entry : List (Worker S)) → AreWorkers S.state self.old.nodes entry self.old.groups.items self.old.workers.items → OnOk result (distribution_fault (run_of self.old.nodes entry) self.old.catalog default table.now column.now count with.now ≡ None) }
+        ensures cause { (entry : List (Worker S)) → AreWorkers S.state self.old.nodes entry self.old.groups.items self.old.workers.items → IfErr result (λ f. (f ≡ Fault.Memory) ⊎ (distribution_fault (run_of self.old.nodes entry) self.old.catalog default table.now column.now count with.now ≡ Some f)) }
         ensures unchanged { OnErr result (self.new.catalog ≡ self.old.catalog) }
         ensures same { OnErr result (journals self.new ≡ journals self.old) }
         ensures stores { KeepsStores S.state self.old self.new }

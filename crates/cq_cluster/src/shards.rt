@@ -10,16 +10,15 @@ use cq_store::{Store, Worker};
 use cq_value::{NoMemory, Shape};
 use std::alloc::Global;
 
-/// The number of the workers that a run uses.
-pub const NODES: u32 = 2;
-
-/// The shards of a table that are added: so many, in the shard groups from the first on, under the ids from the first on.
+/// The shards of a table that are added: so many, in the shard groups from the first on, under the ids from the first on, and
+/// on so many nodes in turns.
 #[derive(Clone, Copy, Debug)]
 pub struct Shards {
     pub table: u32,
     pub first_group: u32,
     pub count: u32,
     pub first_shard: u64,
+    pub nodes: u32,
 }
 
 /// Adds the shard of this place.
@@ -36,7 +35,7 @@ fn add_at<S: Store>(
     ensures ok { OnOk result ((old : List (GroupState S)) (full : List (Worker S)) → Adding S.state shards shape.now old full place groups.old.items workers.old.items → Adding S.state shards shape.now old full (place + 1) groups.new.items workers.new.items) }
     ensures err { OnErr result ((old : List (GroupState S)) (full : List (Worker S)) → Adding S.state shards shape.now old full place groups.old.items workers.old.items → Adding S.state shards shape.now old full place groups.new.items workers.new.items) }
 {
-    let worker = &mut workers[(place % NODES) as usize];
+    let worker = &mut workers[(place % shards.nodes) as usize];
     let group = &mut groups[(shards.first_group + place) as usize];
     let shard = shards.first_shard + place as u64;
     add_shard(alloc, worker, group, shards.table, shard, shape)
@@ -53,7 +52,7 @@ fn drop_at<S: Store>(
     requires adding { (shape : Shape) × (old : List (GroupState S)) × (full : List (Worker S)) × Adding S.state shards shape old full (place + 1) groups.old.items workers.old.items }
     ensures { (shape : Shape) (old : List (GroupState S)) (full : List (Worker S)) → Adding S.state shards shape old full (place + 1) groups.old.items workers.old.items → Adding S.state shards shape old full place groups.new.items workers.new.items }
 {
-    let worker = &mut workers[(place % NODES) as usize];
+    let worker = &mut workers[(place % shards.nodes) as usize];
     let group = &mut groups[(shards.first_group + place) as usize];
     drop_shard(worker, group);
 }

@@ -24,4 +24,4 @@ returns-clause-workers g c closed first back =
     let used = c.requires.group in
     let old = c.index_mut-worker.result.now in
     let here : slice_get workers (group.node - 1) ≡ Some old = slice_get_read workers (length workers) (group.node - 1) old refl (slice_get_within workers (group.node - 1) c.requires.worker.0 c.requires.worker.1) c.index_mut-worker.ensures.value in
-    back_more closed first workers (group.node - 1) old c.close_on.new.worker group (omega (arith, used.some_node)) (omega (arith, used.some_node, used.few_nodes)) here c.close_on.ensures.node c.close_on.ensures.stores c.close_on.ensures.room back
+    back_more closed first workers (group.node - 1) old c.close_on.new.worker group (omega (arith, used.some_node)) here c.close_on.ensures.node c.close_on.ensures.stores c.close_on.ensures.room back

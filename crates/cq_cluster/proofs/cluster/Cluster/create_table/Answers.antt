@@ -8,5 +8,5 @@ returns-in-Err-clause-cause g c = creation_cause c.in-Err.refused _ c.from.resul
 
 pub returns-clause-sound : goal.returns-clause-sound
 returns-clause-sound g c =
-    let new : Cluster g.row.S.Denot = record { catalog = c.create_table.new.self; groups = c.args.self.now.groups; workers = c.args.self.now.workers } in
-    sound_created g.S.Store.state c.args.self.now new c.args.name.now c.args.columns c.args.key c.requires.sound c.in_default.ensures.allowed c.in_default.ensures.created refl refl
+    let new : Cluster g.row.S.Denot = record { catalog = c.create_table.new.self; groups = c.args.self.now.groups; workers = c.args.self.now.workers; nodes = c.args.self.now.nodes } in
+    sound_created g.S.Store.state c.args.self.now new c.args.name.now c.args.columns c.args.key c.requires.sound c.in_default.ensures.allowed c.in_default.ensures.created refl refl refl

@@ -2,7 +2,7 @@ use Rattle.std.proofs.Common.{inl, refl, ◌∙◌}
 use Rattle.cq_planning.specs.Database.{shape_in}
 use Rattle.cq_cluster.specs.declared.cluster.Cluster.{Cluster}
 use Rattle.cq_cluster.proofs.PlanLaws.{ready_of}
-use Rattle.cq_cluster.proofs.DoneLaws.{as_it_was, distributed, memory_after, made_after}
+use Rattle.cq_cluster.proofs.DoneLaws.{is_open_on, is_undone_on, as_it_was, distributed, memory_after, made_after}
 use Rattle.cq_cluster.proofs.cluster.Cluster.distribute.Goals as goal
 
 pub plan-requires : goal.plan-requires
@@ -23,21 +23,21 @@ pub returns-in-Err-clause-same : goal.returns-in-Err-clause-same
 returns-in-Err-clause-same g c = refl
 
 pub returns-in-Err-clause-stores : goal.returns-in-Err-clause-stores
-returns-in-Err-clause-stores g c entry at = at
+returns-in-Err-clause-stores g c = record { nodes = refl; stores = λ entry at. at }
 
 -- ---- there is no memory for the groups or their tables
 
 pub add-requires : goal.add-requires
-add-requires g c = record { ready = ready_of g.S.Store.state c.args.self.now c.args.table.now c.args.column.now c.args.count c.args.with.now c.args.default c.in-Ok.opened c.requires.sound c.in-Ok.ensures.ok }
+add-requires g c = record { ready = ready_of g.S.Store.state c.args.self.now c.args.table.now c.args.column.now c.args.count c.args.with.now c.args.default c.in-Ok.opened c.requires.sound c.add.ensures.nodes c.in-Ok.ensures.ok }
 
 pub returns-in_default-clause-sound : goal.returns-in_default-clause-sound
-returns-in_default-clause-sound g c = (as_it_was g.S.Store.state c.args.self.now c.add.new.self c.requires.sound c.add.ensures.catalog c.in_default.ensures.err).sound
+returns-in_default-clause-sound g c = (as_it_was g.S.Store.state c.args.self.now c.add.new.self c.requires.sound c.add.ensures.catalog c.add.ensures.nodes c.in_default.ensures.err).sound
 
 pub returns-in_default-clause-same : goal.returns-in_default-clause-same
-returns-in_default-clause-same g c = (as_it_was g.S.Store.state c.args.self.now c.add.new.self c.requires.sound c.add.ensures.catalog c.in_default.ensures.err).same
+returns-in_default-clause-same g c = (as_it_was g.S.Store.state c.args.self.now c.add.new.self c.requires.sound c.add.ensures.catalog c.add.ensures.nodes c.in_default.ensures.err).same
 
 pub returns-in_default-clause-stores : goal.returns-in_default-clause-stores
-returns-in_default-clause-stores g c entry at = (as_it_was g.S.Store.state c.args.self.now c.add.new.self c.requires.sound c.add.ensures.catalog c.in_default.ensures.err).stores entry at
+returns-in_default-clause-stores g c = (as_it_was g.S.Store.state c.args.self.now c.add.new.self c.requires.sound c.add.ensures.catalog c.add.ensures.nodes c.in_default.ensures.err).stores
 
 pub returns-in_default-clause-cause : goal.returns-in_default-clause-cause
 returns-in_default-clause-cause g c entry at = inl refl
@@ -48,22 +48,35 @@ returns-in_default-clause-unchanged g c = c.add.ensures.catalog
 -- ---- there is no memory for the catalogue
 
 pub undo-requires : goal.undo-requires
-undo-requires g c = record { «open» = (shape_in c.args.self.now.catalog c.in-Ok.opened.table, c.args.self.now.groups.items, c.args.self.now.workers.items, c.in-Ok-add.ensures.ok) }
+undo-requires g c = record {
+  «open» = (
+    shape_in c.args.self.now.catalog c.in-Ok.opened.table,
+    c.args.self.now.groups.items,
+    c.args.self.now.workers.items,
+    is_open_on g.S.Store.state c.in-Ok.opened (shape_in c.args.self.now.catalog c.in-Ok.opened.table) c.args.self.now.groups.items c.args.self.now.workers.items c.add.new.self.groups.items c.add.new.self.workers.items c.add.ensures.nodes c.in-Ok-add.ensures.ok,
+  );
+}
 
 pub returns-in-Err-distribute-clause-sound : goal.returns-in-Err-distribute-clause-sound
 returns-in-Err-distribute-clause-sound g c =
-    (as_it_was g.S.Store.state c.args.self.now c.undo.new.self c.requires.sound (c.undo.ensures.catalog ∙ c.in-Err-distribute.ensures.unchanged ∙ c.add.ensures.catalog)
-    (c.undo.ensures.undone (shape_in c.args.self.now.catalog c.in-Ok.opened.table) c.args.self.now.groups.items c.args.self.now.workers.items c.in-Ok-add.ensures.ok)).sound
+    (as_it_was g.S.Store.state c.args.self.now c.undo.new.self c.requires.sound (c.undo.ensures.catalog ∙ c.in-Err-distribute.ensures.unchanged ∙ c.add.ensures.catalog) (c.undo.ensures.nodes ∙ c.add.ensures.nodes)
+    (is_undone_on g.S.Store.state c.args.self.now.groups.items c.args.self.now.workers.items c.undo.new.self.groups.items c.undo.new.self.workers.items c.add.ensures.nodes
+    (c.undo.ensures.undone (shape_in c.args.self.now.catalog c.in-Ok.opened.table) c.args.self.now.groups.items c.args.self.now.workers.items
+    (is_open_on g.S.Store.state c.in-Ok.opened (shape_in c.args.self.now.catalog c.in-Ok.opened.table) c.args.self.now.groups.items c.args.self.now.workers.items c.add.new.self.groups.items c.add.new.self.workers.items c.add.ensures.nodes c.in-Ok-add.ensures.ok)))).sound
 
 pub returns-in-Err-distribute-clause-same : goal.returns-in-Err-distribute-clause-same
 returns-in-Err-distribute-clause-same g c =
-    (as_it_was g.S.Store.state c.args.self.now c.undo.new.self c.requires.sound (c.undo.ensures.catalog ∙ c.in-Err-distribute.ensures.unchanged ∙ c.add.ensures.catalog)
-    (c.undo.ensures.undone (shape_in c.args.self.now.catalog c.in-Ok.opened.table) c.args.self.now.groups.items c.args.self.now.workers.items c.in-Ok-add.ensures.ok)).same
+    (as_it_was g.S.Store.state c.args.self.now c.undo.new.self c.requires.sound (c.undo.ensures.catalog ∙ c.in-Err-distribute.ensures.unchanged ∙ c.add.ensures.catalog) (c.undo.ensures.nodes ∙ c.add.ensures.nodes)
+    (is_undone_on g.S.Store.state c.args.self.now.groups.items c.args.self.now.workers.items c.undo.new.self.groups.items c.undo.new.self.workers.items c.add.ensures.nodes
+    (c.undo.ensures.undone (shape_in c.args.self.now.catalog c.in-Ok.opened.table) c.args.self.now.groups.items c.args.self.now.workers.items
+    (is_open_on g.S.Store.state c.in-Ok.opened (shape_in c.args.self.now.catalog c.in-Ok.opened.table) c.args.self.now.groups.items c.args.self.now.workers.items c.add.new.self.groups.items c.add.new.self.workers.items c.add.ensures.nodes c.in-Ok-add.ensures.ok)))).same
 
 pub returns-in-Err-distribute-clause-stores : goal.returns-in-Err-distribute-clause-stores
-returns-in-Err-distribute-clause-stores g c entry at =
-    (as_it_was g.S.Store.state c.args.self.now c.undo.new.self c.requires.sound (c.undo.ensures.catalog ∙ c.in-Err-distribute.ensures.unchanged ∙ c.add.ensures.catalog)
-    (c.undo.ensures.undone (shape_in c.args.self.now.catalog c.in-Ok.opened.table) c.args.self.now.groups.items c.args.self.now.workers.items c.in-Ok-add.ensures.ok)).stores entry at
+returns-in-Err-distribute-clause-stores g c =
+    (as_it_was g.S.Store.state c.args.self.now c.undo.new.self c.requires.sound (c.undo.ensures.catalog ∙ c.in-Err-distribute.ensures.unchanged ∙ c.add.ensures.catalog) (c.undo.ensures.nodes ∙ c.add.ensures.nodes)
+    (is_undone_on g.S.Store.state c.args.self.now.groups.items c.args.self.now.workers.items c.undo.new.self.groups.items c.undo.new.self.workers.items c.add.ensures.nodes
+    (c.undo.ensures.undone (shape_in c.args.self.now.catalog c.in-Ok.opened.table) c.args.self.now.groups.items c.args.self.now.workers.items
+    (is_open_on g.S.Store.state c.in-Ok.opened (shape_in c.args.self.now.catalog c.in-Ok.opened.table) c.args.self.now.groups.items c.args.self.now.workers.items c.add.new.self.groups.items c.add.new.self.workers.items c.add.ensures.nodes c.in-Ok-add.ensures.ok)))).stores
 
 pub returns-in-Err-distribute-clause-cause : goal.returns-in-Err-distribute-clause-cause
 returns-in-Err-distribute-clause-cause g c entry at =
@@ -79,30 +92,30 @@ returns-clause-catalog g c = made_after c.args.self.now.catalog c.add.new.self.c
 
 pub returns-clause-sound : goal.returns-clause-sound
 returns-clause-sound g c =
-    let new : Cluster g.row.S.Denot = record { catalog = c.distribute.new.self; groups = c.add.new.self.groups; workers = c.add.new.self.workers } in
+    let new : Cluster g.row.S.Denot = record { catalog = c.distribute.new.self; groups = c.add.new.self.groups; workers = c.add.new.self.workers; nodes = c.add.new.self.nodes } in
     let made = made_after c.args.self.now.catalog c.add.new.self.catalog c.args.table.now c.args.column.now c.args.count c.args.with.now c.args.default c.add.ensures.catalog c.distribute.new.self c.in_default-distribute.ensures.distributed in
-    (distributed g.S.Store.state c.args.self.now new c.args.table.now c.args.column.now c.args.count c.args.with.now c.args.default c.in-Ok.opened c.requires.sound c.in-Ok.ensures.ok c.in-Ok-add.ensures.ok made).sound
+    (distributed g.S.Store.state c.args.self.now new c.args.table.now c.args.column.now c.args.count c.args.with.now c.args.default c.in-Ok.opened c.requires.sound c.add.ensures.nodes c.in-Ok.ensures.ok c.in-Ok-add.ensures.ok made).sound
 
 pub returns-clause-grows : goal.returns-clause-grows
 returns-clause-grows g c who =
-    let new : Cluster g.row.S.Denot = record { catalog = c.distribute.new.self; groups = c.add.new.self.groups; workers = c.add.new.self.workers } in
+    let new : Cluster g.row.S.Denot = record { catalog = c.distribute.new.self; groups = c.add.new.self.groups; workers = c.add.new.self.workers; nodes = c.add.new.self.nodes } in
     let made = made_after c.args.self.now.catalog c.add.new.self.catalog c.args.table.now c.args.column.now c.args.count c.args.with.now c.args.default c.add.ensures.catalog c.distribute.new.self c.in_default-distribute.ensures.distributed in
-    (distributed g.S.Store.state c.args.self.now new c.args.table.now c.args.column.now c.args.count c.args.with.now c.args.default c.in-Ok.opened c.requires.sound c.in-Ok.ensures.ok c.in-Ok-add.ensures.ok made).grows who
+    (distributed g.S.Store.state c.args.self.now new c.args.table.now c.args.column.now c.args.count c.args.with.now c.args.default c.in-Ok.opened c.requires.sound c.add.ensures.nodes c.in-Ok.ensures.ok c.in-Ok-add.ensures.ok made).grows who
 
 pub returns-clause-opens : goal.returns-clause-opens
 returns-clause-opens g c entry =
-    let new : Cluster g.row.S.Denot = record { catalog = c.distribute.new.self; groups = c.add.new.self.groups; workers = c.add.new.self.workers } in
+    let new : Cluster g.row.S.Denot = record { catalog = c.distribute.new.self; groups = c.add.new.self.groups; workers = c.add.new.self.workers; nodes = c.add.new.self.nodes } in
     let made = made_after c.args.self.now.catalog c.add.new.self.catalog c.args.table.now c.args.column.now c.args.count c.args.with.now c.args.default c.add.ensures.catalog c.distribute.new.self c.in_default-distribute.ensures.distributed in
-    (distributed g.S.Store.state c.args.self.now new c.args.table.now c.args.column.now c.args.count c.args.with.now c.args.default c.in-Ok.opened c.requires.sound c.in-Ok.ensures.ok c.in-Ok-add.ensures.ok made).opens entry
+    (distributed g.S.Store.state c.args.self.now new c.args.table.now c.args.column.now c.args.count c.args.with.now c.args.default c.in-Ok.opened c.requires.sound c.add.ensures.nodes c.in-Ok.ensures.ok c.in-Ok-add.ensures.ok made).opens entry
 
 pub returns-clause-allowed : goal.returns-clause-allowed
 returns-clause-allowed g c entry at =
-    let new : Cluster g.row.S.Denot = record { catalog = c.distribute.new.self; groups = c.add.new.self.groups; workers = c.add.new.self.workers } in
+    let new : Cluster g.row.S.Denot = record { catalog = c.distribute.new.self; groups = c.add.new.self.groups; workers = c.add.new.self.workers; nodes = c.add.new.self.nodes } in
     let made = made_after c.args.self.now.catalog c.add.new.self.catalog c.args.table.now c.args.column.now c.args.count c.args.with.now c.args.default c.add.ensures.catalog c.distribute.new.self c.in_default-distribute.ensures.distributed in
-    (distributed g.S.Store.state c.args.self.now new c.args.table.now c.args.column.now c.args.count c.args.with.now c.args.default c.in-Ok.opened c.requires.sound c.in-Ok.ensures.ok c.in-Ok-add.ensures.ok made).allowed entry at
+    (distributed g.S.Store.state c.args.self.now new c.args.table.now c.args.column.now c.args.count c.args.with.now c.args.default c.in-Ok.opened c.requires.sound c.add.ensures.nodes c.in-Ok.ensures.ok c.in-Ok-add.ensures.ok made).allowed entry at
 
 pub returns-clause-stores : goal.returns-clause-stores
-returns-clause-stores g c entry at =
-    let new : Cluster g.row.S.Denot = record { catalog = c.distribute.new.self; groups = c.add.new.self.groups; workers = c.add.new.self.workers } in
+returns-clause-stores g c =
+    let new : Cluster g.row.S.Denot = record { catalog = c.distribute.new.self; groups = c.add.new.self.groups; workers = c.add.new.self.workers; nodes = c.add.new.self.nodes } in
     let made = made_after c.args.self.now.catalog c.add.new.self.catalog c.args.table.now c.args.column.now c.args.count c.args.with.now c.args.default c.add.ensures.catalog c.distribute.new.self c.in_default-distribute.ensures.distributed in
-    (distributed g.S.Store.state c.args.self.now new c.args.table.now c.args.column.now c.args.count c.args.with.now c.args.default c.in-Ok.opened c.requires.sound c.in-Ok.ensures.ok c.in-Ok-add.ensures.ok made).stores entry at
+    (distributed g.S.Store.state c.args.self.now new c.args.table.now c.args.column.now c.args.count c.args.with.now c.args.default c.in-Ok.opened c.requires.sound c.add.ensures.nodes c.in-Ok.ensures.ok c.in-Ok-add.ensures.ok made).stores

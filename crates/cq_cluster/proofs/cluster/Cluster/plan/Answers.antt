@@ -5,8 +5,11 @@ pub check_room-requires-clause-few : goal.check_room-requires-clause-few
 check_room-requires-clause-few g c =
     few_shards g.S.Store.state c.args.self.now c.args.table.now c.args.column.now c.args.count c.args.with.now c.args.default c.in-Ok.opened c.requires.sound c.in-Ok.ensures.allowed c.in-Ok.ensures.opened
 
-pub check_room-requires-clause-both : goal.check_room-requires-clause-both
-check_room-requires-clause-both g c = c.requires.sound.both
+pub check_room-requires-clause-most : goal.check_room-requires-clause-most
+check_room-requires-clause-most g c = c.requires.sound.few
+
+pub check_room-requires-clause-enough : goal.check_room-requires-clause-enough
+check_room-requires-clause-enough g c = c.requires.sound.enough
 
 pub returns-in-Err-clause-err : goal.returns-in-Err-clause-err
 returns-in-Err-clause-err g c entry at =
