@@ -1,5 +1,5 @@
 -- The workers' lists, as group after group is closed and hands its stores back.
-use Rattle.std.proofs.Common.{◌≡◌, ◌≢◌, ◌⊎◌, inl, inr, ℕ, ◌+◌, ◌-◌, ◌<◌, ◌≤◌, Bool, true, false, cond, List, [], ◌∷◌, ◌++◌, length, get_or, map, refl, sym, ap, subst, ◌∙◌, arith, Some, slice_get, length-set, length-append, append_assoc, append-nil}
+use Rattle.std.proofs.Common.{◌≡◌, ◌≢◌, ◌⊎◌, inl, inr, ℕ, ◌+◌, ◌-◌, ◌≤◌, Bool, true, false, cond, List, [], ◌∷◌, ◌++◌, length, get_or, map, refl, sym, ap, subst, ◌∙◌, arith, Some, slice_get, length-set, length-append, append_assoc, append-nil}
 use Rattle.std.specs.Prelude.{nat_eq}
 use Rattle.std.specs.List.{AllByRecursion}
 use Rattle.std.proofs.Math.ListN.{set}
@@ -93,9 +93,9 @@ module _ {X : Type 0} where
       told (inl p) = absurd (apart p.1)
       told (inr p) = p.0
 
-  split_last : {P : GroupState X → Type 0} (gs : List (GroupState X)) (g : GroupState X) → AllByRecursion P (gs ++ g ∷ []) → AllByRecursion P gs × P g
-  split_last [] g all = (tt, all.0)
-  split_last (f ∷ fs) g all = let parts = split_last fs g all.1 in ((all.0, parts.0), parts.1)
+  split_last : (P : GroupState X → Type 0) (gs : List (GroupState X)) (g : GroupState X) → AllByRecursion P (gs ++ g ∷ []) → AllByRecursion P gs × P g
+  split_last P [] g all = (tt, all.0)
+  split_last P (f ∷ fs) g all = let parts = split_last P fs g all.1 in ((all.0, parts.0), parts.1)
 
   -- one group more hands its stores back to its node's worker
   pub back_more : (closed : List (GroupState X)) (first workers : List (Worker X)) (place : ℕ) (old new : Worker X) (g : GroupState X) → g.node ≡ place + 1 → slice_get workers place ≡ Some old →
@@ -109,7 +109,7 @@ module _ {X : Type 0} where
           subst (λ (x : Worker X). HasBack (closed ++ g ∷ []) k v x) (sym p.1) (subst (λ (m : ℕ). HasBack (closed ++ g ∷ []) m v new) (sym p.0) here)
       | inr q ↦ back_elsewhere closed k v w g (λ d. q.0 (omega (arith, d, at))) (back.used k v w t q.1)
     ];
-    unused = λ k h. let parts = split_last closed g h in got_other workers place new k (λ d. parts.1 (omega (arith, d, at))) ∙ back.unused k parts.0;
+    unused = λ k h. let parts = split_last (λ (f : GroupState X). f.node ≢ k + 1) closed g h in got_other workers place new k (λ d. parts.1 (omega (arith, d, at))) ∙ back.unused k parts.0;
   }
 
   -- ---- the groups that are still to be closed
@@ -139,20 +139,20 @@ module _ {X : Type 0} where
       (closes.listed ∙ ap (λ (gs : List (GroupState X)). map (λ (g : GroupState X). g.journal) gs) same, subst (λ (gs : List (GroupState X)). HaveBack gs first workers) same closes.back)
 
   module _ (state : X → StoreState) where
-    of_next : {P : GroupState X → Type 0} (closed rest : List (GroupState X)) (g : GroupState X) → AllByRecursion P (closed ++ g ∷ rest) → P g
-    of_next [] rest g all = all.0
-    of_next (f ∷ fs) rest g all = of_next fs rest g all.1
+    of_next : (P : GroupState X → Type 0) (closed rest : List (GroupState X)) (g : GroupState X) → AllByRecursion P (closed ++ g ∷ rest) → P g
+    of_next P [] rest g all = all.0
+    of_next P (f ∷ fs) rest g all = of_next P fs rest g all.1
 
     -- the next group can be closed, and its node's worker has room for its stores
     pub closes_group : (all rest : List (GroupState X)) (first workers : List (Worker X)) (journals : List Journal) (g : GroupState X) → Closes all first (g ∷ rest) journals workers → AreUsed state all → IsUsed state g
-    closes_group all rest first workers journals g closes used = of_next closes.closed rest g (subst (λ (gs : List (GroupState X)). AreUsed state gs) (sym closes.all_groups) used)
+    closes_group all rest first workers journals g closes used = of_next (IsUsed state) closes.closed rest g (subst (λ (gs : List (GroupState X)). AreUsed state gs) (sym closes.all_groups) used)
 
     pub closes_worker : (all rest : List (GroupState X)) (first workers : List (Worker X)) (journals : List Journal) (g : GroupState X) → Closes all first (g ∷ rest) journals workers → AreUsed state all → HaveRoom all first →
         (w : Worker X) × (slice_get workers (g.node - 1) ≡ Some w) × (w.node ≡ g.node) × (length (stores_of g) ≤ room w.stores)
     closes_worker all rest first workers journals g closes used ready =
         let here = closes_group all rest first workers journals g closes used in
         let place = g.node - 1 in
-        let welcome = of_next closes.closed rest g (subst (λ (gs : List (GroupState X)). AllByRecursion (HasRoom all first) gs) (sym closes.all_groups) ready) in
+        let welcome = of_next (HasRoom all first) closes.closed rest g (subst (λ (gs : List (GroupState X)). AllByRecursion (HasRoom all first) gs) (sym closes.all_groups) ready) in
         let old = welcome.worker in
         let now = there workers first place old old (sym closes.back.same_length) welcome.there in
         let is = closes.back.used place old (get_or workers place old) welcome.there now in

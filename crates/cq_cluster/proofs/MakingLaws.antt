@@ -1,5 +1,5 @@
 -- A cluster without tables and groups, over workers all of whose stores wait.
-use Rattle.std.proofs.Common.{◌≡◌, ◌≤◌, List, [], length, refl, ap, arith}
+use Rattle.std.proofs.Common.{◌≡◌, ◌<◌, ◌≤◌, ℕ, List, [], length, refl, ap, arith}
 use Rattle.cq_catalog.specs.Contents.{nothing}
 use Rattle.cq_catalog.specs.Whole.{IsWhole}
 use Rattle.cq_store.specs.Stores.{StoreState}

@@ -1,5 +1,5 @@
 -- How many of a table's shards are on a node, one shard after another, and the stores that the catalogue's tables have.
-use Rattle.std.proofs.Common.{◌≡◌, ◌≢◌, inl, inr, ℕ, ◌+◌, ◌-◌, ◌*◌, ◌%◌, ◌<◌, ◌≤◌, List, [], ◌∷◌, refl, sym, ap, ◌∙◌, arith}
+use Rattle.std.proofs.Common.{◌≡◌, ◌≢◌, inl, inr, ℕ, ◌+◌, ◌-◌, ◌*◌, ◌%◌, ◌<◌, ◌≤◌, List, [], ◌∷◌, suc, Some, None, Option, slice_get, refl, sym, ap, ◌∙◌, arith}
 use Rattle.std.specs.Prelude.{◌/◌}
 use Rattle.std.proofs.lemmas.Bool.{cases_lt}
 use Rattle.std.proofs.lemmas.Nat.{div-mul-add, div-add-mod', le-div, mod_below}
@@ -9,6 +9,11 @@ use Rattle.cq_catalog.specs.declared.info.Place.TheVariants.{Local, Distributed,
 use Rattle.cq_catalog.specs.declared.info.TableInfo.{TableInfo}
 use Rattle.cq_history.specs.Run.{Run}
 use Rattle.cq_history.specs.Run as history
+use Rattle.cq_answer.specs.declared.fault.Fault.{Fault}
+use Rattle.cq_catalog.specs.Refusals.{first_of}
+use Rattle.cq_store.specs.declared.worker.Worker.{Worker}
+use Rattle.cq_cluster.specs.Cluster.{stores_in}
+use Rattle.cq_cluster.specs.Steps.{short_of, shortage_from}
 use Rattle.cq_cluster.specs.Room.{shards_on, taken_by, taken_in}
 
 module _ (nodes : ℕ) (some : 0 < nodes) where
@@ -73,3 +78,25 @@ same_taken_by run cs at (Reference group shard) = refl
 pub same_taken : (run : Run) (cs : List Colocation) (at : ℕ) (ts : List TableInfo) → history.taken_in run cs at ts ≡ taken_in run.workers cs at ts
 same_taken run cs at [] = refl
 same_taken run cs at (t ∷ ts) = let first = same_taken_by run cs at t.place in let further = same_taken run cs at ts in omega (arith, first, further)
+
+-- ---- the lowest node with too few stores
+
+next_node : (nodes place : ℕ) → place < nodes → nodes - place ≡ suc (nodes - (place + 1))
+next_node nodes place h = omega (arith, h)
+
+only_of : {A : Type 0} (o : Option A) → first_of (o ∷ []) ≡ o
+only_of None = refl
+only_of (Some x) = refl
+
+module _ {X : Type 0} (nodes count place : ℕ) (workers : List (Worker X)) where
+  pub shortage_here : (f : Fault) → place < nodes → short_of nodes count place (stores_in (slice_get workers place)) ≡ Some f → shortage_from nodes count workers place (nodes - place) ≡ Some f
+  shortage_here f h short =
+      ap (shortage_from nodes count workers place) (next_node nodes place h)
+      ∙ ap (λ (o : Option Fault). first_of (o ∷ shortage_from nodes count workers (place + 1) (nodes - (place + 1)) ∷ [])) short
+
+  pub shortage_beyond : place < nodes → short_of nodes count place (stores_in (slice_get workers place)) ≡ None →
+      shortage_from nodes count workers place (nodes - place) ≡ shortage_from nodes count workers (place + 1) (nodes - (place + 1))
+  shortage_beyond h enough =
+      ap (shortage_from nodes count workers place) (next_node nodes place h)
+      ∙ ap (λ (o : Option Fault). first_of (o ∷ shortage_from nodes count workers (place + 1) (nodes - (place + 1)) ∷ [])) enough
+      ∙ only_of (shortage_from nodes count workers (place + 1) (nodes - (place + 1)))

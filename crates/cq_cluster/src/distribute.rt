@@ -1,4 +1,4 @@
-ghost use Rattle.std.specs.Prelude.{◌≡◌, ◌+◌, ◌≤◌, ◌⊎◌, List, None, Some, OnOk, OnErr, IfErr, IfOk, true, length};
+ghost use Rattle.std.specs.Prelude.{◌≡◌, ◌+◌, ◌<◌, ◌≤◌, ◌⊎◌, List, None, Some, OnOk, OnErr, IfErr, IfOk, true, length};
 ghost use Rattle.cq_catalog.specs.Distribution.{decision_of, distributed_by};
 ghost use Rattle.cq_tree.specs.declared.journal.Who.{Who};
 ghost use Rattle.cq_planning.specs.Database.{shape_in};

@@ -56,7 +56,9 @@ pub fn check_room<S>(workers: &Vec<Worker<S>>, nodes: u32, count: u32) -> Result
     ensures err { IfErr result (λ f. shortage nodes count workers.now.items ≡ Some f) }
 {
     for place in 0..nodes {
-        check_worker(workers, nodes, count, place)?;
+        if let Err(short) = check_worker(workers, nodes, count, place) {
+            return Err(short);
+        }
     }
     Ok(())
 }

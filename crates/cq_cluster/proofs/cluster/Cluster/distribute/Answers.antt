@@ -28,7 +28,7 @@ returns-in-Err-clause-stores g c = record { nodes = refl; stores = λ entry at. 
 -- ---- there is no memory for the groups or their tables
 
 pub add-requires : goal.add-requires
-add-requires g c = record { ready = ready_of g.S.Store.state c.args.self.now c.args.table.now c.args.column.now c.args.count c.args.with.now c.args.default c.in-Ok.opened c.requires.sound c.add.ensures.nodes c.in-Ok.ensures.ok }
+add-requires g c = record { ready = ready_of g.S.Store.state c.args.self.now c.args.table.now c.args.column.now c.args.count c.args.with.now c.args.default c.in-Ok.opened c.requires.sound c.in-Ok.ensures.ok }
 
 pub returns-in_default-clause-sound : goal.returns-in_default-clause-sound
 returns-in_default-clause-sound g c = (as_it_was g.S.Store.state c.args.self.now c.add.new.self c.requires.sound c.add.ensures.catalog c.add.ensures.nodes c.in_default.ensures.err).sound
