@@ -48,7 +48,7 @@ impl<S: Store> Coordinator<S> {
         key: &Positions,
     ) -> Answer
         requires sound { IsSound S.state self.old.cluster }
-        ensures answered { (entry : List (Worker S)) → IsAnswered rules (run_of entry) (environment self.old) (environment self.new) who (journals self.old) (journals self.new) (Some (statement.CreateTable name.now columns.now key.now)) result }
+        ensures answered { (entry : List (Worker S)) → IsAnswered rules (run_of self.old.cluster.nodes entry) (environment self.old) (environment self.new) who (journals self.old) (journals self.new) (Some (statement.CreateTable name.now columns.now key.now)) result }
         ensures sound { IsSound S.state self.new.cluster }
         ensures stores { KeepsStores S.state self.old.cluster self.new.cluster }
     {
@@ -75,7 +75,7 @@ impl<S: Store> Coordinator<S> {
         with: &With,
     ) -> Answer
         requires sound { IsSound S.state self.old.cluster }
-        ensures answered { (entry : List (Worker S)) → AreWorkers S.state entry self.old.cluster.groups.items self.old.cluster.workers.items → IsAnswered rules (run_of entry) (environment self.old) (environment self.new) who (journals self.old) (journals self.new) (Some (statement.Distribute table.now column.now count with.now)) result }
+        ensures answered { (entry : List (Worker S)) → AreWorkers S.state self.old.cluster.nodes entry self.old.cluster.groups.items self.old.cluster.workers.items → IsAnswered rules (run_of self.old.cluster.nodes entry) (environment self.old) (environment self.new) who (journals self.old) (journals self.new) (Some (statement.Distribute table.now column.now count with.now)) result }
         ensures sound { IsSound S.state self.new.cluster }
         ensures stores { KeepsStores S.state self.old.cluster self.new.cluster }
     {
@@ -99,7 +99,7 @@ impl<S: Store> Coordinator<S> {
     pub fn set(&mut self, who: Who, which: u32, value: u64) -> Answer
         requires sound { IsSound S.state self.old.cluster }
         requires fits { value < 2 ^ 32 }
-        ensures answered { (entry : List (Worker S)) → IsAnswered rules (run_of entry) (environment self.old) (environment self.new) who (journals self.old) (journals self.new) (Some (statement.Setting which value)) result }
+        ensures answered { (entry : List (Worker S)) → IsAnswered rules (run_of self.old.cluster.nodes entry) (environment self.old) (environment self.new) who (journals self.old) (journals self.new) (Some (statement.Setting which value)) result }
         ensures sound { IsSound S.state self.new.cluster }
         ensures stores { KeepsStores S.state self.old.cluster self.new.cluster }
     {

@@ -5,7 +5,7 @@ use Rattle.cq_coordinator.proofs.DefinitionAnswers.{not_distributed, distributed
 use Rattle.cq_coordinator.proofs.coordinator.Coordinator.distribute.Goals as goal
 
 pub returns-in_default-clause-answered : goal.returns-in_default-clause-answered
-returns-in_default-clause-answered g c = λ entry are. not_distributed (run_of entry) (environment c.args.self.now) c.args.who (journals c.args.self.now) c.args.table.now c.args.column.now c.args.count c.args.with.now _ (inl refl)
+returns-in_default-clause-answered g c = λ entry are. not_distributed (run_of c.args.self.now.cluster.nodes entry) (environment c.args.self.now) c.args.who (journals c.args.self.now) c.args.table.now c.args.column.now c.args.count c.args.with.now _ (inl refl)
 
 pub returns-in-Ok-distribute-clause-answered : goal.returns-in-Ok-distribute-clause-answered
 returns-in-Ok-distribute-clause-answered g c = λ entry are.
