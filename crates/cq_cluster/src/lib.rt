@@ -1,4 +1,4 @@
-//! The shard groups of a run over its two workers: a table that is distributed gets its shards on spare stores of the
+//! The shard groups of a run over the workers that it uses: a table that is distributed gets its shards on spare stores of the
 //! workers, in the shard groups of its co-location group, and at the end the stores go back.
 #![tactic(auto)]
 
