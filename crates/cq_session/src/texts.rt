@@ -41,7 +41,7 @@ pub fn respond<S: Store>(
     requires legal { (g : ℕ) → IsLegal coordinator.old.cluster.catalog g (journal_in (journals coordinator.old) g) }
     requires keyed { (table : ℕ) → IsKeyed coordinator.old.cluster.catalog table }
     requires columns { HasColumns coordinator.old.cluster.catalog }
-    ensures answered { (entry : List (Worker S)) → AreWorkers S.state entry coordinator.old.cluster.groups.items coordinator.old.cluster.workers.items → IsAnswered rules (run_of entry) (environment coordinator.old) (environment coordinator.new) who (journals coordinator.old) (journals coordinator.new) result.bound result.answer }
+    ensures answered { (entry : List (Worker S)) → AreWorkers S.state coordinator.old.cluster.nodes entry coordinator.old.cluster.groups.items coordinator.old.cluster.workers.items → IsAnswered rules (run_of coordinator.old.cluster.nodes entry) (environment coordinator.old) (environment coordinator.new) who (journals coordinator.old) (journals coordinator.new) result.bound result.answer }
     ensures reads { ReadsAs result.bound result.answer (reading_of text.now coordinator.old.cluster.catalog.tables) }
     ensures means { Means text.now coordinator.old.cluster.catalog.tables (reading_of text.now coordinator.old.cluster.catalog.tables) }
     ensures sound { IsSound S.state coordinator.new.cluster }

@@ -23,46 +23,46 @@ use Rattle.cq_script.specs.Streams.{SourceState, SinkState, Rose}
 use Rattle.cq_top.specs.declared.log.RunLog.{RunLog}
 use Rattle.cq_top.specs.declared.status.Status.{Status}
 use Rattle.cq_top.specs.declared.status.Status.TheVariants.{Done, Usage, ReadFault, Stopped, WriteFault, Memory, TooLong, Script}
-use Rattle.cq_top.specs.Scripts.{AnswersTo, AnswersFirst, AnswersSome, most_bytes, IsAnswered, Serves}
+use Rattle.cq_top.specs.Scripts.{node_count, AnswersTo, AnswersFirst, AnswersSome, most_bytes, IsAnswered, Serves}
 use Rattle.cq_top.specs.Serving.{IsEndedBy, IsRunEnd, BlamesSource, BlamesSink, BlamesLast}
 use Rattle.cq_top.specs.Runs.{IsEmptyLog, IsWhole, Stand, IsMisused, HasCause, MayEnd, journals_of}
 use Rattle.cq_top.proofs.Answering.{answers_first}
 
 -- a log of consistent answers and journals
-pub whole_of : {X Y : Type 0} (log : RunLog X) (entry : List (Worker Y)) (e : Environment) (journals : List Journal) → IsConsistent rules (run_of entry) e log.answers journals → log.catalog ≡ e.catalog →
+pub whole_of : {X Y : Type 0} (log : RunLog X) (entry : List (Worker Y)) (e : Environment) (journals : List Journal) → IsConsistent rules (run_of node_count entry) e log.answers journals → log.catalog ≡ e.catalog →
     journals_of log ≡ journals → log.retired ≡ [] → log.waves ≡ [] → IsWhole entry log
 whole_of log entry e journals c catalog is retired waves = record {
   catalog = catalog ∙ ap (λ (v : Environment). v.catalog) c.environment;
-  history = subst (IsWholeHistory (run_of entry) log.catalog log.answers) (sym is) (subst (λ (v : Contents). IsWholeHistory (run_of entry) v log.answers journals) (sym catalog) c.log);
+  history = subst (IsWholeHistory (run_of node_count entry) log.catalog log.answers) (sym is) (subst (λ (v : Contents). IsWholeHistory (run_of node_count entry) v log.answers journals) (sym catalog) c.log);
   retired = retired;
   waves = waves;
 }
 
-pub stand_of : {X : Type 0} (entry : List (Worker X)) (e : Environment) (answers : List Answered) (journals kept : List Journal) → IsConsistent rules (run_of entry) e answers journals → kept ≡ journals →
-    AllStand rules (run_of entry) kept answers
-stand_of entry e answers journals kept c is = subst (λ (v : List Journal). AllStand rules (run_of entry) v answers) (sym is) (log_stands rules (run_of entry) e answers journals c).0
+pub stand_of : {X : Type 0} (entry : List (Worker X)) (e : Environment) (answers : List Answered) (journals kept : List Journal) → IsConsistent rules (run_of node_count entry) e answers journals → kept ≡ journals →
+    AllStand rules (run_of node_count entry) kept answers
+stand_of entry e answers journals kept c is = subst (λ (v : List Journal). AllStand rules (run_of node_count entry) v answers) (sym is) (log_stands rules (run_of node_count entry) e answers journals c).0
 
 -- before the first statement
 pub consistent_new : {X : Type 0} (entry : List (Worker X)) (c : Contents) (answers : List Answered) (journals : List Journal) → c ≡ nothing → answers ≡ [] → journals ≡ [] →
-    IsConsistent rules (run_of entry) (record { catalog = c; settings = first_settings }) answers journals
-consistent_new entry c answers journals a b d = rw (a, b, d) (log_begins rules (run_of entry))
+    IsConsistent rules (run_of node_count entry) (record { catalog = c; settings = first_settings }) answers journals
+consistent_new entry c answers journals a b d = rw (a, b, d) (log_begins rules (run_of node_count entry))
 
 -- the empty log
 pub empty_whole : {X Y : Type 0} (entry : List (Worker Y)) (log : RunLog X) → IsEmptyLog log → IsWhole entry log
 empty_whole entry log e =
-    whole_of log entry (first (run_of entry)) [] (subst (λ (v : List Answered). IsConsistent rules (run_of entry) (first (run_of entry)) v []) (sym e.answers) (log_begins rules (run_of entry))) e.catalog
+    whole_of log entry (first (run_of node_count entry)) [] (subst (λ (v : List Answered). IsConsistent rules (run_of node_count entry) (first (run_of node_count entry)) v []) (sym e.answers) (log_begins rules (run_of node_count entry))) e.catalog
     (ap (map record_of) e.journals) e.retired e.waves
 
 pub empty_stands : {X Y : Type 0} (entry : List (Worker Y)) (log : RunLog X) → IsEmptyLog log → Stand entry log
-empty_stands entry log e = subst (λ (v : List Answered). AllStand rules (run_of entry) (journals_of log) v) (sym e.answers) tt
+empty_stands entry log e = subst (λ (v : List Answered). AllStand rules (run_of node_count entry) (journals_of log) v) (sym e.answers) tt
 
 -- workers whose stores all wait
 spare_of_waiting : {X : Type 0} (state : X → StoreState) (node : ℕ) (xs : List X) → All (λ x. IsWaiting node (state x)) xs → AllByRecursion (λ x. IsSpare (state x)) xs
 spare_of_waiting state node [] all = tt
 spare_of_waiting state node (x ∷ xs) all = ((All-head (λ x. IsWaiting node (state x)) x xs all).spare, spare_of_waiting state node xs (All-tail (λ x. IsWaiting node (state x)) x xs all))
 
-pub final_idle : {X : Type 0} (state : X → StoreState) (c : Contents) (journals : List kept.Journal) (workers : List (Worker X)) → AreIdle state workers → journals ≡ [] → IsFinal state workers c journals workers
-final_idle {X} state c journals workers idle none = subst (λ (v : List kept.Journal). IsFinal state workers c v workers) (sym none) (record {
+pub final_idle : {X : Type 0} (state : X → StoreState) (c : Contents) (journals : List kept.Journal) (workers : List (Worker X)) → AreIdle state workers → journals ≡ [] → IsFinal state node_count workers c journals workers
+final_idle {X} state c journals workers idle none = subst (λ (v : List kept.Journal). IsFinal state node_count workers c v workers) (sym none) (record {
   same_length = refl;
   used = λ place w h s. record {
     node = (idle place w s).node;

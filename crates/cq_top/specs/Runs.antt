@@ -14,7 +14,7 @@ use Rattle.cq_top.specs.declared.log.RunLog.{RunLog}
 use Rattle.cq_top.specs.declared.status.Status.{Status}
 use Rattle.cq_top.specs.declared.status.Status.TheVariants.{Usage, ReadFault, Stopped, WriteFault, Memory, TooLong, Script}
 use Rattle.cq_top.specs.Outputs.{IsOutput}
-use Rattle.cq_top.specs.Scripts.{most_bytes}
+use Rattle.cq_top.specs.Scripts.{node_count, most_bytes}
 
 pub record IsEmptyLog {X : Type 0} (log : RunLog X) : Type 0 where
   pub answers : log.answers ≡ []
@@ -31,19 +31,19 @@ journals_of log = map record_of log.journals.list
 -- the settings that those before it give; there is one journal for each shard group, opened on the group's node; each journal is a legal
 -- history, its entries are of statements of the log, in the order of the statements
 pub record IsWhole {X Y : Type 0} (entry : List (Worker Y)) (log : RunLog X) : Type 0 where
-  pub catalog : log.catalog ≡ (environment_from (first (run_of entry)) log.answers).catalog
-  pub history : IsWholeHistory (run_of entry) log.catalog log.answers (journals_of log)
+  pub catalog : log.catalog ≡ (environment_from (first (run_of node_count entry)) log.answers).catalog
+  pub history : IsWholeHistory (run_of node_count entry) log.catalog log.answers (journals_of log)
   pub retired : log.retired ≡ []
   pub waves : log.waves ≡ []
 
 -- every answer stands: it is its statement's meaning over the undistributed database, at every choice of places in the journals that takes the
 -- statement's own, or a refusal with its cause
 abbrev pub Stand : {X Y : Type 0} → List (Worker Y) → RunLog X → Type 0
-Stand entry log = AllStand rules (run_of entry) (journals_of log) log.answers
+Stand entry log = AllStand rules (run_of node_count entry) (journals_of log) log.answers
 
 -- the command line is wrong, or there are too few workers
 abbrev pub IsMisused : ℕ → ℕ → Type 0
-IsMisused words workers = (0 < words) ⊎ (workers < 2)
+IsMisused words workers = (0 < words) ⊎ (workers < node_count)
 
 -- the cause of each status. A fault comes only where the count of faults rose in this call, and never from what is steady;
 -- want of memory is free

@@ -27,6 +27,10 @@ AnswersTo texts answers = AnswersFrom start texts answers
 abbrev pub AnswersFirst : List (List ℕ) → List Answered → Type 0
 AnswersFirst texts answers = (front rest : List (List ℕ)) × (texts ≡ front ++ rest) × AnswersTo front answers
 
+-- how many workers a run uses
+abbrev pub node_count : ℕ
+node_count = 2
+
 -- the most bytes of a script
 abbrev pub most_bytes : ℕ
 most_bytes = 16777216

@@ -18,13 +18,14 @@ use Rattle.cq_top.specs.declared.serving.Serving.{Serving}
 use Rattle.cq_top.specs.declared.status.Status.{Status}
 use Rattle.cq_top.specs.declared.status.Status.TheVariants.{Done, Usage, ReadFault, WriteFault, Memory, TooLong}
 use Rattle.cq_top.specs.Outputs.{texts, IsPart}
-use Rattle.cq_top.specs.Scripts.{start, AnswersTo}
+use Rattle.cq_top.specs.Scripts.{start, node_count, AnswersTo}
 
 -- over workers that were handed in so: the answers and the journals fit together, and the coordinator keeps its groups and stores
 pub record IsServingOver {X : Type 0} (state : X → StoreState) (entry : List (Worker X)) (s : Serving X) : Type 0 where
-  pub consistent : IsConsistent rules (run_of entry) (environment s.coordinator) s.answers (journals s.coordinator)
+  pub nodes : s.coordinator.cluster.nodes ≡ node_count
+  pub consistent : IsConsistent rules (run_of node_count entry) (environment s.coordinator) s.answers (journals s.coordinator)
   pub sound : IsSound state s.coordinator.cluster
-  pub workers : AreWorkers state entry s.coordinator.cluster.groups.items s.coordinator.cluster.workers.items
+  pub workers : AreWorkers state node_count entry s.coordinator.cluster.groups.items s.coordinator.cluster.workers.items
 
 -- the same, over some workers
 abbrev pub IsServing : {X : Type 0} → (X → StoreState) → Serving X → Type 0

@@ -2,7 +2,7 @@ ghost use Rattle.std.specs.Prelude.{◌≡◌, ◌<◌, ◌≤◌, ◌↔◌, �
 ghost use Rattle.cq_store.specs.declared.worker.Worker.{Worker};
 ghost use Rattle.cq_cluster.specs.Cluster.{AreIdle};
 ghost use Rattle.cq_cluster.specs.Ending.{IsFinal};
-ghost use Rattle.cq_top.specs.Scripts.{Serves};
+ghost use Rattle.cq_top.specs.Scripts.{node_count, Serves};
 ghost use Rattle.cq_top.specs.Serving.{IsServing, IsServingOver, IsShownBy, IsReadingEnd, IsRunEnd, BlamesSink, BlamesSource};
 ghost use Rattle.cq_top.specs.Runs.{IsEmptyLog, IsWhole, Stand, IsMisused, HasCause, MayEnd, Writes};
 
@@ -32,7 +32,7 @@ fn close<S: Store>(serving: Serving<S>, workers: &mut Vec<Worker<S>>, log: &mut 
     ensures answers { log.new.answers ≡ serving.answers }
     ensures whole { (entry : List (Worker S)) → IsServingOver S.state entry serving → IsWhole entry log.new }
     ensures stand { (entry : List (Worker S)) → IsServingOver S.state entry serving → Stand entry log.new }
-    ensures last { (entry : List (Worker S)) → IsServingOver S.state entry serving → IsFinal S.state entry log.new.catalog log.new.journals.list workers.new.items }
+    ensures last { (entry : List (Worker S)) → IsServingOver S.state entry serving → IsFinal S.state node_count entry log.new.catalog log.new.journals.list workers.new.items }
 {
     let Serving {
         coordinator,
@@ -58,7 +58,7 @@ fn run_script<S: Store, I: Source, K: Sink, G: Gate>(
     log: &mut RunLog<S>,
 ) -> Status
     requires idle { AreIdle S.state workers.old.items }
-    requires both { 2 ≤ length workers.old.items }
+    requires enough { node_count ≤ length workers.old.items }
     requires fresh { IsEmptyLog log.old }
     ensures end { IsReadingEnd result }
     ensures whole { IsWhole workers.old.items log.new }
@@ -67,7 +67,7 @@ fn run_script<S: Store, I: Source, K: Sink, G: Gate>(
     ensures shown { (before : List ℕ) → (K.shown sink.old).written ≡ Some before → IsShownBy result before (K.shown sink.new) log.new.answers }
     ensures source { BlamesSource result (I.told source.old) (I.told source.new) }
     ensures sink { BlamesSink result (K.shown sink.old) (K.shown sink.new) }
-    ensures last { IsFinal S.state workers.old.items log.new.catalog log.new.journals.list workers.new.items }
+    ensures last { IsFinal S.state node_count workers.old.items log.new.catalog log.new.journals.list workers.new.items }
 {
     if log.journals.reserve(MOST_GROUPS).is_err() {
         return Status::Memory;
@@ -98,7 +98,7 @@ fn run_words<S: Store, I: Source, K: Sink, G: Gate>(
     ensures shown { (before : List ℕ) → (K.shown sink.old).written ≡ Some before → IsShownBy result before (K.shown sink.new) log.new.answers }
     ensures source { BlamesSource result (I.told source.old) (I.told source.new) }
     ensures sink { BlamesSink result (K.shown sink.old) (K.shown sink.new) }
-    ensures last { IsFinal S.state workers.old.items log.new.catalog log.new.journals.list workers.new.items }
+    ensures last { IsFinal S.state node_count workers.old.items log.new.catalog log.new.journals.list workers.new.items }
 {
     if !words.is_empty() || workers.len() < 2 {
         return Status::Usage;
@@ -123,7 +123,7 @@ pub fn run_over<R: Threads + Wait + Sync, S: Store, I: Source, K: Sink, G: Gate>
     ensures whole { IsWhole workers.old.items log.new }
     ensures serves { (bytes : List ℕ) → (I.told source.old).left ≡ Some bytes → Serves result bytes (I.told source.new).left log.new.answers }
     ensures writes { (before : List ℕ) → (K.shown sink.old).written ≡ Some before → Writes (MayEnd (length words.now) (length workers.old.items) (I.told source.old) (I.told source.new)) result log.new.answers before (K.shown sink.new).written }
-    ensures last { IsFinal S.state workers.old.items log.new.catalog log.new.journals.list workers.new.items }
+    ensures last { IsFinal S.state node_count workers.old.items log.new.catalog log.new.journals.list workers.new.items }
     ensures cause { HasCause result (length words.now) (length workers.old.items) (I.told source.old) (I.told source.new) (K.shown sink.old) (K.shown sink.new) }
 {
     let status = run_words(alloc, words, source, sink, gate, workers, log);
@@ -150,7 +150,7 @@ pub fn run<R: Threads + Wait + Sync, S: Source, K: Sink, G: Gate>(
     ensures whole { IsWhole workers.old.items log.new }
     ensures serves { (bytes : List ℕ) → (S.told source.old).left ≡ Some bytes → Serves result bytes (S.told source.new).left log.new.answers }
     ensures writes { (before : List ℕ) → (K.shown sink.old).written ≡ Some before → Writes (MayEnd (length words.now) (length workers.old.items) (S.told source.old) (S.told source.new)) result log.new.answers before (K.shown sink.new).written }
-    ensures last { IsFinal ⟦<Box<dyn Store + Send> as Store>⟧.state workers.old.items log.new.catalog log.new.journals.list workers.new.items }
+    ensures last { IsFinal ⟦<Box<dyn Store + Send> as Store>⟧.state node_count workers.old.items log.new.catalog log.new.journals.list workers.new.items }
     ensures cause { HasCause result (length words.now) (length workers.old.items) (S.told source.old) (S.told source.new) (K.shown sink.old) (K.shown sink.new) }
 {
     run_over(rt, alloc, words, source, sink, gate, workers, log)

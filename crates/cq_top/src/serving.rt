@@ -1,6 +1,6 @@
 ghost use Rattle.std.specs.Prelude.{◌≡◌, ◌<◌, ◌+◌, ◌≤◌, ◌^◌, ◌⊎◌, [], ◌∷◌, ◌++◌, length, IfOk, OnOk, OnErr};
 ghost use Rattle.cq_cluster.specs.Cluster.{AreIdle};
-ghost use Rattle.cq_cluster.specs.Room.{nodes};
+ghost use Rattle.cq_top.specs.Scripts.{node_count};
 ghost use Rattle.cq_top.specs.Serving.{IsServing, IsServingOver, KeepsServing, AnswersNext};
 
 use cq_answer::{Answer, Answered, AnsweredList, Fault, Settings};
@@ -19,6 +19,9 @@ const FIRST_SETTINGS: Settings = Settings {
     shard_count: 32,
     pool: 16,
 };
+
+/// How many workers a run uses.
+const NODES: u32 = 2;
 
 /// A run in the middle: its coordinator, and the answers so far.
 #[derive(Drop)]
@@ -44,13 +47,13 @@ impl<S: Store> Serving<S> {
     /// Before the first statement: no table, the first settings and no answer, over these workers. Takes no memory.
     pub fn new(alloc: Global, workers: Vec<Worker<S>>) -> Serving<S>
         requires idle { AreIdle S.state workers.items }
-        requires both { nodes ≤ length workers.items }
+        requires enough { node_count ≤ length workers.items }
         ensures serving { IsServingOver S.state workers.items result }
         ensures fresh { result.answers ≡ [] }
     {
         Serving {
             coordinator: Coordinator {
-                cluster: Cluster::new(alloc, workers),
+                cluster: Cluster::new(alloc, workers, NODES),
                 settings: FIRST_SETTINGS,
             },
             answers: AnsweredList::new(alloc),

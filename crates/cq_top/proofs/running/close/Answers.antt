@@ -1,5 +1,6 @@
-use Rattle.std.proofs.Common.{arith, sym, subst}
+use Rattle.std.proofs.Common.{ℕ, arith, sym, subst}
 use Rattle.cq_catalog.specs.Contents.{Contents}
+use Rattle.cq_cluster.specs.Cluster.{AreWorkers}
 use Rattle.cq_cluster.specs.Ending.{IsFinal}
 use Rattle.cq_coordinator.specs.Coordination.{environment, journals}
 use Rattle.cq_top.proofs.RunLaws.{whole_of, stand_of}
@@ -21,4 +22,7 @@ returns-clause-stand g c = λ entry s.
 
 pub returns-clause-last : goal.returns-clause-last
 returns-clause-last g c = λ entry s.
-    subst (λ (v : Contents). IsFinal g.S.Store.state entry v c.close-catalog.new.journals.list c.close-catalog.result.workers.items) (sym c.close-catalog.ensures.catalog) (c.close-catalog.ensures.stores entry s.workers)
+    let cluster = c.args.serving.coordinator.cluster in
+    let workers = subst (λ (n : ℕ). AreWorkers g.S.Store.state n entry cluster.groups.items cluster.workers.items) (sym s.nodes) s.workers in
+    subst (λ (n : ℕ). IsFinal g.S.Store.state n entry c.close-catalog.result.catalog c.close-catalog.new.journals.list c.close-catalog.result.workers.items) s.nodes
+    (subst (λ (v : Contents). IsFinal g.S.Store.state cluster.nodes entry v c.close-catalog.new.journals.list c.close-catalog.result.workers.items) (sym c.close-catalog.ensures.catalog) (c.close-catalog.ensures.stores entry workers))
