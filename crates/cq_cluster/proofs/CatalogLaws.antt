@@ -21,10 +21,10 @@ use Rattle.cq_store.specs.Stores.{StoreState}
 use Rattle.cq_planning.specs.Database.{shape_in}
 use Rattle.cq_cluster.specs.Room.{shards_on, taken_by, taken_in, taken}
 use Rattle.cq_group.specs.declared.group.GroupState.{GroupState}
-use Rattle.cq_group.specs.Groups.{Outline, outlines, shape_at, stores_of}
-use Rattle.cq_cluster.specs.Cluster.{IsShardOf, held, AreGroups}
+use Rattle.cq_group.specs.Groups.{IsKept, IsQuiet, IsSteady, Outline, outlines, shape_at, stores_of}
+use Rattle.cq_cluster.specs.Cluster.{IsShardOf, IsReferenceGroup, IsCovered, IsReferenced, held, everywhere, AreGroups}
 use Rattle.cq_cluster.specs.Steps.{Goes, AreGone, more_at, nothing_more, AreOpened}
-use Rattle.cq_cluster.proofs.GoneLaws.{held_gone}
+use Rattle.cq_cluster.proofs.GoneLaws.{held_gone, everywhere_gone}
 
 -- ---- lists
 
@@ -94,7 +94,39 @@ placed_table c colocation i table (o ∷ os) all h = elim (eqb_tells o.0 table) 
   | inr z ↦ (let r = placed_table c colocation i table os all.1 (rw z.0 at h) in (r.0, r.1, r.2, rw z.0 r.3))
 ]
 
+-- a reference table's shard group is one of the catalogue's
+placed_group : (c : Contents) (table group shard : ℕ) → IsWhole c → place_at c table ≡ Reference group shard → group < c.groups
+placed_group c table group shard whole p = by_table (slice_get c.tables table) refl p
+  where
+    by_table : (o : Option TableInfo) → slice_get c.tables table ≡ o → place_in o ≡ Reference group shard → group < c.groups
+    by_table None s q = cc
+    by_table (Some t) s q = (subst (IsPlaced c) q (whole.tables table t s).placed).0
+
+-- what covers a group, in a catalogue that keeps it
+pub covered_again : (c next : Contents) (group : ℕ) → ((k : ℕ) (co : Colocation) → slice_get c.colocations k ≡ Some co → slice_get next.colocations k ≡ Some co) →
+    ((table shard : ℕ) → place_at c table ≡ Reference group shard → place_at next table ≡ Reference group shard) → IsCovered c group ⊎ IsReferenced c group → IsCovered next group ⊎ IsReferenced next group
+covered_again c next group kept still (inl was) = inl (record { colocation = was.colocation; i = was.i; co = was.co; there = kept was.colocation was.co was.there; within = was.within; is = was.is })
+covered_again c next group kept still (inr was) = inr (record { table = was.table; shard = was.shard; placed = still was.table was.shard was.placed })
+
 module _ {X : Type 0} (state : X → StoreState) (nodes : ℕ) where
+  -- ---- a reference table's group goes on
+
+  pub reference_still : (c next : Contents) (table group shard : ℕ) (g h : GroupState X) → IsReferenceGroup state nodes c table group shard g → IsKept state h → IsQuiet state h → IsSteady state h →
+      h.journal.group ≡ g.journal.group → h.journal.opening ≡ g.journal.opening → h.node ≡ g.node → outlines h ≡ outlines g → shape_in next table ≡ shape_in c table → IsReferenceGroup state nodes next table group shard h
+  reference_still c next table group shard g h at kept quiet steady number opening node same shape = record {
+    kept = kept;
+    quiet = quiet;
+    steady = steady;
+    number = number ∙ at.number;
+    opening = opening ∙ at.opening;
+    node = node ∙ at.node;
+    only = same ∙ at.only ∙ ap (λ (v : Shape). (table, v, shard, nodes) ∷ []) (sym shape);
+  }
+
+  reference_goes : (c next : Contents) (table group shard : ℕ) (g h : GroupState X) → IsReferenceGroup state nodes c table group shard g → Goes state [] g h → shape_in next table ≡ shape_in c table → IsReferenceGroup state nodes next table group shard h
+  reference_goes c next table group shard g h at goes shape =
+      reference_still c next table group shard g h at goes.kept goes.quiet goes.steady (ap (λ (j : Journal). j.group) goes.journal) (ap (λ (j : Journal). j.opening) goes.journal) goes.node (goes.outlined ∙ append-nil (outlines g)) shape
+
   -- ---- groups that go on as they were
 
   pub groups_again : (c : Contents) (old new : List (GroupState X)) → AreGone state nothing_more old new → AreGroups state nodes c old → AreGroups state nodes c new
@@ -114,9 +146,10 @@ module _ {X : Type 0} (state : X → StoreState) (nodes : ℕ) where
           shards = subst (AllByRecursion (IsShardOf c colocation i)) (sym same) at.shards;
           complete = λ table a first_shard p. subst (λ (os : List Outline). IsSome (shape_at os table)) (sym same) (at.complete table a first_shard p);
         };
+    references = λ table group shard g placed s. let was = gone.each group g s in reference_goes c c table group shard was.0 g (all.references table group shard was.0 placed was.1) was.2 refl;
     covered = all.covered;
     apart = all.apart;
-    held = λ place h. held_gone state place old new gone ∙ all.held place h;
+    held = λ place h. let own = held_gone state place old new gone in let all_nodes = everywhere_gone state nothing_more old new gone (λ h g s node. refl) in omega (arith, own, all_nodes, all.held place h);
   }
 
   -- ---- a new co-location group
@@ -147,6 +180,20 @@ module _ {X : Type 0} (state : X → StoreState) (nodes : ℕ) where
           by_node false e = omega (arith, e)
   held_empty place first (g ∷ gs) opened all = ap (λ n. cond (nat_eq g.node (place + 1)) (length (stores_of g)) 0 + n) (held_empty place first gs opened all)
 
+  pub everywhere_empty : (first : ℕ) (old opened : List (GroupState X)) → AreOpened state nodes first opened → everywhere (old ++ opened) ≡ everywhere old
+  everywhere_empty first [] opened all = none opened (λ i g s. (all i g s).tables)
+    where
+      by_node : (b : Bool) {m : ℕ} → m ≡ 0 → cond b 0 0 + m ≡ 0
+      by_node true e = omega (arith, e)
+      by_node false e = omega (arith, e)
+
+      none : (gs : List (GroupState X)) → ((i : ℕ) (g : GroupState X) → slice_get gs i ≡ Some g → g.tables.items ≡ []) → everywhere gs ≡ 0
+      none [] empty = refl
+      none (g ∷ gs) empty =
+          let no : length (outlines g) ≡ 0 = rw (empty 0 g refl) refl in
+          rw no (by_node (nat_eq g.node 0) (none gs (λ i h s. empty (suc i) h s)))
+  everywhere_empty first (g ∷ gs) opened all = ap (λ n. cond (nat_eq g.node 0) (length (outlines g)) 0 + n) (everywhere_empty first gs opened all)
+
   pub groups_opened : (c : Contents) (kind : Kind) (count : ℕ) (joinable : Bool) (old opened : List (GroupState X)) → IsWhole c → AreGroups state nodes c old → length opened ≡ count → AreOpened state nodes c.groups opened →
       AreGroups state nodes (with_colocation c kind count joinable) (old ++ opened)
   groups_opened c kind count joinable old opened whole all number fresh =
@@ -175,9 +222,14 @@ module _ {X : Type 0} (state : X → StoreState) (nodes : ℕ) where
                 complete = λ table a first_shard p. absurd (beyond table a colocation first_shard p new.0);
               }
         ];
+        references = λ table group shard g placed s.
+            let low = placed_group c table group shard whole placed in
+            let g_was : slice_get old group ≡ Some g = sym (before_more old opened group (omega (arith, low, all.count))) ∙ s in
+            let at = all.references table group shard g placed g_was in
+            record { kept = at.kept; quiet = at.quiet; steady = at.steady; number = at.number; opening = at.opening; node = at.node; only = at.only };
         covered = λ group h. elim (cases_lt group c.groups) [
-          | inl l ↦ (let was = all.covered group l in record { colocation = was.colocation; i = was.i; co = was.co; there = still_there c.colocations (more ∷ []) was.colocation was.co was.there; within = was.within; is = was.is })
-          | inr l ↦ record { colocation = length c.colocations; i = group - c.groups; co = more; there = last_there c.colocations more; within = omega (arith, h, l); is = omega (arith, l) }
+          | inl l ↦ covered_again c (with_colocation c kind count joinable) group (λ k co there. still_there c.colocations (more ∷ []) k co there) (λ table shard p. p) (all.covered group l)
+          | inr l ↦ inl (record { colocation = length c.colocations; i = group - c.groups; co = more; there = last_there c.colocations more; within = omega (arith, h, l); is = omega (arith, l) })
         ];
         apart = λ j k a b x y s t l m e. elim (got_more c.colocations more j a s) [
           | inl p ↦ elim (got_more c.colocations more k b t) [
@@ -189,7 +241,11 @@ module _ {X : Type 0} (state : X → StoreState) (nodes : ℕ) where
             | inr q ↦ p.0 ∙ sym q.0
           ]
         ];
-        held = λ place h. held_empty place c.groups old opened fresh ∙ all.held place h ∙ sym (placed_below c c.tables (λ i t s. (whole.tables i t s).placed) more place);
+        held = λ place h.
+            let own = held_empty place c.groups old opened fresh in
+            let all_nodes = everywhere_empty c.groups old opened fresh in
+            let same = placed_below c c.tables (λ i t s. (whole.tables i t s).placed) more place in
+            omega (arith, own, all_nodes, all.held place h, same);
       }
     where
       beyond : (table a colocation first_shard : ℕ) → place_at c table ≡ Distributed a colocation first_shard → colocation ≡ length c.colocations → ⊥
@@ -239,7 +295,7 @@ more_inside first o n i h =
     rw (least, most, offset) refl
 
 -- a group outside has no table more
-more_outside : (first : ℕ) (o : ℕ → Outline) (n h : ℕ) → ((j : ℕ) → j < n → h ≢ first + j) → more_at first o n h ≡ []
+pub more_outside : (first : ℕ) (o : ℕ → Outline) (n h : ℕ) → ((j : ℕ) → j < n → h ≢ first + j) → more_at first o n h ≡ []
 more_outside first o n h out = elim (two_ways (nat_le first h)) [
   | inl t ↦ elim (two_ways (nat_lt h (first + n))) [
     | inl u ↦
@@ -264,6 +320,10 @@ module _ {X : Type 0} (state : X → StoreState) (nodes : ℕ) where
       let is_here : place_at next table ≡ place = ap place_in (own_place c.tables table place info there) in
       let kept_shape : (t : ℕ) → shape_in next t ≡ shape_in c t = λ t. same_shape c.tables table t place in
       let kept_place : (t : ℕ) → t ≢ table → place_at next t ≡ place_at c t = λ t ne. ap place_in (other_place c.tables table t place ne) in
+      let outside : (h : ℕ) (g : GroupState X) → slice_get old h ≡ Some g → g.node ≡ 0 → more_at co.first_group o co.count h ≡ [] =
+      λ h g s node. more_outside co.first_group o co.count h (λ j l e.
+          let on_one = (all.each colocation j co g joins l (subst (λ n. slice_get old n ≡ Some g) e s)).node in
+          omega (arith, on_one, node)) in
       record {
         count = gone.count ∙ all.count;
         each = λ k i kind g k_there within s.
@@ -306,13 +366,30 @@ module _ {X : Type 0} (state : X → StoreState) (nodes : ℕ) where
                     ]);
                   }
             ];
-        covered = λ group h. let was = all.covered group h in record { colocation = was.colocation; i = was.i; co = was.co; there = was.there; within = was.within; is = was.is };
+        references = λ t group shard g placed s.
+            let apart : t ≢ table = λ e. not_both group shard at colocation c.next_shard (sym placed ∙ ap (place_at next) e ∙ is_here) in
+            let was = gone.each group g s in
+            let is = all.references t group shard was.0 (sym (kept_place t apart) ∙ placed) was.1 in
+            let same = subst (λ (v : List Outline). Goes state v was.0 g) (outside group was.0 was.1 is.node) was.2 in
+            reference_goes state nodes c next t group shard was.0 g is same (kept_shape t);
+        covered = λ group h. covered_again c next group (λ k v s. s) (λ t shard p. kept_place t (λ e. not_local group shard (sym p ∙ ap (place_at c) e ∙ was_local)) ∙ p) (all.covered group h);
         apart = all.apart;
-        held = λ p h. counted p h ∙ ap (λ n. n + shards_on nodes co.count p) (all.held p h) ∙ sym (taken_placed nodes c.colocations p c.tables table place info there local ∙ ap (λ (v : Option Colocation). taken nodes c p + shards_on nodes (count_in v) p) joins);
+        held = λ p h.
+            let own = counted p h in
+            let all_nodes = everywhere_gone state (more_at co.first_group o co.count) old new gone outside in
+            let more : taken_in nodes c.colocations p (with_place c.tables table place) ≡ taken nodes c p + shards_on nodes co.count p =
+            taken_placed nodes c.colocations p c.tables table place info there local ∙ ap (λ (v : Option Colocation). taken nodes c p + shards_on nodes (count_in v) p) joins in
+            omega (arith, own, all_nodes, all.held p h, more);
       }
     where
       same_colocation : (a k f a' k' f' : ℕ) → Distributed a k f ≡ Distributed a' k' f' → k ≡ k'
       same_colocation a k f a' k' f' e = cc
+
+      not_both : (group shard a k f : ℕ) → Reference group shard ≡ Distributed a k f → ⊥
+      not_both group shard a k f e = cc
+
+      not_local : (group shard : ℕ) → Reference group shard ≡ Local → ⊥
+      not_local group shard e = cc
 
       local_or : (at k f : ℕ) → Distributed at k f ≡ Local → ⊥
       local_or at k f e = cc

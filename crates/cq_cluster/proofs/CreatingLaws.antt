@@ -17,7 +17,7 @@ use Rattle.cq_catalog.specs.declared.error.CatalogError.{CatalogError}
 use Rattle.cq_catalog.specs.declared.error.CatalogError.TheVariants.{NameTaken, Limit}
 use Rattle.cq_catalog.specs.declared.error.Limited.TheVariants.{Columns, Tables}
 use Rattle.cq_catalog.specs.declared.info.Colocation.{Colocation}
-use Rattle.cq_catalog.specs.declared.info.Place.TheVariants.{Local, Distributed}
+use Rattle.cq_catalog.specs.declared.info.Place.TheVariants.{Local, Distributed, Reference}
 use Rattle.cq_catalog.specs.declared.info.TableInfo.{TableInfo}
 use Rattle.cq_planning.specs.Database.{shape_in}
 use Rattle.cq_cluster.specs.Room.{taken_in}
@@ -26,7 +26,7 @@ use Rattle.cq_group.specs.declared.group.GroupState.{GroupState}
 use Rattle.cq_group.specs.Groups.{Outline, outlines}
 use Rattle.cq_cluster.specs.declared.cluster.Cluster.{Cluster}
 use Rattle.cq_cluster.specs.Cluster.{IsShardOf, AreGroups, IsSound}
-use Rattle.cq_cluster.proofs.CatalogLaws.{got_more, still_there, all_weaker}
+use Rattle.cq_cluster.proofs.CatalogLaws.{got_more, still_there, all_weaker, covered_again}
 use Rattle.cq_cluster.proofs.DistributeLaws.{memory_is}
 
 -- ---- what the catalogue doesn't refuse
@@ -95,6 +95,28 @@ module _ (c : Contents) (name : List ℕ) (columns : List Column) (key : List �
         | inr new ↦ absurd (local_or (ap (λ (u : TableInfo). u.place) new.1 ∙ q))
       ]
 
+  -- and its reference tables
+  reference_kept : (table group shard : ℕ) → place_at c table ≡ Reference group shard → (place_at (with_table c name columns key) table ≡ Reference group shard) × (shape_in (with_table c name columns key) table ≡ shape_in c table)
+  reference_kept table group shard p = by_item (slice_get c.tables table) refl p
+    where
+      by_item : (o : Option TableInfo) → slice_get c.tables table ≡ o → place_in o ≡ Reference group shard →
+          (place_at (with_table c name columns key) table ≡ Reference group shard) × (shape_in (with_table c name columns key) table ≡ shape_in c table)
+      by_item None e q = cc
+      by_item (Some t) e q = (ap place_in (still_there c.tables (more ∷ []) table t e) ∙ q, ap shape_of (still_there c.tables (more ∷ []) table t e) ∙ sym (ap shape_of e))
+
+  reference_before : (table group shard : ℕ) → place_at (with_table c name columns key) table ≡ Reference group shard → place_at c table ≡ Reference group shard
+  reference_before table group shard p = by_item (slice_get (c.tables ++ more ∷ []) table) refl p
+    where
+      local_or : Local ≡ Reference group shard → ⊥
+      local_or e = cc
+
+      by_item : (o : Option TableInfo) → slice_get (c.tables ++ more ∷ []) table ≡ o → place_in o ≡ Reference group shard → place_at c table ≡ Reference group shard
+      by_item None e q = cc
+      by_item (Some t) e q = elim (got_more c.tables more table t e) [
+        | inl old ↦ ap place_in old ∙ q
+        | inr new ↦ absurd (local_or (ap (λ (u : TableInfo). u.place) new.1 ∙ q))
+      ]
+
   taken_more : (nodes : ℕ) (cs : List Colocation) (place : ℕ) (ts : List TableInfo) → taken_in nodes cs place (ts ++ more ∷ []) ≡ taken_in nodes cs place ts
   taken_more nodes cs place [] = refl
   taken_more nodes cs place (t ∷ ts) = let further = taken_more nodes cs place ts in omega (arith, further)
@@ -119,7 +141,20 @@ module _ (c : Contents) (name : List ℕ) (columns : List Column) (key : List �
             shards = all_weaker (IsShardOf c colocation i) (IsShardOf (with_table c name columns key) colocation i) (shard_kept colocation i) (outlines g) at.shards;
             complete = λ table a first_shard p. at.complete table a first_shard (place_before table a colocation first_shard p);
           };
-      covered = λ group h. let was = all.covered group h in record { colocation = was.colocation; i = was.i; co = was.co; there = was.there; within = was.within; is = was.is };
+      references = λ table group shard g placed s.
+          let before = reference_before table group shard placed in
+          let at = all.references table group shard g before s in
+          let same = (reference_kept table group shard before).1 in
+          record {
+            kept = at.kept;
+            quiet = at.quiet;
+            steady = at.steady;
+            number = at.number;
+            opening = at.opening;
+            node = at.node;
+            only = at.only ∙ ap (λ (v : Shape). (table, v, shard, nodes) ∷ []) (sym same);
+          };
+      covered = λ group h. covered_again c (with_table c name columns key) group (λ k co there. there) (λ table shard p. (reference_kept table group shard p).0) (all.covered group h);
       apart = all.apart;
       held = λ place h. all.held place h ∙ sym (taken_more nodes c.colocations place c.tables);
     }

@@ -1,5 +1,5 @@
 -- The journals and the stores of a cluster's groups, once they are closed.
-use Rattle.std.proofs.Common.{◌≡◌, ◌≢◌, ◌⊎◌, inl, inr, ℕ, suc, ◌+◌, ◌-◌, ◌<◌, ◌≤◌, Bool, true, false, cond, List, [], ◌∷◌, ◌++◌, length, get_or, map, refl, sym, ap, subst, ◌∙◌, arith, All, Some, None, IsSome, slice_get, length-append}
+use Rattle.std.proofs.Common.{◌≡◌, ◌≢◌, ◌⊎◌, inl, inr, ℕ, suc, ◌+◌, ◌-◌, ◌<◌, ◌≤◌, Bool, true, false, cond, List, [], ◌∷◌, ◌++◌, length, get_or, map, refl, sym, ap, subst, ◌∙◌, arith, All, Some, None, IsSome, slice_get, length-append, append-nil}
 use Rattle.std.specs.Prelude.{nat_eq}
 use Rattle.std.specs.List.{AllByRecursion, AllZip, flat_map}
 use Rattle.std.proofs.lemmas.Bool.{ne_eqb}
@@ -14,19 +14,22 @@ use Rattle.cq_journal.specs.Journals.{replay}
 use Rattle.cq_journal.specs.declared.journal.Journal.{Journal}
 use Rattle.cq_journal.specs.Records.{Journal as Record}
 use Rattle.cq_catalog.specs.Contents.{Contents}
+use Rattle.cq_catalog.specs.Placement.{place_at}
 use Rattle.cq_catalog.specs.declared.info.Colocation.{Colocation}
+use Rattle.cq_catalog.specs.declared.info.Place.TheVariants.{Reference}
+use Rattle.cq_planning.specs.Database.{shape_in}
 use Rattle.cq_store.specs.Stores.{StoreState, IsSpare}
 use Rattle.cq_store.specs.declared.worker.Worker.{Worker}
 use Rattle.cq_group.specs.declared.group.GroupTable.{GroupTable}
 use Rattle.cq_group.specs.declared.group.GroupState.{GroupState}
-use Rattle.cq_group.specs.Groups.{Outline, outline, shape_at, entries_of, journal_of, stores_of, node_at, copies_of, AreReplicasFrom, IsReplica, IsTableKept, IsTableQuiet, IsKept}
+use Rattle.cq_group.specs.Groups.{Outline, outline, outlines, shape_at, entries_of, journal_of, stores_of, node_at, copies_of, AreReplicasFrom, IsReplica, IsTableKept, IsTableQuiet, IsKept}
 use Rattle.cq_group.specs.Groups.{AreDistinct as HaveNumbers}
-use Rattle.cq_cluster.specs.Cluster.{Either, node_of, IsShardOf, IsGroupOf, AreGroups, IsWaiting, AreWorkers}
-use Rattle.cq_cluster.specs.Closing.{stores_on, IsUsed, AreUsed, HasRoom, HaveRoom, AreElsewhere, HaveBack}
+use Rattle.cq_cluster.specs.Cluster.{Either, node_of, IsShardOf, IsGroupOf, IsReferenceGroup, IsCovered, IsReferenced, AreGroups, IsWaiting, held, everywhere, AreWorkers}
+use Rattle.cq_cluster.specs.Closing.{all_stores, stores_at, AreKept, HasRoom, HaveRoom, AreElsewhere, HaveBack}
 use Rattle.cq_group.specs.Resting.{journals_of}
-use Rattle.cq_cluster.specs.Ending.{record_of, IsShard, IsIn, AreDistinct, AreOfGroup, BeginWith, AreOnNode, IsFinal}
+use Rattle.cq_cluster.specs.Ending.{record_of, IsShard, IsIn, AreDistinct, AreOfGroup, IsCopy, AreOfReference, BeginWith, AreOnNode, IsFinal}
 use Rattle.cq_cluster.proofs.ListLaws.{only_item, item_at, there}
-use Rattle.cq_cluster.proofs.ClosingLaws.{stores_count}
+use Rattle.cq_cluster.proofs.ClosingLaws.{at_both, count_both, if_here, if_other}
 
 -- ---- the numbers of a group's tables
 
@@ -141,55 +144,212 @@ module _ {X : Type 0} (state : X → StoreState) (nodes : ℕ) (some : 0 < nodes
         once = distinct ts is.kept.distinct;
       }
 
+  -- ---- one group's stores on a node
+
+  -- what a closed group leaves on the node at a place: the store of a reference table, or the stores of its tables, or none
+  abbrev Leaves : Contents → ℕ → Journal → List X → Type 0
+  Leaves c place j own = Either (nat_eq j.opening 0) (AreOfReference c j (place + 1) (map state own)) (Either (nat_eq j.opening (place + 1)) (AreOfGroup c j (map state own)) (own ≡ []))
+
+  abbrev IsUsed : X → Type 0
+  IsUsed x = (0 < (state x).node) × ((state x).node ≤ nodes)
+
+  -- a group that is closed: its stores are on nodes that the run uses, and on each it leaves its own
+  record IsClosed (c : Contents) (g : GroupState X) : Type 0 where
+    kept : IsKept state g
+    used : AllByRecursion IsUsed (stores_of g)
+    own : (place : ℕ) → place < nodes → Leaves c place g.journal (stores_at state place (stores_of g))
+    count : (place : ℕ) → place < nodes → length (stores_at state place (stores_of g)) ≡ cond (nat_eq g.node (place + 1)) (length (stores_of g)) 0 + cond (nat_eq g.node 0) (length (outlines g)) 0
+
+  all_at : (place node : ℕ) (xs : List X) → AllByRecursion (λ (x : X). (state x).node ≡ node) xs → stores_at state place xs ≡ cond (nat_eq node (place + 1)) xs []
+  all_at place node [] all = elim (eqb_tells node (place + 1)) [ inl y ↦ rw y.0 refl | inr z ↦ rw z.0 refl ]
+  all_at place node (x ∷ xs) all =
+      let rest = all_at place node xs all.1 in
+      elim (eqb_tells node (place + 1)) [
+        | inl y ↦
+            ap (λ (v : List X). v ++ stores_at state place xs) (if_here state place x (all.0 ∙ y.1)) ∙ ap (λ (v : List X). x ∷ v) rest
+            ∙ ap (λ b. x ∷ cond b xs []) y.0 ∙ sym (ap (λ b. cond b (x ∷ xs) []) y.0)
+        | inr z ↦
+            ap (λ (v : List X). v ++ stores_at state place xs) (if_other state place x (λ e. z.1 (sym all.0 ∙ e))) ∙ rest
+            ∙ ap (λ b. cond b xs []) z.0 ∙ sym (ap (λ b. cond b (x ∷ xs) []) z.0)
+      ]
+
+  all_used : (node : ℕ) (xs : List X) → 0 < node → node ≤ nodes → AllByRecursion (λ (x : X). (state x).node ≡ node) xs → AllByRecursion IsUsed xs
+  all_used node [] low high all = tt
+  all_used node (x ∷ xs) low high all = ((omega (arith, all.0, low), omega (arith, all.0, high)), all_used node xs low high all.1)
+
+  -- a group's node is one of those that the run uses
+  within_nodes : (i : ℕ) (g : GroupState X) → g.node ≡ node_of nodes i → g.node ≤ nodes
+  within_nodes i g at = let low = mod_below i nodes some in omega (arith, at, low)
+
+  closed_one : (c : Contents) (colocation i : ℕ) (co : Colocation) (g : GroupState X) → slice_get c.colocations colocation ≡ Some co → i < co.count → IsGroupOf state nodes c colocation co i g → IsClosed c g
+  closed_one c colocation i co g there_is within is =
+      let node = is.node in
+      let low : 0 < g.node = omega (arith, node) in
+      let all = recursion_from_All (λ (x : X). (state x).node ≡ g.node) (stores_of g) (stores_on_node state g is.kept low) in
+      let opened : g.journal.opening ≡ g.node = is.opening ∙ sym is.node in
+      let off : nat_eq g.node 0 ≡ false = ne_eqb g.node 0 (λ e. absurd (omega (arith, e, low))) in
+      let off_journal : nat_eq g.journal.opening 0 ≡ false = ap (λ n. nat_eq n 0) opened ∙ off in
+      record {
+        kept = is.kept;
+        used = all_used g.node (stores_of g) low (within_nodes i g is.node) all;
+        own = λ place h.
+            let own = stores_at state place (stores_of g) in
+            let exact = all_at place g.node (stores_of g) all in
+            rw off_journal (elim (eqb_tells g.journal.opening (place + 1)) [
+              | inl y ↦
+                  let yes : nat_eq g.node (place + 1) ≡ true = sym (ap (λ n. nat_eq n (place + 1)) opened) ∙ y.0 in
+                  let same : own ≡ stores_of g = exact ∙ ap (λ b. cond b (stores_of g) []) yes in
+                  rw y.0 (subst (λ (v : List X). AreOfGroup c g.journal (map state v)) (sym same) (of_group c colocation i co g there_is within is))
+              | inr z ↦
+                  let no : nat_eq g.node (place + 1) ≡ false = sym (ap (λ n. nat_eq n (place + 1)) opened) ∙ z.0 in
+                  rw z.0 (exact ∙ ap (λ b. cond b (stores_of g) []) no)
+            ]);
+        count = λ place h. let exact = ap length (all_at place g.node (stores_of g) all) in rw off (counted (nat_eq g.node (place + 1)) (stores_of g) exact);
+      }
+    where
+      counted : (b : Bool) (xs : List X) {n : ℕ} → n ≡ length (cond b xs []) → n ≡ cond b (length xs) 0 + 0
+      counted true xs e = omega (arith, e)
+      counted false xs e = omega (arith, e)
+
+  -- ---- a reference table's stores
+
+  record IsOne (node : ℕ) (es : List Entry) (table : ℕ) (shape : Shape) (shard : ℕ) (own : List X) : Type 0 where
+    store : X
+    only : own ≡ store ∷ []
+    replica : IsReplica node es table shape shard (state store)
+    quiet : (state store).staged ≡ []
+
+  module _ (es : List Entry) (table : ℕ) (shape : Shape) (shard : ℕ) where
+    here_node : (from : ℕ) (x : X) (xs : List X) → AreReplicasFrom from 0 es table shape shard (map state (x ∷ xs)) → (state x).node ≡ from + 1
+    here_node from x xs all = all.0.of_node
+
+    none_below : (from place : ℕ) (xs : List X) → AreReplicasFrom from 0 es table shape shard (map state xs) → place < from → stores_at state place xs ≡ []
+    none_below from place [] all low = refl
+    none_below from place (x ∷ xs) all low =
+        let node = here_node from x xs all in
+        ap (λ (v : List X). v ++ stores_at state place xs) (if_other state place x (λ e. absurd (omega (arith, e, node, low)))) ∙ none_below (from + 1) place xs all.1 (omega (arith, low))
+
+    one_at : (from place : ℕ) (xs : List X) → AreReplicasFrom from 0 es table shape shard (map state xs) → AllByRecursion (λ (x : X). (state x).staged ≡ []) xs → from ≤ place → place < from + length xs → IsOne (place + 1) es table shape shard (stores_at state place xs)
+    one_at from place [] all quiet low high = absurd (omega (arith, low, high))
+    one_at from place (x ∷ xs) all quiet low high =
+        let node = here_node from x xs all in
+        elim (eqb_tells place from) [
+          | inl y ↦ record {
+            store = x;
+            only = ap (λ (v : List X). v ++ stores_at state place xs) (if_here state place x (omega (arith, node, y.1))) ∙ ap (λ (v : List X). x ∷ v) (none_below (from + 1) place xs all.1 (omega (arith, y.1)));
+            replica = record { of_node = omega (arith, node, y.1); of_shard = all.0.of_shard; holds = all.0.holds };
+            quiet = quiet.0;
+          }
+          | inr z ↦
+              let rest = one_at (from + 1) place xs all.1 quiet.1 (omega (arith, z.1, low)) (omega (arith, high)) in
+              record {
+                store = rest.store;
+                only = ap (λ (v : List X). v ++ stores_at state place xs) (if_other state place x (λ e. absurd (z.1 (omega (arith, e, node))))) ∙ rest.only;
+                replica = rest.replica;
+                quiet = rest.quiet;
+              }
+        ]
+
+    used_from : (from : ℕ) (xs : List X) → AreReplicasFrom from 0 es table shape shard (map state xs) → from + length xs ≤ nodes → AllByRecursion IsUsed xs
+    used_from from [] all high = tt
+    used_from from (x ∷ xs) all high = let node = here_node from x xs all in ((omega (arith, node), omega (arith, node, high)), used_from (from + 1) xs all.1 (omega (arith, high)))
+
+  only_outline : (ts : List (GroupTable X)) (o : Outline) → map outline ts ≡ o ∷ [] → (t : GroupTable X) × (ts ≡ t ∷ []) × (outline t ≡ o)
+  only_outline [] o e = cc
+  only_outline (t ∷ []) o e = (t, refl, cc)
+  only_outline (t ∷ u ∷ ts) o e = cc
+
+  closed_all : (c : Contents) (table group shard : ℕ) (g : GroupState X) → place_at c table ≡ Reference group shard → IsReferenceGroup state nodes c table group shard g → IsClosed c g
+  closed_all c table group shard g placed is =
+      let shape = shape_in c table in
+      let t = only_outline g.tables.items (table, shape, shard, nodes) is.only in
+      let es = entries_of g in
+      let stores = t.0.stores.items in
+      let kept : IsTableKept state g.node (copies_of g) es t.0 = (subst (AllByRecursion (IsTableKept state g.node (copies_of g) es)) t.1 is.kept.tables).0 in
+      let quiet : IsTableQuiet state t.0 = (subst (AllByRecursion (IsTableQuiet state)) t.1 is.quiet).0 in
+      let number : length stores ≡ nodes = ap (λ (o : Outline). o.3) t.2 in
+      let on_all : AreReplicasFrom 0 0 es t.0.table t.0.shape t.0.shard (map state stores) = subst (λ n. AreReplicasFrom 0 n es t.0.table t.0.shape t.0.shard (map state stores)) is.node kept.replicas in
+      let exact : stores_of g ≡ stores = ap (λ (ts : List (GroupTable X)). flat_map (λ (u : GroupTable X). u.stores.items) ts) t.1 ∙ append-nil stores in
+      let one : (place : ℕ) → place < nodes → IsOne (place + 1) es t.0.table t.0.shape t.0.shard (stores_at state place (stores_of g)) =
+      λ place h. subst (λ (v : List X). IsOne (place + 1) es t.0.table t.0.shape t.0.shard (stores_at state place v)) (sym exact) (one_at es t.0.table t.0.shape t.0.shard 0 place stores on_all quiet (omega arith) (omega (arith, h, number))) in
+      record {
+        kept = is.kept;
+        used = subst (AllByRecursion IsUsed) (sym exact) (used_from es t.0.table t.0.shape t.0.shard 0 stores on_all (omega (arith, number)));
+        own = λ place h.
+            let here = one place h in
+            rw is.opening (record {
+              table = table;
+              shard = shard;
+              placed = placed ∙ ap (λ n. Reference n shard) (sym is.number);
+              store = state here.store;
+              only = ap (map state) here.only;
+              copy = record {
+                of_node = here.replica.of_node;
+                of_shard = here.replica.of_shard ∙ ap (λ (o : Outline). o.2) t.2;
+                holds = here.replica.holds ∙ ap (λ (o : Outline). replay o.0 o.1 es) t.2;
+                nothing = here.quiet;
+              };
+            });
+        count = λ place h.
+            let single : length (stores_at state place (stores_of g)) ≡ 1 = ap length (one place h).only in
+            let tables : length (outlines g) ≡ 1 = ap length is.only in
+            let other : nat_eq 0 (place + 1) ≡ false = ne_eqb 0 (place + 1) (λ e. absurd (omega (arith, e))) in
+            rw (is.node, other) (omega (arith, single, tables));
+      }
+
   -- ---- all groups
 
   all_from : {Y : Type 0} (P : Y → Type 0) (ys : List Y) → ((k : ℕ) (y : Y) → slice_get ys k ≡ Some y → P y) → AllByRecursion P ys
   all_from P [] each = tt
   all_from P (y ∷ ys) each = (each 0 y refl, all_from P ys (λ k z s. each (suc k) z s))
 
-  -- the group at a place is one of a co-location group
-  record IsOneOf (c : Contents) (h : ℕ) (g : GroupState X) : Type 0 where
-    colocation : ℕ
-    i : ℕ
-    co : Colocation
-    there_is : slice_get c.colocations colocation ≡ Some co
-    within : i < co.count
-    place : h ≡ co.first_group + i
-    is : IsGroupOf state nodes c colocation co i g
+  closed_groups : (c : Contents) (groups : List (GroupState X)) → AreGroups state nodes c groups → AllByRecursion (IsClosed c) groups
+  closed_groups c groups all = all_from (IsClosed c) groups (λ h g s. by_cover h g s (all.covered h (let below = slice_get_within groups h g s in omega (arith, below, all.count))))
+    where
+      by_cover : (h : ℕ) (g : GroupState X) → slice_get groups h ≡ Some g → IsCovered c h ⊎ IsReferenced c h → IsClosed c g
+      by_cover h g s (inl was) = closed_one c was.colocation was.i was.co g was.there was.within (all.each was.colocation was.i was.co g was.there was.within (subst (λ n. slice_get groups n ≡ Some g) was.is s))
+      by_cover h g s (inr was) = closed_all c was.table h was.shard g was.placed (all.references was.table h was.shard g was.placed s)
 
-  group_at : (c : Contents) (groups : List (GroupState X)) → AreGroups state nodes c groups → (h : ℕ) (g : GroupState X) → slice_get groups h ≡ Some g → IsOneOf c h g
-  group_at c groups all h g s =
-      let was = all.covered h (let below = slice_get_within groups h g s in omega (arith, below, all.count)) in
-      record {
-        colocation = was.colocation;
-        i = was.i;
-        co = was.co;
-        there_is = was.there;
-        within = was.within;
-        place = was.is;
-        is = all.each was.colocation was.i was.co g was.there was.within (subst (λ n. slice_get groups n ≡ Some g) was.is s);
-      }
+  kept_groups : (c : Contents) (groups : List (GroupState X)) → AllByRecursion (IsClosed c) groups → AreKept state groups
+  kept_groups c [] all = tt
+  kept_groups c (g ∷ gs) all = (all.0.kept, kept_groups c gs all.1)
 
-  pub used_groups : (c : Contents) (groups : List (GroupState X)) → AreGroups state nodes c groups → AreUsed state groups
-  used_groups c groups all = all_from (IsUsed state) groups (λ h g s.
-      let at = group_at c groups all h g s in
-      let node = at.is.node in
-      record { kept = at.is.kept; some_node = omega (arith, node) })
+  pub are_kept : (c : Contents) (groups : List (GroupState X)) → AreGroups state nodes c groups → AreKept state groups
+  are_kept c groups all = kept_groups c groups (closed_groups c groups all)
 
-  -- a group's node is one of those that the run uses
-  within_nodes : (i : ℕ) (g : GroupState X) → g.node ≡ node_of nodes i → g.node ≤ nodes
-  within_nodes i g at = let low = mod_below i nodes some in omega (arith, at, low)
+  both_all : {Y : Type 0} (P : Y → Type 0) (xs ys : List Y) → AllByRecursion P xs → AllByRecursion P ys → AllByRecursion P (xs ++ ys)
+  both_all P [] ys p q = q
+  both_all P (x ∷ xs) ys p q = (p.0, both_all P xs ys p.1 q)
 
-  pub have_room : (c : Contents) (entry : List (Worker X)) (groups : List (GroupState X)) (workers : List (Worker X)) → nodes ≤ length workers → AreGroups state nodes c groups → AreWorkers state nodes entry groups workers → HaveRoom groups workers
-  have_room c entry groups workers enough all now = all_from (HasRoom groups workers) groups (λ h g s.
-      let at = group_at c groups all h g s in
-      let node = at.is.node in
-      let few = within_nodes at.i g node in
-      let place = g.node - 1 in
-      let low : place < nodes = omega (arith, few, node) in
-      let w = item_at workers place (omega (arith, low, enough)) in
-      let is = now.used place w.0 low w.1 in
-      record { worker = w.0; there = w.1; node = (let own = is.node in omega (arith, own, node)); room = is.room })
+  weaker : {Y : Type 0} (P Q : Y → Type 0) → ((y : Y) → P y → Q y) → (ys : List Y) → AllByRecursion P ys → AllByRecursion Q ys
+  weaker P Q f [] all = tt
+  weaker P Q f (y ∷ ys) all = (f y all.0, weaker P Q f ys all.1)
+
+  used_stores : (c : Contents) (groups : List (GroupState X)) → AllByRecursion (IsClosed c) groups → AllByRecursion IsUsed (all_stores groups)
+  used_stores c [] all = tt
+  used_stores c (g ∷ gs) all = both_all IsUsed (stores_of g) (all_stores gs) all.0.used (used_stores c gs all.1)
+
+  stores_count : (c : Contents) (place : ℕ) (groups : List (GroupState X)) → place < nodes → AllByRecursion (IsClosed c) groups → length (stores_at state place (all_stores groups)) ≡ held place groups + everywhere groups
+  stores_count c place [] h all = refl
+  stores_count c place (g ∷ gs) h all =
+      let here = all.0.count place h in
+      let further = stores_count c place gs h all.1 in
+      let both = count_both state place (stores_of g) (all_stores gs) in
+      omega (arith, here, further, both)
+
+  pub have_room : (c : Contents) (entry : List (Worker X)) (groups : List (GroupState X)) (workers : List (Worker X)) → nodes ≤ length workers → AreGroups state nodes c groups → AreWorkers state nodes entry groups workers → HaveRoom state (all_stores groups) workers
+  have_room c entry groups workers enough all now =
+      let closed = closed_groups c groups all in
+      weaker IsUsed (HasRoom state (all_stores groups) workers) (welcome closed) (all_stores groups) (used_stores c groups closed)
+    where
+      welcome : AllByRecursion (IsClosed c) groups → (x : X) → IsUsed x → HasRoom state (all_stores groups) workers x
+      welcome closed x used =
+          let place = (state x).node - 1 in
+          let low : place < nodes = omega (arith, used.0, used.1) in
+          let w = item_at workers place (omega (arith, low, enough)) in
+          let is = now.used place w.0 low w.1 in
+          let count = stores_count c place groups low closed in
+          record { worker = w.0; some_node = used.0; there = w.1; node = (let own = is.node in omega (arith, own, used.0)); room = (let free = is.room in omega (arith, free, count)) }
 
   -- ---- the journals
 
@@ -202,54 +362,46 @@ module _ {X : Type 0} (state : X → StoreState) (nodes : ℕ) (some : 0 < nodes
 
   -- ---- the stores
 
-  -- a closed group's stores, and the node that its journal names
-  record IsClosed (c : Contents) (g : GroupState X) : Type 0 where
-    own : AreOfGroup c g.journal (map state (stores_of g))
-    opening : g.journal.opening ≡ g.node
+  begins : (c : Contents) (place : ℕ) (j : Journal) (P : List StoreState → Type 0) (a b : Bool) (own rest : List X) →
+      Either a (AreOfReference c j (place + 1) (map state own)) (Either b (AreOfGroup c j (map state own)) (own ≡ [])) → P (map state rest) →
+      Either a (BeginWith (AreOfReference c j (place + 1)) P (map state (own ++ rest))) (Either b (BeginWith (AreOfGroup c j) P (map state (own ++ rest))) (P (map state (own ++ rest))))
+  begins c place j P true b own rest of further = (map state own, map state rest, map-append state own rest, of, further)
+  begins c place j P false true own rest of further = (map state own, map state rest, map-append state own rest, of, further)
+  begins c place j P false false own rest of further = subst (λ (v : List X). P (map state (v ++ rest))) (sym of) further
 
-  begins : (c : Contents) (j : Journal) (P : List StoreState → Type 0) (b : Bool) (own rest : List X) → AreOfGroup c j (map state own) → P (map state rest) →
-      Either b (BeginWith c j P (map state (cond b own [] ++ rest))) (P (map state (cond b own [] ++ rest)))
-  begins c j P true own rest of further = (map state own, map state rest, map-append state own rest, of, further)
-  begins c j P false own rest of further = further
+  stores_end : (c : Contents) (place : ℕ) (groups : List (GroupState X)) → place < nodes → AllByRecursion (IsClosed c) groups → AreOnNode c (place + 1) (map (λ (g : GroupState X). g.journal) groups) (map state (stores_at state place (all_stores groups)))
+  stores_end c place [] h all = refl
+  stores_end c place (g ∷ gs) h all =
+      let j = g.journal in
+      let P = AreOnNode c (place + 1) (map (λ (f : GroupState X). f.journal) gs) in
+      let own = stores_at state place (stores_of g) in
+      let rest = stores_at state place (all_stores gs) in
+      subst (λ (v : List X). Either (nat_eq j.opening 0) (BeginWith (AreOfReference c j (place + 1)) P (map state v)) (Either (nat_eq j.opening (place + 1)) (BeginWith (AreOfGroup c j) P (map state v)) (P (map state v))))
+      (sym (at_both state place (stores_of g) (all_stores gs)))
+      (begins c place j P (nat_eq j.opening 0) (nat_eq j.opening (place + 1)) own rest (all.0.own place h) (stores_end c place gs h all.1))
 
-  stores_end : (c : Contents) (place : ℕ) (groups : List (GroupState X)) → AllByRecursion (IsClosed c) groups → AreOnNode c (place + 1) (map (λ (g : GroupState X). g.journal) groups) (map state (stores_on place groups))
-  stores_end c place [] all = refl
-  stores_end c place (g ∷ gs) all =
-      let P = AreOnNode c (place + 1) (map (λ (h : GroupState X). h.journal) gs) in
-      let stores = map state (cond (nat_eq g.node (place + 1)) (stores_of g) [] ++ stores_on place gs) in
-      subst (λ (n : ℕ). Either (nat_eq n (place + 1)) (BeginWith c g.journal P stores) (P stores)) (sym all.0.opening)
-      (begins c g.journal P (nat_eq g.node (place + 1)) (stores_of g) (stores_on place gs) all.0.own (stores_end c place gs all.1))
-
-  closed_groups : (c : Contents) (groups : List (GroupState X)) → AreGroups state nodes c groups → AllByRecursion (IsClosed c) groups
-  closed_groups c groups all = all_from (IsClosed c) groups (λ h g s.
-      let at = group_at c groups all h g s in
-      record { own = of_group c at.colocation at.i at.co g at.there_is at.within at.is; opening = at.is.opening ∙ sym at.is.node })
-
-  elsewhere : (c : Contents) (groups : List (GroupState X)) → AreGroups state nodes c groups → (place : ℕ) → nodes ≤ place → AreElsewhere place groups
-  elsewhere c groups all place h = all_from (λ (g : GroupState X). g.node ≢ place + 1) groups (λ k g s e.
-      let at = group_at c groups all k g s in
-      let few = within_nodes at.i g at.is.node in
-      omega (arith, few, e, h))
-
-  pub final_of : (c : Contents) (entry first workers : List (Worker X)) (groups : List (GroupState X)) → AreGroups state nodes c groups → AreWorkers state nodes entry groups first → HaveBack groups first workers →
+  pub final_of : (c : Contents) (entry first workers : List (Worker X)) (groups : List (GroupState X)) → AreGroups state nodes c groups → AreWorkers state nodes entry groups first → HaveBack state (all_stores groups) first workers →
       IsFinal state nodes entry c (map (λ (g : GroupState X). g.journal) groups) workers
-  final_of c entry first workers groups all now back = record {
-    same_length = back.same_length ∙ now.same_length;
-    used = λ place w h s.
-        let v = get_or first place w in
-        let before = there first workers place w w back.same_length s in
-        let was = now.used place v h before in
-        let is = back.used place v w before s in
-        record {
-          node = is.node ∙ was.node;
-          total = ap length is.stores ∙ length-append v.stores.items (stores_on place groups) ∙ ap (λ n. length v.stores.items + n) (stores_count place groups) ∙ was.total;
-          stores = (
-            v.stores.items,
-            stores_on place groups,
-            is.stores,
-            recursion_from_All (λ (x : X). IsSpare (state x)) v.stores.items (All-weaker (λ (x : X). IsWaiting (place + 1) (state x)) (λ (x : X). IsSpare (state x)) (λ x wait. wait.spare) v.stores.items was.stores),
-            stores_end c place groups (closed_groups c groups all),
-          );
-        };
-    unused = λ place h. back.unused place (elsewhere c groups all place h) ∙ now.unused place h;
-  }
+  final_of c entry first workers groups all now back =
+      let closed = closed_groups c groups all in
+      record {
+        same_length = back.same_length ∙ now.same_length;
+        used = λ place w h s.
+            let v = get_or first place w in
+            let before = there first workers place w w back.same_length s in
+            let was = now.used place v h before in
+            let is = back.used place v w before s in
+            let own = stores_at state place (all_stores groups) in
+            record {
+              node = is.node ∙ was.node;
+              total = ap length is.stores ∙ length-append v.stores.items own ∙ ap (λ n. length v.stores.items + n) (stores_count c place groups h closed) ∙ was.total;
+              stores = (
+                v.stores.items,
+                own,
+                is.stores,
+                recursion_from_All (λ (x : X). IsSpare (state x)) v.stores.items (All-weaker (λ (x : X). IsWaiting (place + 1) (state x)) (λ (x : X). IsSpare (state x)) (λ x wait. wait.spare) v.stores.items was.stores),
+                stores_end c place groups h closed,
+              );
+            };
+        unused = λ place h. back.unused place (weaker IsUsed (λ (x : X). (state x).node ≢ place + 1) (λ x used e. omega (arith, used.1, e, h)) (all_stores groups) (used_stores c groups closed)) ∙ now.unused place h;
+      }

@@ -2,14 +2,14 @@
 use Rattle.std.proofs.Common.{◌≡◌, ◌≢◌, ◌⊎◌, inl, inr, ℕ, zero, suc, ◌+◌, Bool, true, false, cond, List, [], ◌∷◌, ◌++◌, length, refl, sym, ap, subst, ◌∙◌, arith, Some, slice_get, length-set, length-append, append_assoc, append-nil}
 use Rattle.std.specs.Prelude.{nat_eq, nat_le, nat_lt}
 use Rattle.std.proofs.Math.ListN.{set}
-use Rattle.std.proofs.lemmas.Bool.Decides.{nat_tests}
+use Rattle.std.proofs.lemmas.Bool.Decides.{nat_tests, eqb_tells}
 use Rattle.cq_journal.specs.Records.{Journal as Record}
 use Rattle.cq_journal.specs.declared.journal.Journal.{Journal}
 use Rattle.cq_store.specs.Stores.{StoreState}
 use Rattle.cq_group.specs.declared.group.GroupState.{GroupState}
 use Rattle.cq_group.specs.Groups.{IsKept, IsQuiet, IsSteady, Outline, outlines, journal_of, stores_of}
 use Rattle.cq_group.specs.Resting.{journals_of}
-use Rattle.cq_cluster.specs.Cluster.{held}
+use Rattle.cq_cluster.specs.Cluster.{held, everywhere}
 use Rattle.cq_cluster.specs.Ending.{record_of}
 use Rattle.cq_cluster.specs.Steps.{Goes, Loses, AreGone, more_at, nothing_more}
 use Rattle.cq_cluster.proofs.ListLaws.{got_after}
@@ -87,6 +87,26 @@ module _ {X : Type 0} (state : X → StoreState) where
       let node : g.node ≡ f.node = first.2.node ∙ ap (λ (h : GroupState X). h.node) (sym same) in
       let count : length (stores_of g) ≡ length (stores_of f) = omega (arith, first.2.count, ap (λ (h : GroupState X). length (stores_of h)) same) in
       rw (node, count) (ap (λ n. cond (nat_eq f.node (place + 1)) (length (stores_of f)) 0 + n) (held_gone place fs gs (record { count = omega (arith, p.count); each = λ h k s. p.each (suc h) k s })))
+    where
+      some_is : {a b : GroupState X} → Some a ≡ Some b → a ≡ b
+      some_is e = cc
+
+  -- the groups on all nodes have as many stores, where none of them has a table more
+  pub everywhere_gone : (more : ℕ → List Outline) (old new : List (GroupState X)) → AreGone state more old new → ((h : ℕ) (g : GroupState X) → slice_get old h ≡ Some g → g.node ≡ 0 → more h ≡ []) → everywhere new ≡ everywhere old
+  everywhere_gone more [] [] p none = refl
+  everywhere_gone more [] (g ∷ gs) p none = absurd (let n = p.count in omega (arith, n))
+  everywhere_gone more (f ∷ fs) [] p none = absurd (let n = p.count in omega (arith, n))
+  everywhere_gone more (f ∷ fs) (g ∷ gs) p none =
+      let first = p.each 0 g refl in
+      let same : f ≡ first.0 = some_is first.1 in
+      let goes : Goes state (more 0) f g = subst (λ (h : GroupState X). Goes state (more 0) h g) (sym same) first.2 in
+      let rest = everywhere_gone (λ h. more (suc h)) fs gs (record { count = omega (arith, p.count); each = λ h k s. p.each (suc h) k s }) (λ h k s. none (suc h) k s) in
+      elim (eqb_tells f.node 0) [
+        | inl y ↦
+            let here : outlines g ≡ outlines f = goes.outlined ∙ ap (λ (v : List Outline). outlines f ++ v) (none 0 f refl y.1) ∙ append-nil (outlines f) in
+            rw (goes.node, here, rest) refl
+        | inr z ↦ rw (goes.node, z.0, rest) refl
+      ]
     where
       some_is : {a b : GroupState X} → Some a ≡ Some b → a ≡ b
       some_is e = cc

@@ -23,6 +23,7 @@ module _ {X : Type 0} (state : X → StoreState) (nodes : ℕ) where
   groups_nothing = record {
     count = refl;
     each = λ colocation i co g s. cc;
+    references = λ table group shard g placed s. cc;
     covered = λ group h. absurd (omega (arith, h));
     apart = λ j k a b x y s. cc;
     held = λ place h. refl;

@@ -31,6 +31,7 @@ use Rattle.cq_cluster.proofs.GoneLaws.{goes_same}
 use Rattle.cq_cluster.proofs.AddingLaws.{spent_none}
 use Rattle.cq_cluster.proofs.TargetLaws.{can_distribute}
 use Rattle.cq_cluster.proofs.SoundLaws.{have_stores, can_begin_at, room_same, undone_of}
+use Rattle.cq_cluster.proofs.GroupLaws.{rests}
 use Rattle.cq_cluster.proofs.DistributeLaws.{by_room, cause_of}
 
 -- ---- what a target opens
@@ -110,8 +111,7 @@ module _ {X : Type 0} (state : X → StoreState) where
     gone = record {
       count = refl;
       each = λ h g t.
-          let was = s.groups.covered h (let below = slice_get_within cl.groups.items h g t in omega (arith, below, s.groups.count)) in
-          let at = s.groups.each was.colocation was.i was.co g was.there was.within (subst (λ n. slice_get cl.groups.items n ≡ Some g) was.is t) in
+          let at = rests state cl s h g t in
           (g, t, goes_same state g at.kept at.quiet at.steady);
     };
     spent = spent_none state cl.nodes s.some cl.workers.items (all_wait cl s);

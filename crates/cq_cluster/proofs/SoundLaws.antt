@@ -1,5 +1,5 @@
 -- What a cluster keeps as a table is distributed, or isn't.
-use Rattle.std.proofs.Common.{◌≡◌, ◌⊎◌, inl, inr, ℕ, zero, suc, ◌+◌, ◌-◌, ◌<◌, ◌≤◌, Bool, true, false, cond, List, [], ◌∷◌, ◌++◌, length, take, get_or, refl, sym, ap, subst, ◌∙◌, arith, All, Some, None, Option, IsSome, slice_get, length-append}
+use Rattle.std.proofs.Common.{◌≡◌, ◌≢◌, ◌⊎◌, inl, inr, ℕ, zero, suc, ◌+◌, ◌-◌, ◌<◌, ◌≤◌, Bool, true, false, cond, List, [], ◌∷◌, ◌++◌, length, take, get_or, refl, sym, ap, subst, ◌∙◌, arith, All, Some, None, Option, IsSome, slice_get, length-append}
 use Rattle.std.specs.Prelude.{nat_lt}
 use Rattle.std.specs.List.{AllByRecursion}
 use Rattle.std.proofs.lemmas.Bool.{cases_lt}
@@ -26,7 +26,7 @@ use Rattle.cq_catalog.specs.declared.decision.Target.{Target}
 use Rattle.cq_catalog.specs.declared.decision.Target.TheVariants.{Joins, Opens}
 use Rattle.cq_catalog.specs.declared.info.Colocation.{Colocation}
 use Rattle.cq_catalog.specs.declared.info.Opened.{Opened}
-use Rattle.cq_catalog.specs.declared.info.Place.TheVariants.{Local}
+use Rattle.cq_catalog.specs.declared.info.Place.TheVariants.{Local, Reference}
 use Rattle.cq_catalog.specs.declared.info.TableInfo.{TableInfo}
 use Rattle.cq_store.specs.Stores.{StoreState}
 use Rattle.cq_store.specs.declared.worker.Worker.{Worker}
@@ -34,18 +34,19 @@ use Rattle.cq_planning.specs.Database.{shape_in}
 use Rattle.cq_history.specs.Deeds.{Grows}
 use Rattle.cq_history.specs.Journals.{none as nothing_made}
 use Rattle.cq_history.specs.Run as history
+use Rattle.cq_cluster.specs.declared.shards.Shards.{Shards}
 use Rattle.cq_cluster.specs.Room.{shards_on, taken}
 use Rattle.cq_group.specs.declared.group.GroupState.{GroupState}
 use Rattle.cq_group.specs.Groups.{IsKept, IsNamed, IsQuiet, IsSteady, Outline, outlines, shape_at, entries_of, journal_of}
 use Rattle.cq_group.specs.Resting.{journals_of}
-use Rattle.cq_cluster.specs.Cluster.{Either, node_of, IsWaiting, held, AreGroups, whole_at, AreWorkers, run_of, stores_in}
+use Rattle.cq_cluster.specs.Cluster.{Either, node_of, IsCovered, IsReferenced, IsWaiting, held, everywhere, AreGroups, whole_at, AreWorkers, run_of, stores_in}
 use Rattle.cq_cluster.specs.Steps.{Goes, AreGone, more_at, nothing_more, AreSpent, HaveStores, AreOpened, IsUnwritten, shard_outline, Adding, short_of, shortage_from, shortage, shards_of, HasOpened, IsBegun, forgotten, CanBegin, IsOpen, IsUndone}
 use Rattle.cq_cluster.proofs.ListLaws.{there, item_at}
-use Rattle.cq_cluster.proofs.GoneLaws.{goes_same, more_none, gone_journals, held_gone}
+use Rattle.cq_cluster.proofs.GoneLaws.{goes_same, more_none, gone_journals, held_gone, everywhere_gone}
 use Rattle.cq_cluster.proofs.JournalLaws.{same_grows, opened_grow}
 use Rattle.cq_cluster.proofs.AddingLaws.{spent_none}
 use Rattle.cq_cluster.proofs.RoomLaws.{none_on, same_taken}
-use Rattle.cq_cluster.proofs.CatalogLaws.{no_shard, groups_opened, groups_spread, held_empty, before_more, behind_more, last_there}
+use Rattle.cq_cluster.proofs.CatalogLaws.{no_shard, more_outside, groups_opened, groups_spread, held_empty, everywhere_empty, before_more, behind_more, last_there}
 
 -- ---- what a group that hasn't a table has no write of
 
@@ -74,10 +75,26 @@ module _ {X : Type 0} (state : X → StoreState) (nodes : ℕ) (some : 0 < nodes
     free : shape_at (outlines g) table ≡ None
 
   free_group : (c : Contents) (table : ℕ) (groups : List (GroupState X)) → AreGroups state nodes c groups → place_at c table ≡ Local → (h : ℕ) (g : GroupState X) → slice_get groups h ≡ Some g → IsFree table g
-  free_group c table groups all local h g s =
-      let was = all.covered h (let below = slice_get_within groups h g s in omega (arith, below, all.count)) in
-      let at = all.each was.colocation was.i was.co g was.there was.within (subst (λ n. slice_get groups n ≡ Some g) was.is s) in
-      record { kept = at.kept; quiet = at.quiet; steady = at.steady; free = no_shard c was.colocation was.i table (outlines g) at.shards local }
+  free_group c table groups all local h g s = by_cover (all.covered h (let below = slice_get_within groups h g s in omega (arith, below, all.count)))
+    where
+      not_local : (group shard : ℕ) → Reference group shard ≡ Local → ⊥
+      not_local group shard e = cc
+
+      other : (number shard : ℕ) (shape : Shape) → number ≢ table → shape_at ((number, shape, shard, nodes) ∷ []) table ≡ None
+      other number shard shape apart = elim (eqb_tells number table) [ inl y ↦ absurd (apart y.1) | inr z ↦ rw z.0 refl ]
+
+      by_cover : IsCovered c h ⊎ IsReferenced c h → IsFree table g
+      by_cover (inl was) =
+          let at = all.each was.colocation was.i was.co g was.there was.within (subst (λ n. slice_get groups n ≡ Some g) was.is s) in
+          record { kept = at.kept; quiet = at.quiet; steady = at.steady; free = no_shard c was.colocation was.i table (outlines g) at.shards local }
+      by_cover (inr was) =
+          let at = all.references was.table h was.shard g was.placed s in
+          record {
+            kept = at.kept;
+            quiet = at.quiet;
+            steady = at.steady;
+            free = ap (λ (os : List Outline). shape_at os table) at.only ∙ other was.table was.shard (shape_in c was.table) (λ e. not_local h was.shard (sym was.placed ∙ ap (place_at c) e ∙ local));
+          }
 
   gone_free : (table first : ℕ) (o : ℕ → Outline) (groups : List (GroupState X)) → ((h : ℕ) (g : GroupState X) → slice_get groups h ≡ Some g → IsFree table g) → AreGone state (more_at first o 0) groups groups
   gone_free table first o groups free = record {
@@ -215,9 +232,15 @@ module _ {X : Type 0} (state : X → StoreState) (nodes : ℕ) (some : 0 < nodes
     pub stores : (entry : List (Worker X)) → AreWorkers state nodes entry old full → AreWorkers state nodes entry groups workers
     pub same_length : length workers ≡ length full
 
-  keeps : (old groups : List (GroupState X)) (full workers : List (Worker X)) (n : ℕ) → nodes ≤ length full → AreSpent state nodes n full workers → ((place : ℕ) → place < nodes → held place groups ≡ held place old + shards_on nodes n place) → (entry : List (Worker X)) →
-      AreWorkers state nodes entry old full → AreWorkers state nodes entry groups workers
-  keeps old groups full workers n both spent count entry now = record {
+  -- the groups on all nodes get no table of a distribution
+  adding_everywhere : (shards : Shards) (shape : Shape) (old groups : List (GroupState X)) (full workers : List (Worker X)) (n : ℕ) → Adding state shards shape old full n groups workers → everywhere groups ≡ everywhere old
+  adding_everywhere shards shape old groups full workers n a =
+      everywhere_gone state (more_at shards.first_group (shard_outline shards shape) n) old groups a.gone
+      (λ h g s node. more_outside shards.first_group (shard_outline shards shape) n h (λ j l e. absurd (let r = a.ready h g (omega (arith, e)) (omega (arith, e, l, a.few)) s in omega (arith, r.1, node))))
+
+  keeps : (old groups : List (GroupState X)) (full workers : List (Worker X)) (n : ℕ) → nodes ≤ length full → AreSpent state nodes n full workers → ((place : ℕ) → place < nodes → held place groups ≡ held place old + shards_on nodes n place) →
+      everywhere groups ≡ everywhere old → (entry : List (Worker X)) → AreWorkers state nodes entry old full → AreWorkers state nodes entry groups workers
+  keeps old groups full workers n both spent count all_nodes entry now = record {
     same_length = spent.same_length ∙ now.same_length;
     used = λ place w h s.
         let before = there full workers place w w spent.same_length s in
@@ -226,8 +249,8 @@ module _ {X : Type 0} (state : X → StoreState) (nodes : ℕ) (some : 0 < nodes
         record {
           node = lacks.0.node ∙ was.node;
           stores = subst (λ m. All (λ (x : X). IsWaiting m (state x)) w.stores.items) (lacks.0.node ∙ was.node) lacks.1;
-          total = omega (arith, lacks.0.total, was.total, count place h);
-          room = omega (arith, lacks.0.room, was.room, count place h);
+          total = omega (arith, lacks.0.total, was.total, count place h, all_nodes);
+          room = omega (arith, lacks.0.room, was.room, count place h, all_nodes);
         };
     unused = λ place h. spent.unused place h ∙ now.unused place h;
   }
@@ -250,7 +273,7 @@ module _ {X : Type 0} (state : X → StoreState) (nodes : ℕ) (some : 0 < nodes
       record {
         after = groups_spread state nodes c table column colocation (count_in (slice_get c.colocations colocation)) co.0 info old groups whole there local co.1 exact (λ place h. number place h ∙ ap (λ n. held place old + shards_on nodes n place) count) all;
         grows = λ who. same_grows who (journals_of old) (journals_of groups) (gone_journals state _ old groups gone);
-        stores = keeps old groups full workers o.count a.enough a.spent number;
+        stores = keeps old groups full workers o.count a.enough a.spent number (adding_everywhere (shards_of nodes o) shape done.begun groups full workers o.count a ∙ ap (λ (gs : List (GroupState X)). everywhere gs) same);
         same_length = a.spent.same_length;
       }
     where
@@ -272,7 +295,8 @@ module _ {X : Type 0} (state : X → StoreState) (nodes : ℕ) (some : 0 < nodes
         after = groups_spread state nodes next table column (length c.colocations) count co info done.begun groups (whole_opened c kind count joinable whole can) there local (last_there c.colocations co) exact a.held begun_groups;
         grows = λ who. opened_grow state nodes who c.groups old opened (journals_of groups) done.begins.3 (sym all.count)
             (gone_journals state _ done.begun groups a.gone ∙ ap (λ (gs : List (GroupState X)). journals_of gs) done.begins.1 ∙ map-append (λ (g : GroupState X). journal_of g) old opened);
-        stores = keeps old groups full workers count a.enough a.spent (λ place h. a.held place h ∙ ap (λ n. n + shards_on nodes count place) (empty place));
+        stores = keeps old groups full workers count a.enough a.spent (λ place h. a.held place h ∙ ap (λ n. n + shards_on nodes count place) (empty place))
+            (adding_everywhere (shards_of nodes o) shape done.begun groups full workers count a ∙ ap (λ (gs : List (GroupState X)). everywhere gs) done.begins.1 ∙ everywhere_empty state nodes c.groups old opened done.begins.3);
         same_length = a.spent.same_length;
       }
 
@@ -281,6 +305,7 @@ module _ {X : Type 0} (state : X → StoreState) (nodes : ℕ) (some : 0 < nodes
   pub undone_stores : (old groups : List (GroupState X)) (full workers : List (Worker X)) → nodes ≤ length full → IsUndone state nodes old full groups workers → (entry : List (Worker X)) → AreWorkers state nodes entry old full → AreWorkers state nodes entry groups workers
   undone_stores old groups full workers both undone =
       keeps old groups full workers 0 both undone.spent (λ place h. let same = held_gone state place old groups undone.gone in let none = none_on nodes some place h in omega (arith, same, none))
+      (everywhere_gone state nothing_more old groups undone.gone (λ h g s node. refl))
 
   -- ---- room
 

@@ -1,11 +1,11 @@
 -- The shard groups of the catalogue over the workers that a run uses, and what the workers' lists still hold.
-use Rattle.std.specs.Prelude.{◌≡◌, ◌+◌, ◌%◌, ◌<◌, ◌≤◌, ℕ, IsTrue, Bool, true, false, List, [], ◌∷◌, length, All, Option, Some, None, slice_get, nat_eq, if◌then◌else◌}
+use Rattle.std.specs.Prelude.{◌≡◌, ◌+◌, ◌%◌, ◌<◌, ◌≤◌, ◌⊎◌, ℕ, IsTrue, Bool, true, false, List, [], ◌∷◌, length, All, Option, Some, None, slice_get, nat_eq, if◌then◌else◌}
 use Rattle.std.specs.List.{AllByRecursion}
 use Rattle.cq_catalog.specs.Contents.{Contents}
 use Rattle.cq_catalog.specs.Placement.{place_at}
 use Rattle.cq_catalog.specs.Whole.{IsWhole}
 use Rattle.cq_catalog.specs.declared.info.Colocation.{Colocation}
-use Rattle.cq_catalog.specs.declared.info.Place.TheVariants.{Distributed}
+use Rattle.cq_catalog.specs.declared.info.Place.TheVariants.{Distributed, Reference}
 use Rattle.cq_planning.specs.Database.{shape_in}
 use Rattle.cq_journal.specs.Records.{Journal}
 use Rattle.cq_history.specs.Run.{Run, first_settings}
@@ -50,6 +50,16 @@ pub record IsGroupOf {X : Type 0} (state : X → StoreState) (nodes : ℕ) (c : 
   pub shards : AllByRecursion (IsShardOf c colocation i) (outlines g)
   pub complete : (table at first_shard : ℕ) → place_at c table ≡ Distributed at colocation first_shard → HasTable g table
 
+-- a reference table's group, between two statements: it is on all nodes that the run uses, and keeps the table's only shard there (Citus, "Create Distributed Tables: Reference Tables")
+pub record IsReferenceGroup {X : Type 0} (state : X → StoreState) (nodes : ℕ) (c : Contents) (table group shard : ℕ) (g : GroupState X) : Type 0 where
+  pub kept : IsKept state g
+  pub quiet : IsQuiet state g
+  pub steady : IsSteady state g
+  pub number : g.journal.group ≡ group
+  pub opening : g.journal.opening ≡ 0
+  pub node : g.node ≡ 0
+  pub only : outlines g ≡ (table, shape_in c table, shard, nodes) ∷ []
+
 -- the group of this number is the i-th of a co-location group
 pub record IsCovered (c : Contents) (group : ℕ) : Type 0 where
   pub colocation : ℕ
@@ -59,24 +69,36 @@ pub record IsCovered (c : Contents) (group : ℕ) : Type 0 where
   pub within : i < co.count
   pub is : group ≡ co.first_group + i
 
+-- the group of this number is a reference table's
+pub record IsReferenced (c : Contents) (group : ℕ) : Type 0 where
+  pub table : ℕ
+  pub shard : ℕ
+  pub placed : place_at c table ≡ Reference group shard
+
 -- no shard group belongs to two co-location groups
 abbrev pub AreApart : Contents → Type 0
 AreApart c = (j k : ℕ) (a b : Colocation) (x y : ℕ) → slice_get c.colocations j ≡ Some a → slice_get c.colocations k ≡ Some b → x < a.count → y < b.count →
     a.first_group + x ≡ b.first_group + y → j ≡ k
 
--- how many stores the groups on the node at this place have
+-- how many stores the groups on the node at this place alone have
 abbrev pub held : {X : Type 0} → ℕ → List (GroupState X) → ℕ
 held place [] = 0
 held place (g ∷ gs) = (if nat_eq g.node (place + 1) then length (stores_of g) else 0) + held place gs
+
+-- how many stores of each node the groups on all nodes have: one for each of their tables
+abbrev pub everywhere : {X : Type 0} → List (GroupState X) → ℕ
+everywhere [] = 0
+everywhere (g ∷ gs) = (if nat_eq g.node 0 then length (outlines g) else 0) + everywhere gs
 
 -- the groups are those of the catalogue
 pub record AreGroups {X : Type 0} (state : X → StoreState) (nodes : ℕ) (c : Contents) (groups : List (GroupState X)) : Type 0 where
   pub count : length groups ≡ c.groups
   pub each : (colocation i : ℕ) (co : Colocation) (g : GroupState X) → slice_get c.colocations colocation ≡ Some co → i < co.count →
       slice_get groups (co.first_group + i) ≡ Some g → IsGroupOf state nodes c colocation co i g
-  pub covered : (group : ℕ) → group < c.groups → IsCovered c group
+  pub references : (table group shard : ℕ) (g : GroupState X) → place_at c table ≡ Reference group shard → slice_get groups group ≡ Some g → IsReferenceGroup state nodes c table group shard g
+  pub covered : (group : ℕ) → group < c.groups → IsCovered c group ⊎ IsReferenced c group
   pub apart : AreApart c
-  pub held : (place : ℕ) → place < nodes → held place groups ≡ taken nodes c place
+  pub held : (place : ℕ) → place < nodes → held place groups + everywhere groups ≡ taken nodes c place
 
 -- ---- workers
 
@@ -104,7 +126,7 @@ whole_at entry place = stores_in (slice_get entry place)
 -- the workers, as they were handed in and as they are while the groups have their stores: only those that the run uses change
 pub record AreWorkers {X : Type 0} (state : X → StoreState) (nodes : ℕ) (entry : List (Worker X)) (groups : List (GroupState X)) (workers : List (Worker X)) : Type 0 where
   pub same_length : length workers ≡ length entry
-  pub used : (place : ℕ) (w : Worker X) → place < nodes → slice_get workers place ≡ Some w → IsWorkerAt state (whole_at entry place) (held place groups) place w
+  pub used : (place : ℕ) (w : Worker X) → place < nodes → slice_get workers place ≡ Some w → IsWorkerAt state (whole_at entry place) (held place groups + everywhere groups) place w
   pub unused : (place : ℕ) → nodes ≤ place → slice_get workers place ≡ slice_get entry place
 
 -- workers as they must be handed in: the nodes 1, 2 and so on, all of whose stores wait

@@ -6,7 +6,7 @@ use Rattle.cq_tree.specs.declared.journal.Entry.{Entry}
 use Rattle.cq_catalog.specs.Contents.{Contents}
 use Rattle.cq_catalog.specs.Placement.{place_at}
 use Rattle.cq_catalog.specs.declared.info.Colocation.{Colocation}
-use Rattle.cq_catalog.specs.declared.info.Place.TheVariants.{Distributed}
+use Rattle.cq_catalog.specs.declared.info.Place.TheVariants.{Distributed, Reference}
 use Rattle.cq_journal.specs.Journals.{replay}
 use Rattle.cq_journal.specs.declared.journal.Journal.{Journal}
 use Rattle.cq_journal.specs.Records as records
@@ -50,14 +50,32 @@ pub record AreOfGroup (c : Contents) (j : Journal) (stores : List StoreState) : 
   pub complete : (table at first_shard : ℕ) → place_at c table ≡ Distributed at colocation first_shard → IsIn table tables
   pub once : AreDistinct tables
 
--- first the stores of a shard group, and then others of which the fact holds
-abbrev pub BeginWith : Contents → Journal → (List StoreState → Type 0) → List StoreState → Type 0
-BeginWith c j P stores = (own : List StoreState) × (rest : List StoreState) × (stores ≡ own ++ rest) × AreOfGroup c j own × P rest
+-- the store of a reference table's shard on this node: with the shard's id, and it holds what the group's entries leave, ids and all
+pub record IsCopy (c : Contents) (table shard node : ℕ) (es : List Entry) (s : StoreState) : Type 0 where
+  pub of_node : s.node ≡ node
+  pub of_shard : s.shard ≡ shard
+  pub holds : s.rows ≡ replay table (shape_in c table) es
+  pub nothing : s.staged ≡ []
 
--- the stores of the groups with these journals that are on the node, in order of group
+-- the stores on this node of the shard group with this journal, which is a reference table's: one, of the table
+pub record AreOfReference (c : Contents) (j : Journal) (node : ℕ) (stores : List StoreState) : Type 0 where
+  pub table : ℕ
+  pub shard : ℕ
+  pub placed : place_at c table ≡ Reference j.group shard
+  pub store : StoreState
+  pub only : stores ≡ store ∷ []
+  pub copy : IsCopy c table shard node j.entries.list store
+
+-- first the stores of a shard group, of which one fact holds, and then others of which the other holds
+abbrev pub BeginWith : (List StoreState → Type 0) → (List StoreState → Type 0) → List StoreState → Type 0
+BeginWith Own P stores = (own : List StoreState) × (rest : List StoreState) × (stores ≡ own ++ rest) × Own own × P rest
+
+-- the stores of the groups with these journals that are on the node, in order of group: a reference table's group, which was opened on 0, is on each
 abbrev pub AreOnNode : Contents → ℕ → List Journal → List StoreState → Type 0
 AreOnNode c node [] stores = stores ≡ []
-AreOnNode c node (j ∷ js) stores = Either (nat_eq j.opening node) (BeginWith c j (AreOnNode c node js) stores) (AreOnNode c node js stores)
+AreOnNode c node (j ∷ js) stores =
+    Either (nat_eq j.opening 0) (BeginWith (AreOfReference c j node) (AreOnNode c node js) stores)
+    (Either (nat_eq j.opening node) (BeginWith (AreOfGroup c j) (AreOnNode c node js) stores) (AreOnNode c node js stores))
 
 -- a used worker at the end: as many stores as at entry, some spare and empty ones, and then those of the shard groups on the node
 pub record IsWorkerFinal {X : Type 0} (state : X → StoreState) (c : Contents) (journals : List Journal) (whole place : ℕ) (w : Worker X) : Type 0 where

@@ -1,58 +1,62 @@
-ghost use Rattle.std.specs.Prelude.{◌≡◌, ◌+◌, ◌-◌, ◌<◌, ◌≤◌, ◌++◌, List, [], ◌∷◌, length, map, slice_get, Some};
+ghost use Rattle.std.specs.Prelude.{◌≡◌, ◌-◌, ◌<◌, ◌≤◌, List, [], ◌∷◌, length, map, slice_get, Some};
 ghost use Rattle.cq_store.specs.Workers.{room};
 ghost use Rattle.cq_store.specs.declared.worker.Worker.{Worker};
 ghost use Rattle.cq_group.specs.declared.group.GroupState.{GroupState};
 ghost use Rattle.cq_group.specs.Groups.{IsKept, stores_of};
 ghost use Rattle.cq_cluster.specs.Cluster.{AreWorkers, IsSound, journals as journals_in};
-ghost use Rattle.cq_cluster.specs.Closing.{IsUsed, AreUsed, HaveRoom, HaveBack};
+ghost use Rattle.cq_cluster.specs.Closing.{all_stores, AreKept, HaveRoom, HaveBack};
 ghost use Rattle.cq_cluster.specs.Ending.{IsFinal, record_of};
 
 use crate::cluster::{Cluster, Ended};
-use crate::worker::give_all;
 use cq_group::{Closed, GroupState};
 use cq_journal::{Journal, Journals};
 use cq_store::{Store, Worker};
 
-/// Closes a group of this worker, and puts its stores last in the worker's list.
-fn close_on<S: Store>(worker: &mut Worker<S>, group: GroupState<S>) -> Journal
+/// Puts a store last in the list of its node's worker, as it is.
+fn give_back<S: Store>(workers: &mut Vec<Worker<S>>, store: S)
+    requires some_node { 0 < (S.state store).node }
+    requires worker { (w : Worker S) × (slice_get workers.old.items ((S.state store).node - 1) ≡ Some w) × (w.node ≡ (S.state store).node) × (0 < room w.stores) }
+    ensures { HaveBack S.state (store ∷ []) workers.old.items workers.new.items }
+{
+    let place = (store.node() - 1) as usize;
+    workers[place].give(store);
+}
+
+/// Puts stores last in the lists of their nodes' workers, in order and as they are.
+fn give_each<S: Store>(workers: &mut Vec<Worker<S>>, stores: Vec<S>)
+    requires room { HaveRoom S.state stores.items workers.old.items }
+    ensures { HaveBack S.state stores.items workers.old.items workers.new.items }
+{
+    for store in stores {
+        give_back(workers, store);
+    }
+}
+
+/// Closes a group, and puts its stores last in the lists of their nodes' workers.
+fn close_at<S: Store>(workers: &mut Vec<Worker<S>>, group: GroupState<S>) -> Journal
     requires kept { IsKept S.state group }
-    requires some_node { 0 < group.node }
-    requires node { worker.old.node ≡ group.node }
-    requires room { length (stores_of group) ≤ room worker.old.stores }
+    requires room { HaveRoom S.state (stores_of group) workers.old.items }
     ensures journal { result ≡ group.journal }
-    ensures node { worker.new.node ≡ worker.old.node }
-    ensures stores { worker.new.stores.items ≡ worker.old.stores.items ++ stores_of group }
-    ensures room { room worker.new.stores + length (stores_of group) ≡ room worker.old.stores }
+    ensures workers { HaveBack S.state (stores_of group) workers.old.items workers.new.items }
 {
     let Closed { journal, stores } = group.close();
-    give_all(worker, stores);
+    give_each(workers, stores);
     journal
 }
 
-/// Closes a group, and puts its stores last in the list of its node's worker.
-fn close_at<S: Store>(workers: &mut Vec<Worker<S>>, group: GroupState<S>) -> Journal
-    requires group { IsUsed S.state group }
-    requires worker { (w : Worker S) × (slice_get workers.old.items (group.node - 1) ≡ Some w) × (w.node ≡ group.node) × (length (stores_of group) ≤ room w.stores) }
-    ensures journal { result ≡ group.journal }
-    ensures workers { (closed : List (GroupState S)) (first : List (Worker S)) → HaveBack closed first workers.old.items → HaveBack (closed ++ group ∷ []) first workers.new.items }
-{
-    let worker = &mut workers[(group.node - 1) as usize];
-    close_on(worker, group)
-}
-
-/// Closes the groups: their journals stand in order, and each group's stores last in the list of its node's worker, as they
-/// are. Takes no memory: the list of journals is empty and has room for them, and the workers have room for the stores.
+/// Closes the groups: their journals stand in order, and each group's stores last in the lists of their nodes' workers, as
+/// they are. Takes no memory: the list of journals is empty and has room for them, and the workers have room for the stores.
 fn close_groups<S: Store>(
     workers: &mut Vec<Worker<S>>,
     groups: Vec<GroupState<S>>,
     journals: &mut Journals,
 )
-    requires groups { AreUsed S.state groups.items }
+    requires kept { AreKept S.state groups.items }
     requires none { journals.old.list ≡ [] }
     requires room { length groups.items ≤ journals.old.room }
-    requires workers { HaveRoom groups.items workers.old.items }
+    requires workers { HaveRoom S.state (all_stores groups.items) workers.old.items }
     ensures journals { journals.new.list ≡ map (λ (g : GroupState S). g.journal) groups.items }
-    ensures workers { HaveBack groups.items workers.old.items workers.new.items }
+    ensures workers { HaveBack S.state (all_stores groups.items) workers.old.items workers.new.items }
 {
     for group in groups {
         journals.push(close_at(workers, group));

@@ -1,4 +1,4 @@
-ghost use Rattle.std.specs.Prelude.{◌≡◌, ◌+◌, ◌<◌, ◌≤◌, ◌++◌, length, All, IfOk, OnOk, OnErr};
+ghost use Rattle.std.specs.Prelude.{◌≡◌, ◌+◌, ◌<◌, ◌≤◌, length, All, IfOk, OnOk, OnErr};
 ghost use Rattle.cq_store.specs.Workers.{room};
 ghost use Rattle.cq_cluster.specs.Cluster.{IsWaiting};
 ghost use Rattle.cq_cluster.specs.Steps.{IsSteadyOn, AllWait, Lacks};
@@ -34,19 +34,6 @@ pub(crate) fn release_all<S: Store>(worker: &mut Worker<S>, stores: Vec<S>)
     let mut stores = stores;
     while let Some(mut store) = stores.pop() {
         store.release();
-        worker.give(store);
-    }
-}
-
-/// Puts stores of a worker last in its list, in order, as they are.
-pub(crate) fn give_all<S: Store>(worker: &mut Worker<S>, stores: Vec<S>)
-    requires stores { All (λ s. (S.state s).node ≡ worker.old.node) stores.items }
-    requires room { length stores.items ≤ room worker.old.stores }
-    ensures node { worker.new.node ≡ worker.old.node }
-    ensures stores { worker.new.stores.items ≡ worker.old.stores.items ++ stores.items }
-    ensures room { room worker.new.stores + length stores.items ≡ room worker.old.stores }
-{
-    for store in stores {
         worker.give(store);
     }
 }

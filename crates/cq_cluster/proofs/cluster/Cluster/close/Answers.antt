@@ -1,11 +1,11 @@
 use Rattle.std.proofs.Common.{List, sym, subst}
 use Rattle.cq_journal.specs.declared.journal.Journal.{Journal}
 use Rattle.cq_cluster.specs.Ending.{IsFinal}
-use Rattle.cq_cluster.proofs.EndingLaws.{used_groups, have_room, journals_of_all, final_of}
+use Rattle.cq_cluster.proofs.EndingLaws.{are_kept, have_room, journals_of_all, final_of}
 use Rattle.cq_cluster.proofs.cluster.Cluster.close.Goals as goal
 
-pub close_groups-requires-clause-groups : goal.close_groups-requires-clause-groups
-close_groups-requires-clause-groups g c = used_groups g.S.Store.state c.args.self.nodes c.requires.sound.some c.args.self.catalog c.args.self.groups.items c.requires.sound.groups
+pub close_groups-requires-clause-kept : goal.close_groups-requires-clause-kept
+close_groups-requires-clause-kept g c = are_kept g.S.Store.state c.args.self.nodes c.requires.sound.some c.args.self.catalog c.args.self.groups.items c.requires.sound.groups
 
 pub close_groups-requires-clause-workers : goal.close_groups-requires-clause-workers
 close_groups-requires-clause-workers g c =
