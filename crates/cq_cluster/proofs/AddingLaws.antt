@@ -75,19 +75,19 @@ module _ {X : Type 0} (state : X → StoreState) (nodes : ℕ) (some : 0 < nodes
   pub low : (n place : ℕ) → place ≡ n % nodes → place < nodes
   low n place e = let below = mod_below n nodes some in omega (arith, e, below)
 
-  one_spent : (old now : List (Worker X)) (n place : ℕ) (w new : Worker X) → place ≡ n % nodes → AreSpent state nodes n old now → slice_get now place ≡ Some w → Lacks 1 w new → AllWait state new → AreSpent state nodes (n + 1) old (set now place new)
+  pub one_spent : (old now : List (Worker X)) (n place : ℕ) (w new : Worker X) → place ≡ n % nodes → AreSpent state nodes n old now → slice_get now place ≡ Some w → Lacks 1 w new → AllWait state new → AreSpent state nodes (n + 1) old (set now place new)
   one_spent old now n place w new e p there_is lacks wait =
       let more = next_here nodes some n place e in
       spent_set old now n (n + 1) place w new (low n place e) (λ k l d. next_elsewhere nodes some n k l (λ f. d (f ∙ sym e))) p there_is
       (λ v was. record { node = lacks.node ∙ was.node; total = omega (arith, more, lacks.total, was.total); room = omega (arith, more, lacks.room, was.room) }) wait
 
-  one_back : (old now : List (Worker X)) (n place : ℕ) (w new : Worker X) → place ≡ n % nodes → AreSpent state nodes (n + 1) old now → slice_get now place ≡ Some w → Lacks 1 new w → AllWait state new → AreSpent state nodes n old (set now place new)
+  pub one_back : (old now : List (Worker X)) (n place : ℕ) (w new : Worker X) → place ≡ n % nodes → AreSpent state nodes (n + 1) old now → slice_get now place ≡ Some w → Lacks 1 new w → AllWait state new → AreSpent state nodes n old (set now place new)
   one_back old now n place w new e p there_is lacks wait =
       let more = next_here nodes some n place e in
       spent_set old now (n + 1) n place w new (low n place e) (λ k l d. sym (next_elsewhere nodes some n k l (λ f. d (f ∙ sym e)))) p there_is
       (λ v was. record { node = sym lacks.node ∙ was.node; total = omega (arith, more, lacks.total, was.total); room = omega (arith, more, lacks.room, was.room) }) wait
 
-  none_spent : (old now : List (Worker X)) (n place : ℕ) (w new : Worker X) → place < nodes → AreSpent state nodes n old now → slice_get now place ≡ Some w → Lacks 0 w new → AllWait state new → AreSpent state nodes n old (set now place new)
+  pub none_spent : (old now : List (Worker X)) (n place : ℕ) (w new : Worker X) → place < nodes → AreSpent state nodes n old now → slice_get now place ≡ Some w → Lacks 0 w new → AllWait state new → AreSpent state nodes n old (set now place new)
   none_spent old now n place w new h p there_is lacks wait =
       spent_set old now n n place w new h (λ k l d. refl) p there_is
       (λ v was. record { node = lacks.node ∙ was.node; total = omega (arith, lacks.total, was.total); room = omega (arith, lacks.room, was.room) }) wait

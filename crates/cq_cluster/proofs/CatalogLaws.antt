@@ -95,7 +95,7 @@ placed_table c colocation i table (o ∷ os) all h = elim (eqb_tells o.0 table) 
 ]
 
 -- a reference table's shard group is one of the catalogue's
-placed_group : (c : Contents) (table group shard : ℕ) → IsWhole c → place_at c table ≡ Reference group shard → group < c.groups
+pub placed_group : (c : Contents) (table group shard : ℕ) → IsWhole c → place_at c table ≡ Reference group shard → group < c.groups
 placed_group c table group shard whole p = by_table (slice_get c.tables table) refl p
   where
     by_table : (o : Option TableInfo) → slice_get c.tables table ≡ o → place_in o ≡ Reference group shard → group < c.groups
@@ -257,26 +257,26 @@ module _ {X : Type 0} (state : X → StoreState) (nodes : ℕ) where
 
 -- ---- a table is put into a co-location group
 
-other_place : (ts : List TableInfo) (n i : ℕ) (p : Place) → i ≢ n → slice_get (with_place ts n p) i ≡ slice_get ts i
+pub other_place : (ts : List TableInfo) (n i : ℕ) (p : Place) → i ≢ n → slice_get (with_place ts n p) i ≡ slice_get ts i
 other_place [] n i p ne = refl
 other_place (t ∷ ts) zero zero p ne = absurd (ne refl)
 other_place (t ∷ ts) zero (suc i) p ne = refl
 other_place (t ∷ ts) (suc n) zero p ne = refl
 other_place (t ∷ ts) (suc n) (suc i) p ne = other_place ts n i p (λ e. ne (ap suc e))
 
-own_place : (ts : List TableInfo) (n : ℕ) (p : Place) (t : TableInfo) → slice_get ts n ≡ Some t → slice_get (with_place ts n p) n ≡ Some (record t { place = p })
+pub own_place : (ts : List TableInfo) (n : ℕ) (p : Place) (t : TableInfo) → slice_get ts n ≡ Some t → slice_get (with_place ts n p) n ≡ Some (record t { place = p })
 own_place [] n p t s = cc
 own_place (u ∷ ts) zero p t s = ap (λ (v : TableInfo). Some (record v { place = p })) (some_is s)
 own_place (u ∷ ts) (suc n) p t s = own_place ts n p t s
 
-same_shape : (ts : List TableInfo) (n i : ℕ) (p : Place) → shape_of (slice_get (with_place ts n p) i) ≡ shape_of (slice_get ts i)
+pub same_shape : (ts : List TableInfo) (n i : ℕ) (p : Place) → shape_of (slice_get (with_place ts n p) i) ≡ shape_of (slice_get ts i)
 same_shape [] n i p = refl
 same_shape (t ∷ ts) zero zero p = refl
 same_shape (t ∷ ts) zero (suc i) p = refl
 same_shape (t ∷ ts) (suc n) zero p = refl
 same_shape (t ∷ ts) (suc n) (suc i) p = same_shape ts n i p
 
-taken_placed : (nodes : ℕ) (cs : List Colocation) (place : ℕ) (ts : List TableInfo) (n : ℕ) (p : Place) (t : TableInfo) → slice_get ts n ≡ Some t → t.place ≡ Local → taken_in nodes cs place (with_place ts n p) ≡ taken_in nodes cs place ts + taken_by nodes cs place p
+pub taken_placed : (nodes : ℕ) (cs : List Colocation) (place : ℕ) (ts : List TableInfo) (n : ℕ) (p : Place) (t : TableInfo) → slice_get ts n ≡ Some t → t.place ≡ Local → taken_in nodes cs place (with_place ts n p) ≡ taken_in nodes cs place ts + taken_by nodes cs place p
 taken_placed nodes cs place [] n p t s local = cc
 taken_placed nodes cs place (u ∷ ts) zero p t s local =
     let none : taken_by nodes cs place u.place ≡ 0 = ap (taken_by nodes cs place) (ap (λ (v : TableInfo). v.place) (some_is s) ∙ local) in

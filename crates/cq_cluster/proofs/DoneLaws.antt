@@ -50,7 +50,7 @@ module _ {X : Type 0} (state : X → StoreState) where
   pub is_undone_on : {m n : ℕ} (old : List (GroupState X)) (full : List (Worker X)) (groups : List (GroupState X)) (workers : List (Worker X)) → n ≡ m → IsUndone state n old full groups workers → IsUndone state m old full groups workers
   is_undone_on old full groups workers same is = subst (λ k. IsUndone state k old full groups workers) same is
 
-  keeps_stores : (old new : Cluster X) → new.nodes ≡ old.nodes → ((entry : List (Worker X)) → AreWorkers state old.nodes entry old.groups.items old.workers.items → AreWorkers state old.nodes entry new.groups.items new.workers.items) → KeepsStores state old new
+  pub keeps_stores : (old new : Cluster X) → new.nodes ≡ old.nodes → ((entry : List (Worker X)) → AreWorkers state old.nodes entry old.groups.items old.workers.items → AreWorkers state old.nodes entry new.groups.items new.workers.items) → KeepsStores state old new
   keeps_stores old new nodes stores = record { nodes = nodes; stores = λ entry at. rw nodes (stores entry at) }
 
   -- ---- all is as it was

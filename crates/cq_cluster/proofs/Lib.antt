@@ -17,3 +17,5 @@ pub mod PlanLaws
 pub mod DoneLaws
 pub mod CreatingLaws
 pub mod GroupLaws
+pub mod LendingLaws
+pub mod ReferenceLaws

@@ -100,7 +100,7 @@ module _ {X : Type 0} (state : X → StoreState) (nodes : ℕ) (some : 0 < nodes
 module _ {X : Type 0} (state : X → StoreState) where
   -- ---- before a distribution
 
-  all_wait : (cl : Cluster X) → IsSound state cl → (place : ℕ) (w : Worker X) → place < cl.nodes → slice_get cl.workers.items place ≡ Some w → AllWait state w
+  pub all_wait : (cl : Cluster X) → IsSound state cl → (place : ℕ) (w : Worker X) → place < cl.nodes → slice_get cl.workers.items place ≡ Some w → AllWait state w
   all_wait cl s place w h t =
       let at = s.workers.1.used place w h t in
       subst (λ n. All (λ (x : X). IsWaiting n (state x)) w.stores.items) (sym at.node) at.stores

@@ -59,6 +59,12 @@ module _ (nodes : ℕ) (some : 0 < nodes) where
       let parts : 0 + nodes - 1 - place ≡ 0 * nodes + (nodes - 1 - place) = omega (arith, within) in
       ap (λ n. n / nodes) parts ∙ div-mul-add 0 nodes (nodes - 1 - place) (omega (arith, within))
 
+  -- one shard for each node
+  pub one_on : (place : ℕ) → place < nodes → shards_on nodes nodes place ≡ 1
+  one_on place within =
+      let all : 0 * nodes + nodes ≡ nodes = omega arith in
+      ap (λ n. shards_on nodes n place) (sym all) ∙ last_round 0 nodes place within (omega arith)
+
   -- more shards are no fewer on a node
   rises : (m n : ℕ) → m ≤ n → m / nodes ≤ n / nodes
   rises m n less = let all = div-add-mod' m nodes in le-div (m / nodes) n nodes some (omega (arith, all, less))

@@ -50,7 +50,7 @@ all_back : {X : Type 0} (P : X → Type 0) (xs ys : List X) → AllByRecursion P
 all_back P [] ys all = all
 all_back P (x ∷ xs) ys all = all_back P xs ys all.1
 
-all_both : {X : Type 0} (P : X → Type 0) (xs ys : List X) → AllByRecursion P xs → AllByRecursion P ys → AllByRecursion P (xs ++ ys)
+pub all_both : {X : Type 0} (P : X → Type 0) (xs ys : List X) → AllByRecursion P xs → AllByRecursion P ys → AllByRecursion P (xs ++ ys)
 all_both P [] ys p q = q
 all_both P (x ∷ xs) ys p q = (p.0, all_both P xs ys p.1 q)
 
@@ -58,11 +58,11 @@ module _ {X : Type 0} (state : X → StoreState) where
   abbrev AreSteady : List X → Type 0
   AreSteady xs = AllByRecursion (λ (x : X). IsTrue (state x).steady) xs
 
-  steady_stores : (ts : List (GroupTable X)) → AllByRecursion (λ (t : GroupTable X). AreSteady t.stores.items) ts → AreSteady (flat_map (λ (t : GroupTable X). t.stores.items) ts)
+  pub steady_stores : (ts : List (GroupTable X)) → AllByRecursion (λ (t : GroupTable X). AreSteady t.stores.items) ts → AreSteady (flat_map (λ (t : GroupTable X). t.stores.items) ts)
   steady_stores [] all = tt
   steady_stores (t ∷ ts) all = all_both (λ (x : X). IsTrue (state x).steady) t.stores.items (flat_map (λ (u : GroupTable X). u.stores.items) ts) all.0 (steady_stores ts all.1)
 
-  stores_steady : (ts : List (GroupTable X)) → AreSteady (flat_map (λ (t : GroupTable X). t.stores.items) ts) → AllByRecursion (λ (t : GroupTable X). AreSteady t.stores.items) ts
+  pub stores_steady : (ts : List (GroupTable X)) → AreSteady (flat_map (λ (t : GroupTable X). t.stores.items) ts) → AllByRecursion (λ (t : GroupTable X). AreSteady t.stores.items) ts
   stores_steady [] all = tt
   stores_steady (t ∷ ts) all = (
     all_front (λ (x : X). IsTrue (state x).steady) t.stores.items (flat_map (λ (u : GroupTable X). u.stores.items) ts) all,

@@ -238,9 +238,9 @@ module _ {X : Type 0} (state : X → StoreState) (nodes : ℕ) (some : 0 < nodes
       everywhere_gone state (more_at shards.first_group (shard_outline shards shape) n) old groups a.gone
       (λ h g s node. more_outside shards.first_group (shard_outline shards shape) n h (λ j l e. absurd (let r = a.ready h g (omega (arith, e)) (omega (arith, e, l, a.few)) s in omega (arith, r.1, node))))
 
-  keeps : (old groups : List (GroupState X)) (full workers : List (Worker X)) (n : ℕ) → nodes ≤ length full → AreSpent state nodes n full workers → ((place : ℕ) → place < nodes → held place groups ≡ held place old + shards_on nodes n place) →
-      everywhere groups ≡ everywhere old → (entry : List (Worker X)) → AreWorkers state nodes entry old full → AreWorkers state nodes entry groups workers
-  keeps old groups full workers n both spent count all_nodes entry now = record {
+  pub keeps_all : (old groups : List (GroupState X)) (full workers : List (Worker X)) (n : ℕ) → nodes ≤ length full → AreSpent state nodes n full workers →
+      ((place : ℕ) → place < nodes → held place groups + everywhere groups ≡ held place old + everywhere old + shards_on nodes n place) → (entry : List (Worker X)) → AreWorkers state nodes entry old full → AreWorkers state nodes entry groups workers
+  keeps_all old groups full workers n both spent count entry now = record {
     same_length = spent.same_length ∙ now.same_length;
     used = λ place w h s.
         let before = there full workers place w w spent.same_length s in
@@ -249,11 +249,15 @@ module _ {X : Type 0} (state : X → StoreState) (nodes : ℕ) (some : 0 < nodes
         record {
           node = lacks.0.node ∙ was.node;
           stores = subst (λ m. All (λ (x : X). IsWaiting m (state x)) w.stores.items) (lacks.0.node ∙ was.node) lacks.1;
-          total = omega (arith, lacks.0.total, was.total, count place h, all_nodes);
-          room = omega (arith, lacks.0.room, was.room, count place h, all_nodes);
+          total = omega (arith, lacks.0.total, was.total, count place h);
+          room = omega (arith, lacks.0.room, was.room, count place h);
         };
     unused = λ place h. spent.unused place h ∙ now.unused place h;
   }
+
+  keeps : (old groups : List (GroupState X)) (full workers : List (Worker X)) (n : ℕ) → nodes ≤ length full → AreSpent state nodes n full workers → ((place : ℕ) → place < nodes → held place groups ≡ held place old + shards_on nodes n place) →
+      everywhere groups ≡ everywhere old → (entry : List (Worker X)) → AreWorkers state nodes entry old full → AreWorkers state nodes entry groups workers
+  keeps old groups full workers n both spent count all_nodes = keeps_all old groups full workers n both spent (λ place h. omega (arith, count place h, all_nodes))
 
   pub done_at : (c : Contents) (table column : ℕ) (kind : Kind) (target : Target) (shape : Shape) (info : TableInfo) (old groups : List (GroupState X)) (full workers : List (Worker X)) → IsWhole c → AreGroups state nodes c old → slice_get c.tables table ≡ Some info →
       info.place ≡ Local → CanOpen c target → shape ≡ shape_in c table → IsOpen state nodes (opened_at c table target) shape old full groups workers → IsDone c (distributed_at c table column kind target) old groups full workers
@@ -293,7 +297,7 @@ module _ {X : Type 0} (state : X → StoreState) (nodes : ℕ) (some : 0 < nodes
       let empty : (place : ℕ) → held place done.begun ≡ held place old = λ place. ap (held place) done.begins.1 ∙ held_empty state nodes place c.groups old opened done.begins.3 in
       record {
         after = groups_spread state nodes next table column (length c.colocations) count co info done.begun groups (whole_opened c kind count joinable whole can) there local (last_there c.colocations co) exact a.held begun_groups;
-        grows = λ who. opened_grow state nodes who c.groups old opened (journals_of groups) done.begins.3 (sym all.count)
+        grows = λ who. opened_grow who c.groups old opened (journals_of groups) (λ i g s. let is = done.begins.3 i g s in (is.number, is.entries)) (sym all.count)
             (gone_journals state _ done.begun groups a.gone ∙ ap (λ (gs : List (GroupState X)). journals_of gs) done.begins.1 ∙ map-append (λ (g : GroupState X). journal_of g) old opened);
         stores = keeps old groups full workers count a.enough a.spent (λ place h. a.held place h ∙ ap (λ n. n + shards_on nodes count place) (empty place))
             (adding_everywhere (shards_of nodes o) shape done.begun groups full workers count a ∙ ap (λ (gs : List (GroupState X)). everywhere gs) done.begins.1 ∙ everywhere_empty state nodes c.groups old opened done.begins.3);

@@ -3,3 +3,4 @@ pub mod Cluster
 pub mod Steps
 pub mod Ending
 pub mod Closing
+pub mod References

@@ -4,10 +4,12 @@
 
 mod closing;
 mod cluster;
+mod copies;
 mod creating;
 mod distribute;
 mod making;
 mod opening;
+mod reference;
 mod shard;
 mod shards;
 mod spare;

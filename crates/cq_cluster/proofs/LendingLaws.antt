@@ -1,0 +1,145 @@
+-- The workers' lists, as each node gives a store for a reference table, and gets it back.
+use Rattle.std.proofs.Common.{◌≡◌, ℕ, zero, suc, ◌+◌, ◌<◌, ◌≤◌, List, [], ◌∷◌, ◌++◌, length, map, get_or, refl, sym, ap, subst, ◌∙◌, arith, inl, inr, Some, None, slice_get, length-append}
+use Rattle.std.specs.Prelude.{IsTrue}
+use Rattle.std.specs.List.{AllByRecursion}
+use Rattle.std.proofs.Math.ListN.{set}
+use Rattle.std.proofs.Math.Nat.{mod-eq_of_lt}
+use Rattle.std.proofs.lemmas.Option.{slice_get_within}
+use Rattle.cq_store.specs.Stores.{StoreState, IsSpare}
+use Rattle.cq_store.specs.Workers.{room}
+use Rattle.cq_store.specs.declared.worker.Worker.{Worker}
+use Rattle.cq_group.specs.Opening.{AreFresh, AreFreshFrom, first_shard, AreSpareFrom}
+use Rattle.cq_cluster.specs.Steps.{IsSteadyOn, IsAdopted, AllWait, Lacks}
+use Rattle.cq_cluster.specs.References.{AreCopies, AreOnEach, HaveLent}
+use Rattle.cq_cluster.proofs.ListLaws.{there, item_at, got_more}
+use Rattle.cq_cluster.proofs.RoomLaws.{none_on, one_on, next_here, fewer_on}
+use Rattle.cq_cluster.proofs.AddingLaws.{one_spent, one_back, none_spent}
+
+module _ {X : Type 0} (state : X → StoreState) where
+  -- ---- a worker at its place
+
+  pub record IsLender (place : ℕ) (workers : List (Worker X)) (w : Worker X) : Type 0 where
+    pub there_is : slice_get workers place ≡ Some w
+    pub node : w.node ≡ place + 1
+    pub waiting : AllWait state w
+
+  lender : (nodes n place : ℕ) (full workers : List (Worker X)) (w : Worker X) → HaveLent state nodes n full workers → place < nodes → slice_get workers place ≡ Some w → IsLender place workers w
+  lender nodes n place full workers w lent h s =
+      let before = there full workers place w w lent.spent.same_length s in
+      let is = lent.spent.used place (get_or full place w) w h before s in
+      record { there_is = s; node = is.0.node ∙ (lent.stores place (get_or full place w) h before).0; waiting = is.1 }
+
+  -- the next one has a store to give
+  pub can_lend : (nodes place : ℕ) (full workers : List (Worker X)) (w : Worker X) → HaveLent state nodes place full workers → place < nodes → slice_get workers place ≡ Some w → IsLender place workers w × (0 < length w.stores.items)
+  can_lend nodes place full workers w lent h s =
+      let before = there full workers place w w lent.spent.same_length s in
+      let is = lent.spent.used place (get_or full place w) w h before s in
+      let has = (lent.stores place (get_or full place w) h before).2 in
+      let less = fewer_on nodes lent.some place nodes place h (sym (mod-eq_of_lt h)) in
+      (lender nodes place place full workers w lent h s, omega (arith, is.0.total, has, less))
+
+  -- the last one that gave has room for its store
+  pub can_take : (nodes place : ℕ) (full workers : List (Worker X)) (w : Worker X) → HaveLent state nodes (place + 1) full workers → slice_get workers place ≡ Some w → IsLender place workers w × (0 < room w.stores)
+  can_take nodes place full workers w lent s =
+      let h : place < nodes = omega (arith, lent.few) in
+      let before = there full workers place w w lent.spent.same_length s in
+      let is = lent.spent.used place (get_or full place w) w h before s in
+      let more = next_here nodes lent.some place place (sym (mod-eq_of_lt h)) in
+      (lender nodes (place + 1) place full workers w lent h s, omega (arith, is.0.room, more))
+
+  pub worker_there : (nodes n place : ℕ) (full workers : List (Worker X)) → HaveLent state nodes n full workers → place < nodes → place < length workers
+  worker_there nodes n place full workers lent h = omega (arith, lent.enough, lent.spent.same_length, h)
+
+  -- ---- one step
+
+  pub lent_more : (nodes place : ℕ) (full workers : List (Worker X)) (w new : Worker X) → HaveLent state nodes place full workers → place < nodes → slice_get workers place ≡ Some w → Lacks 1 w new → AllWait state new →
+      HaveLent state nodes (place + 1) full (set workers place new)
+  lent_more nodes place full workers w new lent h s lacks wait = record {
+    some = lent.some;
+    enough = lent.enough;
+    few = omega (arith, h);
+    stores = lent.stores;
+    spent = one_spent state nodes lent.some full workers place place w new (sym (mod-eq_of_lt h)) lent.spent s lacks wait;
+  }
+
+  pub lent_same : (nodes n place : ℕ) (full workers : List (Worker X)) (w new : Worker X) → HaveLent state nodes n full workers → place < nodes → slice_get workers place ≡ Some w → Lacks 0 w new → AllWait state new → HaveLent state nodes n full (set workers place new)
+  lent_same nodes n place full workers w new lent h s lacks wait = record {
+    some = lent.some;
+    enough = lent.enough;
+    few = lent.few;
+    stores = lent.stores;
+    spent = none_spent state nodes lent.some full workers n place w new h lent.spent s lacks wait;
+  }
+
+  pub lent_less : (nodes place : ℕ) (full workers : List (Worker X)) (w new : Worker X) → HaveLent state nodes (place + 1) full workers → slice_get workers place ≡ Some w → Lacks 1 new w → AllWait state new → HaveLent state nodes place full (set workers place new)
+  lent_less nodes place full workers w new lent s lacks wait =
+      let h : place < nodes = omega (arith, lent.few) in
+      record {
+        some = lent.some;
+        enough = lent.enough;
+        few = omega (arith, h);
+        stores = lent.stores;
+        spent = one_back state nodes lent.some full workers place place w new (sym (mod-eq_of_lt h)) lent.spent s lacks wait;
+      }
+
+  -- ---- the stores
+
+  pub copies_none : (shard : ℕ) (stores : List X) → stores ≡ [] → AreCopies state shard stores
+  copies_none shard stores none = subst (AreCopies state shard) (sym none) (λ j x s. cc)
+
+  pub copies_more : (shard : ℕ) (stores next : List X) (n : ℕ) (x : X) → AreCopies state shard stores → length stores ≡ n → IsAdopted (n + 1) shard (state x) → next ≡ stores ++ x ∷ [] → AreCopies state shard next
+  copies_more shard stores next n x all count is same = subst (AreCopies state shard) (sym same) (λ j y s. elim (got_more stores x j y s) [
+    | inl p ↦ subst (λ (z : X). IsAdopted (j + 1) shard (state z)) (sym p.1) (subst (λ m. IsAdopted (m + 1) shard (state x)) (sym (p.0 ∙ count)) is)
+    | inr p ↦ all j y p
+  ])
+
+  pub copies_on : (shard : ℕ) (stores : List X) → AreCopies state shard stores → AreOnEach state stores
+  copies_on shard stores all j x s = let is = all j x s in record { of_node = is.of_node; steady = is.steady }
+
+  fresh_from : (from shard : ℕ) (xs : List X) → ((j : ℕ) (x : X) → slice_get xs j ≡ Some x → IsAdopted (from + j + 1) shard (state x)) → AreFreshFrom from 0 shard (map state xs)
+  fresh_from from shard [] all = tt
+  fresh_from from shard (x ∷ xs) all =
+      let is = all 0 x refl in (
+        record { of_node = (let at = is.of_node in omega (arith, at)); of_shard = is.of_shard; empty = is.empty; nothing = is.nothing },
+        fresh_from (from + 1) shard xs (λ j y s. subst (λ n. IsAdopted n shard (state y)) (let e : from + suc j + 1 ≡ from + 1 + j + 1 = omega arith in e) (all (suc j) y s)),
+      )
+
+  -- they are those of a new table of a reference group
+  pub fresh_copies : (nodes shard : ℕ) (xs : List X) → length xs ≡ nodes → 0 < nodes → 0 < shard → AreCopies state shard xs → AreFresh state 0 nodes xs × (first_shard state xs ≡ shard)
+  fresh_copies nodes shard [] count some id all = absurd (omega (arith, count, some))
+  fresh_copies nodes shard (x ∷ xs) count some id all =
+      let first : (state x).shard ≡ shard = (all 0 x refl).of_shard in
+      let from : AreFreshFrom 0 0 shard (map state (x ∷ xs)) = fresh_from 0 shard (x ∷ xs) (λ j y s. subst (λ n. IsAdopted n shard (state y)) (let e : j + 1 ≡ 0 + j + 1 = omega arith in e) (all j y s)) in
+      (record { complete = count; adopted = omega (arith, first, id); each = subst (λ n. AreFreshFrom 0 0 n (map state (x ∷ xs))) (sym first) from }, first)
+
+  steady_at : (xs : List X) → ((j : ℕ) (x : X) → slice_get xs j ≡ Some x → IsTrue (state x).steady) → AllByRecursion (λ (x : X). IsTrue (state x).steady) xs
+  steady_at [] all = tt
+  steady_at (x ∷ xs) all = (all 0 x refl, steady_at xs (λ j y s. all (suc j) y s))
+
+  pub steady_copies : (shard : ℕ) (xs : List X) → AreCopies state shard xs → AllByRecursion (λ (x : X). IsTrue (state x).steady) xs
+  steady_copies shard xs all = steady_at xs (λ j x s. (all j x s).steady)
+
+  on_from : (from : ℕ) (xs : List X) → AreSpareFrom from 0 (map state xs) → AllByRecursion (λ (x : X). IsTrue (state x).steady) xs → (j : ℕ) (x : X) → slice_get xs j ≡ Some x → IsSteadyOn (from + j + 1) (state x)
+  on_from from [] spare steady j x s = cc
+  on_from from (y ∷ ys) spare steady zero x s =
+      let same : y ≡ x = cc in
+      let node : (state y).node ≡ from + 1 = spare.1 in
+      subst (λ (z : X). IsSteadyOn (from + 0 + 1) (state z)) same (record { of_node = omega (arith, node); steady = steady.0 })
+  on_from from (y ∷ ys) spare steady (suc j) x s = subst (λ n. IsSteadyOn n (state x)) (let e : from + 1 + j + 1 ≡ from + suc j + 1 = omega arith in e) (on_from (from + 1) ys spare.2 steady.1 j x s)
+
+  -- the stores of a table that was taken out of a reference group
+  pub on_each : (xs : List X) → AreSpareFrom 0 0 (map state xs) → AllByRecursion (λ (x : X). IsTrue (state x).steady) xs → AreOnEach state xs
+  on_each xs spare steady j x s = subst (λ n. IsSteadyOn n (state x)) (let e : 0 + j + 1 ≡ j + 1 = omega arith in e) (on_from 0 xs spare steady j x s)
+
+  -- without the last one
+  pub on_fewer : (xs rest : List X) (x : X) → xs ≡ rest ++ x ∷ [] → AreOnEach state xs → AreOnEach state rest × IsSteadyOn (length rest + 1) (state x)
+  on_fewer xs rest x same all = (λ j y s. all j y (ap (λ (v : List X). slice_get v j) same ∙ still rest x j y s), all (length rest) x (ap (λ (v : List X). slice_get v (length rest)) same ∙ last rest x))
+    where
+      still : (ys : List X) (z : X) (j : ℕ) (y : X) → slice_get ys j ≡ Some y → slice_get (ys ++ z ∷ []) j ≡ Some y
+      still [] z j y s = cc
+      still (a ∷ ys) z zero y s = s
+      still (a ∷ ys) z (suc j) y s = still ys z j y s
+
+      last : (ys : List X) (z : X) → slice_get (ys ++ z ∷ []) (length ys) ≡ Some z
+      last [] z = refl
+      last (a ∷ ys) z = last ys z
