@@ -322,8 +322,8 @@ module _ {X : Type 0} (state : X → StoreState) (nodes : ℕ) where
       let kept_place : (t : ℕ) → t ≢ table → place_at next t ≡ place_at c t = λ t ne. ap place_in (other_place c.tables table t place ne) in
       let outside : (h : ℕ) (g : GroupState X) → slice_get old h ≡ Some g → g.node ≡ 0 → more_at co.first_group o co.count h ≡ [] =
       λ h g s node. more_outside co.first_group o co.count h (λ j l e.
-          let on_one = (all.each colocation j co g joins l (subst (λ n. slice_get old n ≡ Some g) e s)).node in
-          omega (arith, on_one, node)) in
+      let on_one = (all.each colocation j co g joins l (subst (λ n. slice_get old n ≡ Some g) e s)).node in
+      omega (arith, on_one, node)) in
       record {
         count = gone.count ∙ all.count;
         each = λ k i kind g k_there within s.

@@ -1,5 +1,5 @@
 -- The workers' lists, as group after group is closed and hands its stores back.
-use Rattle.std.proofs.Common.{◌≡◌, ◌≢◌, ◌⊎◌, inl, inr, ℕ, ◌+◌, ◌-◌, ◌<◌, ◌≤◌, Bool, true, false, cond, List, [], ◌∷◌, ◌++◌, length, get_or, map, refl, sym, ap, subst, ◌∙◌, arith, Some, slice_get, length-set, length-append, append_assoc, append-nil}
+use Rattle.std.proofs.Common.{◌≡◌, ◌≢◌, inl, inr, ℕ, ◌+◌, ◌-◌, ◌<◌, cond, List, [], ◌∷◌, ◌++◌, length, get_or, map, refl, sym, ap, subst, ◌∙◌, arith, Some, slice_get, length-set, length-append, append_assoc, append-nil}
 use Rattle.std.specs.Prelude.{nat_eq}
 use Rattle.std.specs.List.{AllByRecursion}
 use Rattle.std.proofs.Math.ListN.{set}
@@ -10,8 +10,8 @@ use Rattle.cq_store.specs.Stores.{StoreState}
 use Rattle.cq_store.specs.Workers.{room}
 use Rattle.cq_store.specs.declared.worker.Worker.{Worker}
 use Rattle.cq_group.specs.declared.group.GroupState.{GroupState}
-use Rattle.cq_group.specs.Groups.{IsKept, stores_of}
-use Rattle.cq_cluster.specs.Closing.{all_stores, stores_at, AreKept, HasRoom, HaveRoom, AreElsewhere, HasBack, HaveBack}
+use Rattle.cq_group.specs.Groups.{stores_of}
+use Rattle.cq_cluster.specs.Closing.{all_stores, stores_at, AreKept, HasRoom, HaveRoom, HaveBack}
 use Rattle.cq_cluster.proofs.ListLaws.{got_after, got_other, there}
 
 -- ---- lists

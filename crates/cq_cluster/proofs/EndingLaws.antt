@@ -25,9 +25,9 @@ use Rattle.cq_group.specs.declared.group.GroupState.{GroupState}
 use Rattle.cq_group.specs.Groups.{Outline, outline, outlines, shape_at, entries_of, journal_of, stores_of, node_at, copies_of, AreReplicasFrom, IsReplica, IsTableKept, IsTableQuiet, IsKept}
 use Rattle.cq_group.specs.Groups.{AreDistinct as HaveNumbers}
 use Rattle.cq_cluster.specs.Cluster.{Either, node_of, IsShardOf, IsGroupOf, IsReferenceGroup, IsCovered, IsReferenced, AreGroups, IsWaiting, held, everywhere, AreWorkers}
-use Rattle.cq_cluster.specs.Closing.{all_stores, stores_at, AreKept, HasRoom, HaveRoom, AreElsewhere, HaveBack}
+use Rattle.cq_cluster.specs.Closing.{all_stores, stores_at, AreKept, HasRoom, HaveRoom, HaveBack}
 use Rattle.cq_group.specs.Resting.{journals_of}
-use Rattle.cq_cluster.specs.Ending.{record_of, IsShard, IsIn, AreDistinct, AreOfGroup, IsCopy, AreOfReference, BeginWith, AreOnNode, IsFinal}
+use Rattle.cq_cluster.specs.Ending.{record_of, IsShard, IsIn, AreDistinct, AreOfGroup, AreOfReference, BeginWith, AreOnNode, IsFinal}
 use Rattle.cq_cluster.proofs.ListLaws.{only_item, item_at, there}
 use Rattle.cq_cluster.proofs.ClosingLaws.{at_both, count_both, if_here, if_other}
 

@@ -8,16 +8,13 @@ use Rattle.cq_value.specs.declared.schema.Kind.{Kind}
 use Rattle.cq_value.specs.Tables.{empty_table}
 use Rattle.cq_tree.specs.declared.journal.Who.{Who}
 use Rattle.cq_journal.specs.Records.{Journal}
-use Rattle.cq_catalog.specs.Contents.{Contents, place_in, first_group_in, count_in, with_place}
+use Rattle.cq_catalog.specs.Contents.{Contents, first_group_in, count_in}
 use Rattle.cq_catalog.specs.Creation.{with_table}
 use Rattle.cq_catalog.specs.Distribution.{distributed_at, with_reference}
-use Rattle.cq_catalog.specs.Placement.{place_at}
 use Rattle.cq_catalog.specs.Whole.{IsWhole}
 use Rattle.cq_catalog.specs.declared.decision.Target.{Target}
 use Rattle.cq_catalog.specs.declared.decision.Target.TheVariants.{Joins, Opens}
 use Rattle.cq_catalog.specs.declared.info.Colocation.{Colocation}
-use Rattle.cq_catalog.specs.declared.info.Place.TheVariants.{Local, Distributed, Reference}
-use Rattle.cq_catalog.specs.declared.info.TableInfo.{TableInfo}
 use Rattle.cq_history.specs.Deeds.{IsFresh, Grows}
 use Rattle.cq_history.specs.Journals.{journal_in, none}
 use Rattle.cq_history.specs.Laws.{OpensGroups}

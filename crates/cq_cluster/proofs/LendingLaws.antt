@@ -1,18 +1,23 @@
 -- The workers' lists, as each node gives a store for a reference table, and gets it back.
-use Rattle.std.proofs.Common.{◌≡◌, ℕ, zero, suc, ◌+◌, ◌<◌, ◌≤◌, List, [], ◌∷◌, ◌++◌, length, map, get_or, refl, sym, ap, subst, ◌∙◌, arith, inl, inr, Some, None, slice_get, length-append}
+use Rattle.std.proofs.Common.{◌≡◌, ℕ, zero, suc, ◌+◌, ◌<◌, List, [], ◌∷◌, ◌++◌, length, map, get_or, refl, sym, ap, subst, ◌∙◌, arith, inl, inr, Some, slice_get}
 use Rattle.std.specs.Prelude.{IsTrue}
 use Rattle.std.specs.List.{AllByRecursion}
 use Rattle.std.proofs.Math.ListN.{set}
 use Rattle.std.proofs.Math.Nat.{mod-eq_of_lt}
-use Rattle.std.proofs.lemmas.Option.{slice_get_within}
-use Rattle.cq_store.specs.Stores.{StoreState, IsSpare}
+use Rattle.std.proofs.lemmas.Option.{slice_get_read}
+use Rattle.cq_store.specs.Stores.{StoreState}
 use Rattle.cq_store.specs.Workers.{room}
 use Rattle.cq_store.specs.declared.worker.Worker.{Worker}
+use Rattle.cq_value.specs.declared.schema.Shape.{Shape}
+use Rattle.cq_journal.specs.declared.journal.Journal.{Journal}
+use Rattle.cq_group.specs.declared.group.GroupState.{GroupState}
+use Rattle.cq_group.specs.Groups.{IsKept, IsQuiet, Outline, outlines, stores_of, entries_of}
 use Rattle.cq_group.specs.Opening.{AreFresh, AreFreshFrom, first_shard, AreSpareFrom}
 use Rattle.cq_cluster.specs.Steps.{IsSteadyOn, IsAdopted, AllWait, Lacks}
-use Rattle.cq_cluster.specs.References.{AreCopies, AreOnEach, HaveLent}
-use Rattle.cq_cluster.proofs.ListLaws.{there, item_at, got_more}
-use Rattle.cq_cluster.proofs.RoomLaws.{none_on, one_on, next_here, fewer_on}
+use Rattle.cq_cluster.specs.References.{AreCopies, AreOnEach, HaveLent, IsNewReference}
+use Rattle.cq_cluster.proofs.ShardLaws.{stores_steady}
+use Rattle.cq_cluster.proofs.ListLaws.{there, got_more}
+use Rattle.cq_cluster.proofs.RoomLaws.{next_here, fewer_on}
 use Rattle.cq_cluster.proofs.AddingLaws.{one_spent, one_back, none_spent}
 
 module _ {X : Type 0} (state : X → StoreState) where
@@ -28,6 +33,10 @@ module _ {X : Type 0} (state : X → StoreState) where
       let before = there full workers place w w lent.spent.same_length s in
       let is = lent.spent.used place (get_or full place w) w h before s in
       record { there_is = s; node = is.0.node ∙ (lent.stores place (get_or full place w) h before).0; waiting = is.1 }
+
+  -- a worker that is read is there
+  pub read_at : (nodes n place : ℕ) (full workers : List (Worker X)) (w : Worker X) → HaveLent state nodes n full workers → place < nodes → w ≡ get_or workers place w → slice_get workers place ≡ Some w
+  read_at nodes n place full workers w lent h is = slice_get_read workers (length workers) place w refl (omega (arith, lent.enough, lent.spent.same_length, h)) is
 
   -- the next one has a store to give
   pub can_lend : (nodes place : ℕ) (full workers : List (Worker X)) (w : Worker X) → HaveLent state nodes place full workers → place < nodes → slice_get workers place ≡ Some w → IsLender place workers w × (0 < length w.stores.items)
@@ -46,9 +55,6 @@ module _ {X : Type 0} (state : X → StoreState) where
       let is = lent.spent.used place (get_or full place w) w h before s in
       let more = next_here nodes lent.some place place (sym (mod-eq_of_lt h)) in
       (lender nodes (place + 1) place full workers w lent h s, omega (arith, is.0.room, more))
-
-  pub worker_there : (nodes n place : ℕ) (full workers : List (Worker X)) → HaveLent state nodes n full workers → place < nodes → place < length workers
-  worker_there nodes n place full workers lent h = omega (arith, lent.enough, lent.spent.same_length, h)
 
   -- ---- one step
 
@@ -118,6 +124,26 @@ module _ {X : Type 0} (state : X → StoreState) where
 
   pub steady_copies : (shard : ℕ) (xs : List X) → AreCopies state shard xs → AllByRecursion (λ (x : X). IsTrue (state x).steady) xs
   steady_copies shard xs all = steady_at xs (λ j x s. (all j x s).steady)
+
+  -- a reference group to which its table was added
+  pub new_reference : (nodes number table : ℕ) (shape : Shape) (shard : ℕ) (old new : GroupState X) (xs : List X) → old.journal.group ≡ number → old.journal.opening ≡ 0 → old.node ≡ 0 → old.nodes ≡ nodes → entries_of old ≡ [] → old.tables.items ≡ [] → IsQuiet state old →
+      length xs ≡ nodes → AreCopies state shard xs → first_shard state xs ≡ shard → outlines new ≡ outlines old ++ (table, shape, first_shard state xs, length xs) ∷ [] → stores_of new ≡ stores_of old ++ xs →
+      new.journal ≡ old.journal → new.node ≡ old.node → new.nodes ≡ old.nodes → IsKept state new → (IsQuiet state old → IsQuiet state new) → IsNewReference state nodes number table shape shard new
+  new_reference nodes number table shape shard old new xs group opening node on entries none quiet count copies first outlined stores journal same_node same_nodes kept still =
+      let o : ◌≡◌ {A = Outline} (table, shape, first_shard state xs, length xs) (table, shape, shard, nodes) = rw (first, count) refl in
+      let empty : outlines old ≡ [] = rw none refl in
+      let had : stores_of old ≡ [] = rw none refl in
+      record {
+        kept = kept;
+        quiet = still quiet;
+        steady = stores_steady state new.tables.items (subst (AllByRecursion (λ (x : X). IsTrue (state x).steady)) (sym (stores ∙ ap (λ (v : List X). v ++ xs) had)) (steady_copies shard xs copies));
+        group = ap (λ (j : Journal). j.group) journal ∙ group;
+        opening = ap (λ (j : Journal). j.opening) journal ∙ opening;
+        node = same_node ∙ node;
+        on = same_nodes ∙ on;
+        entries = ap (λ (j : Journal). j.entries.list) journal ∙ entries;
+        only = outlined ∙ ap (λ (v : List Outline). v ++ (table, shape, first_shard state xs, length xs) ∷ []) empty ∙ ap (λ (v : Outline). v ∷ []) o;
+      }
 
   on_from : (from : ℕ) (xs : List X) → AreSpareFrom from 0 (map state xs) → AllByRecursion (λ (x : X). IsTrue (state x).steady) xs → (j : ℕ) (x : X) → slice_get xs j ≡ Some x → IsSteadyOn (from + j + 1) (state x)
   on_from from [] spare steady j x s = cc

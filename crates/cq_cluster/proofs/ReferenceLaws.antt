@@ -1,5 +1,5 @@
 -- What a cluster keeps as a table becomes a reference table, or doesn't.
-use Rattle.std.proofs.Common.{◌≡◌, ◌≢◌, ◌⊎◌, inl, inr, ℕ, zero, suc, ◌+◌, ◌<◌, ◌≤◌, false, cond, List, [], ◌∷◌, ◌++◌, length, map, refl, sym, ap, subst, ◌∙◌, arith, Some, None, Option, IsSome, slice_get, length-append}
+use Rattle.std.proofs.Common.{◌≡◌, ◌≢◌, ◌⊎◌, inl, inr, ℕ, zero, suc, ◌+◌, ◌<◌, ◌≤◌, false, cond, List, [], ◌∷◌, ◌++◌, length, refl, sym, ap, subst, ◌∙◌, arith, Some, None, Option, slice_get, length-append}
 use Rattle.std.specs.Prelude.{nat_eq, option_map}
 use Rattle.std.proofs.lemmas.Bool.{cases_lt, ne_eqb}
 use Rattle.std.proofs.lemmas.Bool.Decides.{eqb_tells}
@@ -17,7 +17,6 @@ use Rattle.cq_catalog.specs.Whole.{IsWhole, IsLocalAt}
 use Rattle.cq_catalog.proofs.WholeLaws.{whole_grouped, whole_spread}
 use Rattle.cq_catalog.specs.declared.error.CatalogError.{CatalogError}
 use Rattle.cq_catalog.specs.declared.info.Opened.{Opened}
-use Rattle.cq_catalog.specs.declared.info.Place.{Place}
 use Rattle.cq_catalog.specs.declared.info.Place.TheVariants.{Local, Distributed, Reference}
 use Rattle.cq_planning.specs.Database.{shape_in}
 use Rattle.cq_history.specs.Deeds.{Grows}
@@ -33,7 +32,7 @@ use Rattle.cq_group.specs.Groups.{IsKept, IsQuiet, IsSteady, Outline, entries_of
 use Rattle.cq_group.specs.Resting.{journals_of}
 use Rattle.cq_cluster.specs.declared.cluster.Cluster.{Cluster}
 use Rattle.cq_cluster.specs.Cluster.{IsShardOf, held, everywhere, AreGroups, AreWorkers, journals, run_of, IsSound, KeepsStores}
-use Rattle.cq_cluster.specs.Room.{shards_on, taken, taken_in}
+use Rattle.cq_cluster.specs.Room.{taken, taken_in}
 use Rattle.cq_cluster.specs.Steps.{shortage, IsUndone}
 use Rattle.cq_cluster.specs.References.{HaveLent, IsNewReference, IsReferencePlanned}
 use Rattle.cq_cluster.proofs.RoomLaws.{one_on}
@@ -169,6 +168,20 @@ module _ {X : Type 0} (state : X → StoreState) (cl : Cluster X) (table : List 
     spent = spent_none state cl.nodes s.some cl.workers.items (all_wait state cl s);
   }
 
+-- ---- the second look of the catalogue, which is as it was
+
+module _ (c again : Contents) (table : List ℕ) (same : again ≡ c) where
+  -- it refuses for want of memory alone
+  pub memory_after : (e : CatalogError) (f : Fault) → reference_refusal c table ≡ None → IsCause e (reference_refusal again table) → f ≡ fault_of_catalog e → f ≡ fault.Memory
+  memory_after e f allowed cause is = is ∙ memory_alone e (reference_refusal c table) allowed (subst (λ (v : Contents). IsCause e (reference_refusal v table)) same cause)
+
+  pub made_after : (next : Contents) → next ≡ with_reference again table → next ≡ with_reference c table
+  made_after next made = subst (λ (v : Contents). next ≡ with_reference v table) same made
+
+-- a reference group is on as many nodes as the run uses
+pub lent_back : {X : Type 0} (state : X → StoreState) (on nodes : ℕ) (full given after : List (Worker X)) → on ≡ nodes → (HaveLent state on on full given → HaveLent state on 0 full after) → HaveLent state nodes nodes full given → HaveLent state nodes 0 full after
+lent_back state on nodes full given after same step lent = subst (λ n. HaveLent state n 0 full after) same (step (subst (λ n. HaveLent state n n full given) (sym same) lent))
+
 module _ {X : Type 0} (state : X → StoreState) (old new : Cluster X) where
   -- ---- all is as it was
 
@@ -206,10 +219,10 @@ module _ {X : Type 0} (state : X → StoreState) (old new : Cluster X) where
       let whole : IsWhole (with_reference c table) = whole_referenced c (reference_opened c table).table s.whole p.few local in
       let kept : (entry : List (Worker X)) → AreWorkers state old.nodes entry old.groups.items old.workers.items → AreWorkers state old.nodes entry (old.groups.items ++ g ∷ []) new.workers.items =
       keeps_all state old.nodes s.some old.groups.items (old.groups.items ++ g ∷ []) old.workers.items new.workers.items old.nodes s.enough lent.spent (λ place h.
-          let own = held_more state old.nodes place old.groups.items g exact.node in
-          let all_nodes = everywhere_more state old.nodes old.groups.items g _ exact.node exact.only in
-          let one = one_on old.nodes s.some place h in
-          omega (arith, own, all_nodes, one)) in
+      let own = held_more state old.nodes place old.groups.items g exact.node in
+      let all_nodes = everywhere_more state old.nodes old.groups.items g _ exact.node exact.only in
+      let one = one_on old.nodes s.some place h in
+      omega (arith, own, all_nodes, one)) in
       let stores : (entry : List (Worker X)) → AreWorkers state old.nodes entry old.groups.items old.workers.items → AreWorkers state old.nodes entry new.groups.items new.workers.items =
       λ entry at. subst (λ (gs : List (GroupState X)). AreWorkers state old.nodes entry gs new.workers.items) (sym groups) (kept entry at) in
       record {

@@ -45,7 +45,7 @@ takes_first state node (x ∷ xs) all h =
     }
 
 -- a waiting store that adopts a shard
-adopted : (node shard : ℕ) (old new : StoreState) → IsWaiting node old → Becomes old (record old { shard = shard }) new → IsAdopted node shard new
+pub adopted : (node shard : ℕ) (old new : StoreState) → IsWaiting node old → Becomes old (record old { shard = shard }) new → IsAdopted node shard new
 adopted node shard old new waits becomes = record {
   of_node = ap (λ (s : StoreState). s.node) becomes.state ∙ waits.of_node;
   of_shard = ap (λ (s : StoreState). s.shard) becomes.state;
