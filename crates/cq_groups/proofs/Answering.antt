@@ -142,9 +142,9 @@ module _ {X : Type 0} (run : Run) (e : Environment) (who : Who) (op : ShardOp) (
   entry_same : (p : Part) (reply : Reply) (g : ℕ) → part_at e.catalog op p.group ≡ p → in_each (p.group ∷ []) (λ h. entry.Write p.op reply) g ≡ in_each (p.group ∷ []) (λ h. entry.Write (part e.catalog op h) reply) g
   entry_same p reply g same = elim (eqb_tells g p.group) [
     | inl y ↦ (
-      let is : p.op ≡ part e.catalog op g = sym (ap (λ (q : Part). q.op) same) ∙ ap (part e.catalog op) (sym y.1) in
-      rw y.0 (ap (λ (o : ShardOp). entry.Write o reply ∷ []) is)
-    )
+        let is : p.op ≡ part e.catalog op g = sym (ap (λ (q : Part). q.op) same) ∙ ap (part e.catalog op) (sym y.1) in
+        rw y.0 (ap (λ (o : ShardOp). entry.Write o reply ∷ []) is)
+        )
     | inr z ↦ rw z.0 refl
   ]
 

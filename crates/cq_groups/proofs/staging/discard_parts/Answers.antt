@@ -1,24 +1,27 @@
-use Rattle.std.proofs.Common.{◌≡◌, List, ◌∷◌, ◌++◌, [], refl, sym, ◌∙◌, subst}
-use Rattle.std.proofs.lemmas.List.{nil_from_length}
-use Rattle.std.specs.Vec.Iter.{into_iter_items}
+use Rattle.std.proofs.Common.{◌≡◌, ◌<◌, List, take, length, sym, ◌∙◌, subst, ap, arith}
 use Rattle.cq_group.specs.Groups.{IsKept}
 use Rattle.cq_groups.specs.declared.staging.ReadyPart.{ReadyPart}
-use Rattle.cq_groups.specs.Staging.{IsDropped, AreDropped, place_of}
-use Rattle.cq_groups.proofs.Turning.{turned_none}
-use Rattle.cq_groups.proofs.Stopping.{in_group, group_within, in_next, turned_next, rest_next, rest_now, rest_none}
+use Rattle.cq_groups.specs.Staging.{AreDropped}
+use Rattle.cq_groups.proofs.Stopping.{in_group, group_within, discard_kept, discard_more, front_all}
 use Rattle.cq_groups.proofs.staging.discard_parts.Goals as goal
 
-pub loop-staged-init : goal.loop-staged-init
-loop-staged-init g c = ?
-
 pub discard_in-requires-clause-within : goal.discard_in-requires-clause-within
-discard_in-requires-clause-within g c = ?
+discard_in-requires-clause-within g c =
+    group_within c.loop-staged.groups.items c.staged-item.result.part (IsKept g.S.Store.state)
+    (discard_kept g.S.Store.state c.args.ready.now c.as_slice-staged-items.result.now c.loop-staged.staged-index c.staged-item.result c.args.groups.now.items c.loop-staged.groups.items c.as_slice-staged-items.ensures c.loop-staged-test.true c.staged-item.is c.requires.apart c.loop-staged.invariant c.requires.kept)
 
 pub discard_in-requires-clause-kept : goal.discard_in-requires-clause-kept
-discard_in-requires-clause-kept g c = ?
+discard_in-requires-clause-kept g c =
+    in_group c.loop-staged.groups.items c.staged-item.result.part (IsKept g.S.Store.state)
+    (discard_kept g.S.Store.state c.args.ready.now c.as_slice-staged-items.result.now c.loop-staged.staged-index c.staged-item.result c.args.groups.now.items c.loop-staged.groups.items c.as_slice-staged-items.ensures c.loop-staged-test.true c.staged-item.is c.requires.apart c.loop-staged.invariant c.requires.kept)
 
 pub loop-staged-preserved : goal.loop-staged-preserved
-loop-staged-preserved g c = ?
+loop-staged-preserved g c =
+    discard_more g.S.Store.state c.args.ready.now c.as_slice-staged-items.result.now c.loop-staged.staged-index c.staged-item.result c.args.groups.now.items c.loop-staged.groups.items c.as_slice-staged-items.ensures c.loop-staged-test.true c.staged-item.is c.requires.apart c.loop-staged.invariant c.discard_in.new.groups.items c.discard_in.ensures
 
 pub returns : goal.returns
-returns g c = ?
+returns g c =
+    let far = c.loop-staged-test.false in
+    let long = ap (λ (v : List ReadyPart). length v) c.as_slice-staged-items.ensures in
+    let all = front_all c.args.ready.now c.loop-staged.staged-index (omega (arith, far, long)) in
+    subst (λ (v : List ReadyPart). AreDropped g.S.Store.state v c.args.groups.now.items c.loop-staged.groups.items) all c.loop-staged.invariant
