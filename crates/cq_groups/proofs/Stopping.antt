@@ -1,22 +1,20 @@
 -- Parts that are staged in order, and the part at which a write stops.
-use Rattle.std.proofs.Common.{◌≡◌, ◌≢◌, inl, inr, ℕ, zero, suc, take, drop, add-one, ◌+◌, ◌<◌, ◌≤◌, List, [], ◌∷◌, ◌++◌, length, map, get_or, refl, sym, ◌∙◌, ap, subst, arith, Some, slice_get, Result, Ok, Err}
+use Rattle.std.proofs.Common.{◌≡◌, inl, inr, ℕ, zero, suc, take, drop, add-one, ◌+◌, ◌<◌, ◌≤◌, List, [], ◌∷◌, ◌++◌, length, map, get_or, refl, sym, ◌∙◌, ap, subst, arith, Some, slice_get, Result, Ok, Err}
 use Rattle.std.proofs.lemmas.Option.{same_Some}
 use Rattle.std.specs.List.{AllByRecursion}
 use Rattle.cq_history.proofs.Lists.{got, got_below}
 use Rattle.cq_tree.specs.declared.write.Reply.{Reply}
 use Rattle.cq_journal.specs.Replies.{IsMade, IsRefusal}
-use Rattle.cq_meaning.specs.Effects.{table_of}
 use Rattle.cq_store.specs.Stores.{StoreState}
 use Rattle.cq_group.specs.declared.group.GroupState.{GroupState}
-use Rattle.cq_group.specs.Groups.{IsKept, IsQuiet, IsReady, HasTable}
-use Rattle.cq_group.specs.Calls.{CanCompute}
-use Rattle.cq_group.specs.Resting.{IsResting, AreResting}
+use Rattle.cq_group.specs.Groups.{IsKept, IsQuiet, IsReady}
+use Rattle.cq_group.specs.Resting.{AreResting}
 use Rattle.cq_router.specs.declared.insertion.Part.{Part}
 use Rattle.cq_groups.specs.declared.error.WriteError.TheVariants.{Ids, Memory}
 use Rattle.cq_groups.specs.declared.staging.ReadyPart.{ReadyPart}
 use Rattle.cq_groups.specs.declared.staging.Stop.{Stop}
 use Rattle.cq_groups.specs.declared.staging.Stop.TheVariants as stop
-use Rattle.cq_groups.specs.Writes.{InGroup, CanTake, IsReadyIn, AscendFrom, IsStopped, LacksIds}
+use Rattle.cq_groups.specs.Writes.{InGroup, CanTake, IsReadyIn, AscendFrom, IsStopped}
 use Rattle.cq_groups.specs.Staging.{InBoth, TurnsOne, IsApart, AreApart, Turned, IsHeld, IsDropped, Stages, Refuses, CanStage, place_of, IsReplied, StopsAt, IsPut, AreStaged, AreDropped, IsNext, AreRestored, StopsBy, AllStaged}
 use Rattle.cq_groups.proofs.Turning.{apart_last, one_at, one_twice, one_weaker, turned_at, turned_more}
 use Rattle.cq_groups.proofs.Holding.{held_same, held_more, dropped_more, made_over, stops_dropped}

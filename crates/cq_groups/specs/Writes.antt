@@ -1,8 +1,7 @@
 -- What a write does to several shard groups.
-use Rattle.std.specs.Prelude.{◌≡◌, ◌+◌, ◌≤◌, ◌<◌, ⊤, ℕ, List, [], ◌∷◌, ◌++◌, length, map, Some, slice_get, Result, Ok, Err}
+use Rattle.std.specs.Prelude.{◌≡◌, ◌+◌, ◌≤◌, ◌<◌, ⊤, ℕ, List, [], ◌∷◌, ◌++◌, length, Some, slice_get, Result, Ok, Err}
 use Rattle.std.specs.List.{AllByRecursion, sum_by}
 use Rattle.cq_tree.specs.declared.journal.Who.{Who}
-use Rattle.cq_tree.specs.declared.journal.EntryKind.{EntryKind}
 use Rattle.cq_tree.specs.declared.journal.EntryKind.TheVariants as entry
 use Rattle.cq_tree.specs.declared.write.Reply.{Reply}
 use Rattle.cq_tree.specs.declared.write.Reply.TheVariants.{Count, Duplicate, OutOfRange}
@@ -14,7 +13,7 @@ use Rattle.cq_group.specs.declared.group.GroupState.{GroupState}
 use Rattle.cq_group.specs.Groups.{entries_of, shapes, HasTable}
 use Rattle.cq_group.specs.Calls.{next_id, CanCompute}
 use Rattle.cq_group.specs.Resting.{journals_of}
-use Rattle.cq_history.specs.Journals.{Kinds, none, in_each}
+use Rattle.cq_history.specs.Journals.{Kinds, in_each}
 use Rattle.cq_history.specs.Deeds.{Grows}
 use Rattle.cq_router.specs.declared.insertion.Part.{Part}
 use Rattle.cq_groups.specs.declared.error.WriteError.{WriteError}

@@ -1,4 +1,4 @@
-use Rattle.std.proofs.Common.{◌≡◌, refl, subst, sym}
+use Rattle.std.proofs.Common.{refl, subst, sym}
 use Rattle.std.proofs.lemmas.Option.{slice_get_read}
 use Rattle.std.specs.Prelude.{Result}
 use Rattle.cq_tree.specs.declared.write.Reply.{Reply}
