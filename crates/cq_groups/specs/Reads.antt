@@ -1,7 +1,7 @@
 -- What a query reads of several shard groups.
-use Rattle.std.specs.Prelude.{ℕ, List, [], map, Option, Some, None, slice_get}
+use Rattle.std.specs.Prelude.{◌≡◌, ℕ, List, [], map, Option, Some, None, slice_get}
 use Rattle.std.specs.List.{flat_map}
-use Rattle.cq_meaning.specs.Values.{Tables}
+use Rattle.cq_meaning.specs.Values.{Row, Tables}
 use Rattle.cq_group.specs.declared.group.GroupState.{GroupState}
 use Rattle.cq_group.specs.Calls.{captured}
 
