@@ -3,4 +3,5 @@ pub mod ReadLaws
 pub mod GatherLaws
 pub mod LookLaws
 pub mod QueryLaws
+pub mod AloneLaws
 pub mod Nodes
