@@ -18,8 +18,8 @@ use Rattle.cq_catalog.specs.declared.info.Place.{Place}
 use Rattle.cq_catalog.specs.declared.info.Place.TheVariants.{Local, Distributed, Reference}
 use Rattle.cq_catalog.specs.declared.info.TableInfo.{TableInfo}
 use Rattle.cq_store.specs.Stores.{StoreState}
-use Rattle.cq_history.specs.Environment.{shape_in}
-use Rattle.cq_history.specs.Room.{nodes, shards_on, taken_by, taken_in, taken}
+use Rattle.cq_planning.specs.Database.{shape_in}
+use Rattle.cq_cluster.specs.Room.{nodes, shards_on, taken_by, taken_in, taken}
 use Rattle.cq_group.specs.declared.group.GroupState.{GroupState}
 use Rattle.cq_group.specs.Groups.{Outline, outlines, shape_at, stores_of}
 use Rattle.cq_cluster.specs.Cluster.{IsShardOf, held, AreGroups}

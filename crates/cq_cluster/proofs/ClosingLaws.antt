@@ -8,7 +8,7 @@ use Rattle.cq_journal.specs.declared.journal.Journal.{Journal}
 use Rattle.cq_store.specs.Stores.{StoreState}
 use Rattle.cq_store.specs.Workers.{room}
 use Rattle.cq_store.specs.declared.worker.Worker.{Worker}
-use Rattle.cq_history.specs.Room.{nodes}
+use Rattle.cq_cluster.specs.Room.{nodes}
 use Rattle.cq_group.specs.declared.group.GroupState.{GroupState}
 use Rattle.cq_group.specs.Groups.{stores_of}
 use Rattle.cq_cluster.specs.Cluster.{held}

@@ -19,8 +19,8 @@ use Rattle.cq_catalog.specs.declared.error.Limited.TheVariants.{Columns, Tables}
 use Rattle.cq_catalog.specs.declared.info.Colocation.{Colocation}
 use Rattle.cq_catalog.specs.declared.info.Place.TheVariants.{Local, Distributed}
 use Rattle.cq_catalog.specs.declared.info.TableInfo.{TableInfo}
-use Rattle.cq_history.specs.Environment.{shape_in}
-use Rattle.cq_history.specs.Room.{taken_in}
+use Rattle.cq_planning.specs.Database.{shape_in}
+use Rattle.cq_cluster.specs.Room.{taken_in}
 use Rattle.cq_store.specs.Stores.{StoreState}
 use Rattle.cq_group.specs.declared.group.GroupState.{GroupState}
 use Rattle.cq_group.specs.Groups.{Outline, outlines}

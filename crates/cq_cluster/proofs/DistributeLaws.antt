@@ -18,15 +18,14 @@ use Rattle.cq_catalog.specs.declared.error.CatalogError.{CatalogError}
 use Rattle.cq_catalog.specs.declared.error.CatalogError.TheVariants.{Memory}
 use Rattle.cq_catalog.specs.declared.info.Colocation.{Colocation}
 use Rattle.cq_catalog.specs.declared.info.Place.TheVariants.{Distributed}
-use Rattle.cq_history.specs.Room.{room_fault}
-use Rattle.cq_history.specs.Standing.{distribution_fault}
+use Rattle.cq_cluster.specs.Room.{room_fault}
+use Rattle.cq_cluster.specs.Room.{distribution_fault}
 use Rattle.cq_store.specs.Stores.{StoreState}
 use Rattle.cq_store.specs.declared.worker.Worker.{Worker}
 use Rattle.cq_cluster.specs.declared.cluster.Cluster.{Cluster}
-use Rattle.cq_cluster.specs.Cluster.{AreGroups, AreWorkers, histories, IsSound}
+use Rattle.cq_cluster.specs.Cluster.{AreGroups, AreWorkers, IsSound}
 use Rattle.cq_cluster.specs.Steps.{IsUndone}
 use Rattle.cq_cluster.proofs.CatalogLaws.{groups_again, last_there}
-use Rattle.cq_cluster.proofs.GoneLaws.{gone_entries}
 use Rattle.cq_cluster.proofs.SoundLaws.{undone_stores}
 
 -- ---- the catalogue after a distribution
@@ -103,6 +102,3 @@ module _ {X : Type 0} (state : X → StoreState) where
       sound_of old new s (subst (λ (c : Contents). AreGroups state c new.groups.items) (sym same) (groups_again state old.catalog old.groups.items new.groups.items undone.gone s.groups))
       (subst IsWhole (sym same) s.whole) (subst (λ (c : Contents). 0 < c.next_shard) (sym same) s.ids) undone.spent.same_length
       (undone_stores state old.groups.items new.groups.items old.workers.items new.workers.items s.both undone)
-
-  pub same_histories : (old new : Cluster X) → IsUndone state old.groups.items old.workers.items new.groups.items new.workers.items → histories new ≡ histories old
-  same_histories old new undone = gone_entries state _ old.groups.items new.groups.items undone.gone

@@ -1,6 +1,5 @@
 -- What a distribution leaves: the table distributed, or all as it was.
-use Rattle.std.proofs.Common.{◌≡◌, ℕ, ◌<◌, List, [], ◌++◌, sym, ap, subst, ◌∙◌, None, Option}
-use Rattle.std.specs.Prelude.{replicate}
+use Rattle.std.proofs.Common.{◌≡◌, ℕ, ◌<◌, List, sym, ap, subst, ◌∙◌, None, Option}
 use Rattle.cq_value.specs.declared.schema.With.{With}
 use Rattle.cq_answer.specs.declared.fault.Fault.{Fault}
 use Rattle.cq_answer.specs.declared.fault.Fault.TheVariants as fault
@@ -11,15 +10,19 @@ use Rattle.cq_catalog.specs.Refusals.{IsCause}
 use Rattle.cq_catalog.specs.Whole.{IsWhole}
 use Rattle.cq_catalog.specs.declared.error.CatalogError.{CatalogError}
 use Rattle.cq_catalog.specs.declared.info.Opened.{Opened}
-use Rattle.cq_history.specs.Environment.{shape_in}
-use Rattle.cq_history.specs.Room.{opened_groups}
+use Rattle.cq_planning.specs.Database.{shape_in}
+use Rattle.cq_tree.specs.declared.journal.Who.{Who}
+use Rattle.cq_history.specs.Deeds.{Grows}
+use Rattle.cq_history.specs.Journals.{none}
+use Rattle.cq_history.specs.Laws.{OpensGroups}
 use Rattle.cq_history.specs.Standing.{distribution_fault}
 use Rattle.cq_store.specs.Stores.{StoreState}
 use Rattle.cq_store.specs.declared.worker.Worker.{Worker}
 use Rattle.cq_cluster.specs.declared.cluster.Cluster.{Cluster}
-use Rattle.cq_cluster.specs.Cluster.{AreGroups, AreWorkers, whole_at, histories, IsSound, KeepsStores}
+use Rattle.cq_cluster.specs.Cluster.{AreGroups, AreWorkers, journals, run_of, IsSound, KeepsStores}
 use Rattle.cq_cluster.specs.Steps.{IsOpen, IsUndone, IsPlanned}
-use Rattle.cq_cluster.proofs.GoneLaws.{gone_entries}
+use Rattle.cq_cluster.proofs.GoneLaws.{gone_journals}
+use Rattle.cq_cluster.proofs.JournalLaws.{opens_distributed}
 use Rattle.cq_cluster.proofs.TargetLaws.{can_distribute}
 use Rattle.cq_cluster.proofs.SoundLaws.{done_at, undone_stores}
 use Rattle.cq_cluster.proofs.DistributeLaws.{whole_distributed, ids_distributed, memory_alone, sound_of, sound_again}
@@ -41,13 +44,13 @@ module _ {X : Type 0} (state : X → StoreState) where
 
   pub record IsAsItWas (old new : Cluster X) : Type 0 where
     pub sound : IsSound state new
-    pub same : histories new ≡ histories old
+    pub same : journals new ≡ journals old
     pub stores : KeepsStores state old new
 
   pub as_it_was : (old new : Cluster X) → IsSound state old → new.catalog ≡ old.catalog → IsUndone state old.groups.items old.workers.items new.groups.items new.workers.items → IsAsItWas old new
   as_it_was old new s same undone = record {
     sound = sound_again state old new s same undone;
-    same = gone_entries state _ old.groups.items new.groups.items undone.gone;
+    same = gone_journals state _ old.groups.items new.groups.items undone.gone;
     stores = undone_stores state old.groups.items new.groups.items old.workers.items new.workers.items s.both undone;
   }
 
@@ -56,8 +59,9 @@ module _ {X : Type 0} (state : X → StoreState) where
   module _ (old new : Cluster X) (table column : List ℕ) (count : Option ℕ) (beside : With) (default : ℕ) where
     pub record IsDistributed : Type 0 where
       pub sound : IsSound state new
-      pub opened : histories new ≡ histories old ++ replicate (opened_groups (decision_of old.catalog table column count beside default).target) []
-      pub allowed : (entry : List (Worker X)) → AreWorkers state entry old.groups.items old.workers.items → distribution_fault old.catalog default (whole_at entry) table column count beside ≡ None
+      pub grows : (who : Who) → Grows who none (journals old) (journals new)
+      pub opens : (entry : List (Worker X)) → OpensGroups (run_of entry) old.catalog new.catalog (journals new)
+      pub allowed : (entry : List (Worker X)) → AreWorkers state entry old.groups.items old.workers.items → distribution_fault (run_of entry) old.catalog default table column count beside ≡ None
       pub stores : KeepsStores state old new
 
     pub distributed : (o : Opened) → IsSound state old → IsPlanned old.catalog old.workers.items table column count beside default o →
@@ -71,11 +75,13 @@ module _ {X : Type 0} (state : X → StoreState) where
         subst (λ (v : Opened). IsOpen state v (shape_in c v.table) old.groups.items old.workers.items new.groups.items new.workers.items) p.opened is in
         let done = done_at state c d.table d.column d.kind d.target (shape_in c (opened_at c d.table d.target).table) can.info old.groups.items new.groups.items old.workers.items new.workers.items s.whole s.groups
         can.there can.local can.can (ap (shape_in c) (table_at c d.table d.target)) exact in
+        let after = whole_distributed c d.table d.column d.kind d.target s.whole (can.info, can.there, can.local) can.can in
         record {
           sound = sound_of state old new s (subst (λ (v : Contents). AreGroups state v new.groups.items) (sym made) done.after)
-              (subst IsWhole (sym made) (whole_distributed c d.table d.column d.kind d.target s.whole (can.info, can.there, can.local) can.can))
+              (subst IsWhole (sym made) after)
               (subst (λ (v : Contents). 0 < v.next_shard) (sym made) (ids_distributed c d.table d.column d.kind d.target s.ids)) done.same_length done.stores;
-          opened = done.entries;
+          grows = done.grows;
+          opens = λ entry. subst (λ (v : Contents). OpensGroups (run_of entry) c v (journals new)) (sym made) (opens_distributed state entry c d.table d.column d.kind d.target new.groups.items done.after after);
           allowed = by_shortage state old table column count beside default o None s p.allowed p.opened p.room;
           stores = done.stores;
         }

@@ -1,28 +1,30 @@
 -- The journals and the stores of a cluster's groups, once they are closed.
-use Rattle.std.proofs.Common.{◌≡◌, ◌≢◌, ◌⊎◌, inl, inr, ℕ, zero, suc, ◌+◌, ◌<◌, ◌≤◌, Bool, true, false, cond, List, [], ◌∷◌, ◌++◌, length, get_or, map, refl, sym, ap, subst, ◌∙◌, arith, All, Some, None, IsSome, slice_get, length-append}
+use Rattle.std.proofs.Common.{◌≡◌, ◌≢◌, ◌⊎◌, inl, inr, ℕ, suc, ◌+◌, ◌<◌, ◌≤◌, Bool, true, false, cond, List, [], ◌∷◌, ◌++◌, length, get_or, map, refl, sym, ap, subst, ◌∙◌, arith, All, Some, None, IsSome, slice_get, length-append}
 use Rattle.std.specs.Prelude.{nat_eq}
 use Rattle.std.specs.List.{AllByRecursion, AllZip, flat_map}
 use Rattle.std.proofs.lemmas.Bool.{ne_eqb}
 use Rattle.std.proofs.lemmas.Bool.Decides.{eqb_tells}
 use Rattle.std.proofs.lemmas.Option.{slice_get_within}
-use Rattle.std.proofs.lemmas.List.{map-append, length-map}
+use Rattle.std.proofs.lemmas.List.{map-append}
 use Rattle.std.proofs.lemmas.List.Elements.{recursion_from_All, All-weaker, All-nil, All-cons}
 use Rattle.cq_value.specs.declared.schema.Shape.{Shape}
 use Rattle.cq_tree.specs.declared.journal.Entry.{Entry}
 use Rattle.cq_journal.specs.Journals.{replay}
 use Rattle.cq_journal.specs.declared.journal.Journal.{Journal}
+use Rattle.cq_journal.specs.Records.{Journal as Record}
 use Rattle.cq_catalog.specs.Contents.{Contents}
 use Rattle.cq_catalog.specs.declared.info.Colocation.{Colocation}
 use Rattle.cq_store.specs.Stores.{StoreState, IsSpare}
 use Rattle.cq_store.specs.declared.worker.Worker.{Worker}
-use Rattle.cq_history.specs.Room.{nodes}
+use Rattle.cq_cluster.specs.Room.{nodes}
 use Rattle.cq_group.specs.declared.group.GroupTable.{GroupTable}
 use Rattle.cq_group.specs.declared.group.GroupState.{GroupState}
-use Rattle.cq_group.specs.Groups.{Outline, outline, shape_at, entries_of, stores_of, node_at, copies_of, AreReplicasFrom, IsReplica, IsTableKept, IsTableQuiet, IsKept}
+use Rattle.cq_group.specs.Groups.{Outline, outline, shape_at, entries_of, journal_of, stores_of, node_at, copies_of, AreReplicasFrom, IsReplica, IsTableKept, IsTableQuiet, IsKept}
 use Rattle.cq_group.specs.Groups.{AreDistinct as HaveNumbers}
 use Rattle.cq_cluster.specs.Cluster.{Either, node_of, IsShardOf, IsGroupOf, AreGroups, IsWaiting, AreWorkers}
 use Rattle.cq_cluster.specs.Closing.{stores_on, IsUsed, AreUsed, HaveRoom, HaveBack}
-use Rattle.cq_cluster.specs.Ending.{AreJournals, IsShard, IsIn, AreDistinct, AreOfGroup, BeginWith, AreOnNode, IsFinal}
+use Rattle.cq_group.specs.Resting.{journals_of}
+use Rattle.cq_cluster.specs.Ending.{record_of, IsShard, IsIn, AreDistinct, AreOfGroup, BeginWith, AreOnNode, IsFinal}
 use Rattle.cq_cluster.proofs.ListLaws.{only_item, there}
 use Rattle.cq_cluster.proofs.ClosingLaws.{stores_count}
 
@@ -180,32 +182,12 @@ module _ {X : Type 0} (state : X → StoreState) where
 
   -- ---- the journals
 
-  journal_at : (groups : List (GroupState X)) (h : ℕ) (j : Journal) → slice_get (map (λ (g : GroupState X). g.journal) groups) h ≡ Some j → (g : GroupState X) × (slice_get groups h ≡ Some g) × (j ≡ g.journal)
-  journal_at [] h j s = cc
-  journal_at (g ∷ gs) zero j s = (g, refl, some_is (sym s))
-    where
-      some_is : {a b : Journal} → Some a ≡ Some b → a ≡ b
-      some_is e = cc
-  journal_at (g ∷ gs) (suc h) j s = journal_at gs h j s
+  journals_same : (groups : List (GroupState X)) → map record_of (map (λ (g : GroupState X). g.journal) groups) ≡ journals_of groups
+  journals_same [] = refl
+  journals_same (g ∷ gs) = ap (λ (v : List Record). journal_of g ∷ v) (journals_same gs)
 
-  pub journals_of : (c : Contents) (groups : List (GroupState X)) → AreGroups state c groups → AreJournals c (map (λ (g : GroupState X). g.journal) groups)
-  journals_of c groups all = record {
-    count = length-map groups (λ (g : GroupState X). g.journal) ∙ all.count;
-    numbered = λ h j s.
-        let g = journal_at groups h j s in
-        let at = group_at c groups all h g.0 g.1 in
-        ap (λ (k : Journal). k.group) g.2 ∙ at.is.number ∙ sym at.place;
-    opened = λ colocation i co j there_is within s.
-        let g = journal_at groups (co.first_group + i) j s in
-        ap (λ (k : Journal). k.opening) g.2 ∙ (all.each colocation i co g.0 there_is within g.1).opening;
-  }
-
-  entries_same : (groups : List (GroupState X)) → map (λ (j : Journal). j.entries.list) (map (λ (g : GroupState X). g.journal) groups) ≡ map (λ (g : GroupState X). entries_of g) groups
-  entries_same [] = refl
-  entries_same (g ∷ gs) = ap (λ (v : List (List Entry)). entries_of g ∷ v) (entries_same gs)
-
-  pub entries_of_all : (js : List Journal) (groups : List (GroupState X)) → js ≡ map (λ (g : GroupState X). g.journal) groups → map (λ (j : Journal). j.entries.list) js ≡ map (λ (g : GroupState X). entries_of g) groups
-  entries_of_all js groups e = ap (λ (v : List Journal). map (λ (j : Journal). j.entries.list) v) e ∙ entries_same groups
+  pub journals_of_all : (js : List Journal) (groups : List (GroupState X)) → js ≡ map (λ (g : GroupState X). g.journal) groups → map record_of js ≡ journals_of groups
+  journals_of_all js groups e = ap (map record_of) e ∙ journals_same groups
 
   -- ---- the stores
 

@@ -1,14 +1,16 @@
 -- Groups that go on one by one with a table more.
-use Rattle.std.proofs.Common.{◌≡◌, ◌≢◌, ◌⊎◌, inl, inr, ℕ, zero, suc, ◌+◌, Bool, true, false, cond, List, [], ◌∷◌, ◌++◌, length, map, refl, sym, ap, subst, ◌∙◌, arith, Some, slice_get, length-set, length-append, append_assoc, append-nil}
+use Rattle.std.proofs.Common.{◌≡◌, ◌≢◌, ◌⊎◌, inl, inr, ℕ, zero, suc, ◌+◌, Bool, true, false, cond, List, [], ◌∷◌, ◌++◌, length, refl, sym, ap, subst, ◌∙◌, arith, Some, slice_get, length-set, length-append, append_assoc, append-nil}
 use Rattle.std.specs.Prelude.{nat_eq, nat_le, nat_lt}
 use Rattle.std.proofs.Math.ListN.{set}
 use Rattle.std.proofs.lemmas.Bool.Decides.{nat_tests}
-use Rattle.cq_tree.specs.declared.journal.Entry.{Entry}
+use Rattle.cq_journal.specs.Records.{Journal as Record}
 use Rattle.cq_journal.specs.declared.journal.Journal.{Journal}
 use Rattle.cq_store.specs.Stores.{StoreState}
 use Rattle.cq_group.specs.declared.group.GroupState.{GroupState}
-use Rattle.cq_group.specs.Groups.{IsKept, IsQuiet, IsSteady, Outline, outlines, entries_of, stores_of}
+use Rattle.cq_group.specs.Groups.{IsKept, IsQuiet, IsSteady, Outline, outlines, journal_of, stores_of}
+use Rattle.cq_group.specs.Resting.{journals_of}
 use Rattle.cq_cluster.specs.Cluster.{held}
+use Rattle.cq_cluster.specs.Ending.{record_of}
 use Rattle.cq_cluster.specs.Steps.{Goes, Loses, AreGone, more_at, nothing_more}
 use Rattle.cq_cluster.proofs.ListLaws.{got_after}
 
@@ -62,15 +64,15 @@ module _ {X : Type 0} (state : X → StoreState) where
 
   -- ---- all groups
 
-  pub gone_entries : (more : ℕ → List Outline) (old new : List (GroupState X)) → AreGone state more old new → map entries_of new ≡ map entries_of old
-  gone_entries more [] [] p = refl
-  gone_entries more [] (g ∷ gs) p = absurd (let n = p.count in omega (arith, n))
-  gone_entries more (f ∷ fs) [] p = absurd (let n = p.count in omega (arith, n))
-  gone_entries more (f ∷ fs) (g ∷ gs) p =
+  pub gone_journals : (more : ℕ → List Outline) (old new : List (GroupState X)) → AreGone state more old new → journals_of new ≡ journals_of old
+  gone_journals more [] [] p = refl
+  gone_journals more [] (g ∷ gs) p = absurd (let n = p.count in omega (arith, n))
+  gone_journals more (f ∷ fs) [] p = absurd (let n = p.count in omega (arith, n))
+  gone_journals more (f ∷ fs) (g ∷ gs) p =
       let first = p.each 0 g refl in
       let same : f ≡ first.0 = some_is first.1 in
-      ap (λ (j : Journal). j.entries.list ∷ map entries_of gs) (first.2.journal ∙ ap (λ (h : GroupState X). h.journal) (sym same))
-      ∙ ap (λ (v : List (List Entry)). entries_of f ∷ v) (gone_entries (λ h. more (suc h)) fs gs (record { count = omega (arith, p.count); each = λ h k s. p.each (suc h) k s }))
+      ap (λ (j : Journal). record_of j ∷ journals_of gs) (first.2.journal ∙ ap (λ (h : GroupState X). h.journal) (sym same))
+      ∙ ap (λ (v : List Record). journal_of f ∷ v) (gone_journals (λ h. more (suc h)) fs gs (record { count = omega (arith, p.count); each = λ h k s. p.each (suc h) k s }))
     where
       some_is : {a b : GroupState X} → Some a ≡ Some b → a ≡ b
       some_is e = cc

@@ -6,6 +6,8 @@ pub mod GoneLaws
 pub mod AddingLaws
 pub mod TargetLaws
 pub mod CatalogLaws
+pub mod JournalLaws
+pub mod RoomLaws
 pub mod SoundLaws
 pub mod MakingLaws
 pub mod ClosingLaws
@@ -14,3 +16,4 @@ pub mod DistributeLaws
 pub mod PlanLaws
 pub mod DoneLaws
 pub mod CreatingLaws
+pub mod GroupLaws

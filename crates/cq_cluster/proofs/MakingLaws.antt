@@ -4,7 +4,7 @@ use Rattle.cq_catalog.specs.Contents.{nothing}
 use Rattle.cq_catalog.specs.Whole.{IsWhole}
 use Rattle.cq_store.specs.Stores.{StoreState}
 use Rattle.cq_store.specs.declared.worker.Worker.{Worker}
-use Rattle.cq_history.specs.Room.{nodes}
+use Rattle.cq_cluster.specs.Room.{nodes}
 use Rattle.cq_cluster.specs.declared.cluster.Cluster.{Cluster}
 use Rattle.cq_cluster.specs.Cluster.{AreGroups, stores_in, AreIdle, AreWorkers, IsSound}
 

@@ -18,20 +18,21 @@ use Rattle.cq_catalog.specs.declared.error.CatalogError.{CatalogError}
 use Rattle.cq_catalog.specs.declared.info.Opened.{Opened}
 use Rattle.cq_catalog.specs.declared.info.Place.TheVariants.{Local}
 use Rattle.cq_catalog.specs.declared.info.TableInfo.{TableInfo}
-use Rattle.cq_history.specs.Environment.{shape_in}
-use Rattle.cq_history.specs.Room.{nodes}
+use Rattle.cq_planning.specs.Database.{shape_in}
+use Rattle.cq_cluster.specs.Room.{nodes}
 use Rattle.cq_history.specs.Standing.{distribution_fault}
 use Rattle.cq_store.specs.Stores.{StoreState}
 use Rattle.cq_store.specs.declared.worker.Worker.{Worker}
 use Rattle.cq_group.specs.declared.group.GroupState.{GroupState}
 use Rattle.cq_cluster.specs.declared.cluster.Cluster.{Cluster}
 use Rattle.cq_cluster.specs.declared.shards.Shards.{Shards}
-use Rattle.cq_cluster.specs.Cluster.{IsWaiting, AreWorkers, whole_at, IsSound}
+use Rattle.cq_cluster.specs.Cluster.{IsWaiting, AreWorkers, whole_at, run_of, IsSound}
 use Rattle.cq_cluster.specs.Steps.{AllWait, shortage, HasOpened, IsBegun, forgotten, Adding, shards_of, CanBegin, IsOpen, IsUndone, IsPlanned, IsReady}
 use Rattle.cq_cluster.proofs.GoneLaws.{goes_same}
 use Rattle.cq_cluster.proofs.AddingLaws.{spent_none}
 use Rattle.cq_cluster.proofs.TargetLaws.{can_distribute}
 use Rattle.cq_cluster.proofs.SoundLaws.{have_stores, can_begin_at, room_same, undone_of}
+use Rattle.cq_cluster.proofs.RoomLaws.{same_fault}
 use Rattle.cq_cluster.proofs.DistributeLaws.{by_room, cause_of}
 
 -- ---- what a target opens
@@ -147,21 +148,23 @@ module _ {X : Type 0} (state : X → StoreState) where
 
     -- why a distribution is refused for want of stores, or isn't
     pub by_shortage : (o : Opened) (r : Option Fault) → IsSound state cl → distribution_refusal cl.catalog table column count beside default ≡ None → o ≡ opened_by cl.catalog (decision_of cl.catalog table column count beside default) →
-        shortage o.count cl.workers.items ≡ r → (entry : List (Worker X)) → AreWorkers state entry cl.groups.items cl.workers.items → distribution_fault cl.catalog default (whole_at entry) table column count beside ≡ r
+        shortage o.count cl.workers.items ≡ r → (entry : List (Worker X)) → AreWorkers state entry cl.groups.items cl.workers.items → distribution_fault (run_of entry) cl.catalog default table column count beside ≡ r
     by_shortage o r s allowed is short entry at =
         let d = decision_of cl.catalog table column count beside default in
-        by_room cl.catalog default (whole_at entry) table column count beside r allowed
+        same_fault entry cl.catalog default table column count beside
+        ∙ by_room cl.catalog default (whole_at entry) table column count beside r allowed
         (sym (room_same state cl.catalog entry cl.groups.items cl.workers.items (opened_by cl.catalog d).count s.both s.groups at) ∙ ap (λ (v : Opened). shortage v.count cl.workers.items) (sym is) ∙ short)
 
     -- the error of the catalogue is the cause
     pub refused_by : (e : CatalogError) (f : Fault) → f ≡ fault_of_catalog e → IsCause e (distribution_refusal cl.catalog table column count beside default) → (entry : List (Worker X)) →
-        AreWorkers state entry cl.groups.items cl.workers.items → (f ≡ fault.Memory) ⊎ (distribution_fault cl.catalog default (whole_at entry) table column count beside ≡ Some f)
+        AreWorkers state entry cl.groups.items cl.workers.items → (f ≡ fault.Memory) ⊎ (distribution_fault (run_of entry) cl.catalog default table column count beside ≡ Some f)
     refused_by e f is cause entry at =
-        subst (λ (v : Fault). (v ≡ fault.Memory) ⊎ (distribution_fault cl.catalog default (whole_at entry) table column count beside ≡ Some v)) (sym is)
-        (cause_of cl.catalog default (whole_at entry) table column count beside e cause)
+        subst (λ (v : Fault). (v ≡ fault.Memory) ⊎ (distribution_fault (run_of entry) cl.catalog default table column count beside ≡ Some v)) (sym is)
+        (subst (λ (o : Option Fault). (fault_of_catalog e ≡ fault.Memory) ⊎ (o ≡ Some (fault_of_catalog e))) (sym (same_fault entry cl.catalog default table column count beside))
+        (cause_of cl.catalog default (whole_at entry) table column count beside e cause))
 
     -- want of stores is the cause, where the catalogue refuses nothing
     pub short_by : (o : Opened) (f : Fault) → IsSound state cl → distribution_refusal cl.catalog table column count beside default ≡ None → o ≡ opened_by cl.catalog (decision_of cl.catalog table column count beside default) →
         shortage o.count cl.workers.items ≡ Some f → (entry : List (Worker X)) → AreWorkers state entry cl.groups.items cl.workers.items →
-        (f ≡ fault.Memory) ⊎ (distribution_fault cl.catalog default (whole_at entry) table column count beside ≡ Some f)
+        (f ≡ fault.Memory) ⊎ (distribution_fault (run_of entry) cl.catalog default table column count beside ≡ Some f)
     short_by o f s allowed is short entry at = inr (by_shortage o (Some f) s allowed is short entry at)

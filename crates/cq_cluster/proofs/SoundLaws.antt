@@ -1,6 +1,6 @@
 -- What a cluster keeps as a table is distributed, or isn't.
-use Rattle.std.proofs.Common.{◌≡◌, ◌⊎◌, inl, inr, ℕ, zero, suc, ◌+◌, ◌-◌, ◌<◌, ◌≤◌, Bool, true, false, cond, List, [], ◌∷◌, ◌++◌, length, take, get_or, map, refl, sym, ap, subst, ◌∙◌, arith, All, Some, None, Option, IsSome, slice_get, length-append, append-nil}
-use Rattle.std.specs.Prelude.{nat_lt, replicate}
+use Rattle.std.proofs.Common.{◌≡◌, ◌⊎◌, inl, inr, ℕ, zero, suc, ◌+◌, ◌-◌, ◌<◌, ◌≤◌, Bool, true, false, cond, List, [], ◌∷◌, ◌++◌, length, take, get_or, refl, sym, ap, subst, ◌∙◌, arith, All, Some, None, Option, IsSome, slice_get, length-append}
+use Rattle.std.specs.Prelude.{nat_lt}
 use Rattle.std.specs.List.{AllByRecursion}
 use Rattle.std.proofs.lemmas.Bool.{cases_lt}
 use Rattle.std.proofs.lemmas.Bool.Decides.{nat_tests}
@@ -9,6 +9,7 @@ use Rattle.std.proofs.lemmas.List.{map-append}
 use Rattle.cq_value.specs.declared.schema.Kind.{Kind}
 use Rattle.cq_value.specs.declared.schema.Shape.{Shape}
 use Rattle.cq_tree.specs.declared.journal.Entry.{Entry}
+use Rattle.cq_tree.specs.declared.journal.Who.{Who}
 use Rattle.cq_tree.specs.declared.journal.EntryKind.{EntryKind}
 use Rattle.cq_tree.specs.declared.journal.EntryKind.TheVariants.{Read, Write, MoveStart, CatchUp, Cutover, MoveStop}
 use Rattle.cq_meaning.specs.Effects.{table_of}
@@ -29,14 +30,18 @@ use Rattle.cq_catalog.specs.declared.info.Place.TheVariants.{Local}
 use Rattle.cq_catalog.specs.declared.info.TableInfo.{TableInfo}
 use Rattle.cq_store.specs.Stores.{StoreState}
 use Rattle.cq_store.specs.declared.worker.Worker.{Worker}
-use Rattle.cq_history.specs.Environment.{shape_in}
-use Rattle.cq_history.specs.Room.{nodes, shards_on, taken, short_at, room_fault, opened_groups}
+use Rattle.cq_planning.specs.Database.{shape_in}
+use Rattle.cq_history.specs.Deeds.{Grows}
+use Rattle.cq_history.specs.Journals.{none as nothing_made}
+use Rattle.cq_cluster.specs.Room.{nodes, shards_on, taken, short_at, room_fault}
 use Rattle.cq_group.specs.declared.group.GroupState.{GroupState}
-use Rattle.cq_group.specs.Groups.{IsKept, IsNamed, IsQuiet, IsSteady, Outline, outlines, shape_at, entries_of}
+use Rattle.cq_group.specs.Groups.{IsKept, IsNamed, IsQuiet, IsSteady, Outline, outlines, shape_at, entries_of, journal_of}
+use Rattle.cq_group.specs.Resting.{journals_of}
 use Rattle.cq_cluster.specs.Cluster.{Either, node_of, IsWaiting, held, AreGroups, whole_at, AreWorkers, stores_in}
 use Rattle.cq_cluster.specs.Steps.{Goes, AreGone, more_at, nothing_more, AreSpent, HaveStores, AreOpened, IsUnwritten, shard_outline, Adding, short_of, shortage, shards_of, HasOpened, IsBegun, forgotten, CanBegin, IsOpen, IsUndone}
 use Rattle.cq_cluster.proofs.ListLaws.{there}
-use Rattle.cq_cluster.proofs.GoneLaws.{goes_same, more_none, gone_entries, held_gone}
+use Rattle.cq_cluster.proofs.GoneLaws.{goes_same, more_none, gone_journals, held_gone}
+use Rattle.cq_cluster.proofs.JournalLaws.{same_grows, opened_grow}
 use Rattle.cq_cluster.proofs.AddingLaws.{spent_none}
 use Rattle.cq_cluster.proofs.CatalogLaws.{no_shard, groups_opened, groups_spread, held_empty, before_more, behind_more, last_there}
 
@@ -195,16 +200,10 @@ module _ {X : Type 0} (state : X → StoreState) where
 
   -- ---- after a table is distributed
 
-  opened_entries : (first : ℕ) (n : ℕ) (gs : List (GroupState X)) → length gs ≡ n → ((i : ℕ) (g : GroupState X) → slice_get gs i ≡ Some g → entries_of g ≡ []) → map entries_of gs ≡ replicate n []
-  opened_entries first zero [] e empty = refl
-  opened_entries first (suc n) [] e empty = absurd (omega (arith, e))
-  opened_entries first zero (g ∷ gs) e empty = absurd (omega (arith, e))
-  opened_entries first (suc n) (g ∷ gs) e empty = rw (empty 0 g refl) (ap (λ (v : List (List Entry)). [] ∷ v) (opened_entries first n gs (omega (arith, e)) (λ i h s. empty (suc i) h s)))
-
-  -- a table's shards are added, and what the groups, the entries and the workers are then
-  pub record IsDone (c next : Contents) (opened : ℕ) (old groups : List (GroupState X)) (full workers : List (Worker X)) : Type 0 where
+  -- a table's shards are added, and what the groups, their journals and the workers are then
+  pub record IsDone (c next : Contents) (old groups : List (GroupState X)) (full workers : List (Worker X)) : Type 0 where
     pub after : AreGroups state next groups
-    pub entries : map entries_of groups ≡ map entries_of old ++ replicate opened []
+    pub grows : (who : Who) → Grows who nothing_made (journals_of old) (journals_of groups)
     pub stores : (entry : List (Worker X)) → AreWorkers state entry old full → AreWorkers state entry groups workers
     pub same_length : length workers ≡ length full
 
@@ -226,7 +225,7 @@ module _ {X : Type 0} (state : X → StoreState) where
   }
 
   pub done_at : (c : Contents) (table column : ℕ) (kind : Kind) (target : Target) (shape : Shape) (info : TableInfo) (old groups : List (GroupState X)) (full workers : List (Worker X)) → IsWhole c → AreGroups state c old → slice_get c.tables table ≡ Some info →
-      info.place ≡ Local → CanOpen c target → shape ≡ shape_in c table → IsOpen state (opened_at c table target) shape old full groups workers → IsDone c (distributed_at c table column kind target) (opened_groups target) old groups full workers
+      info.place ≡ Local → CanOpen c target → shape ≡ shape_in c table → IsOpen state (opened_at c table target) shape old full groups workers → IsDone c (distributed_at c table column kind target) old groups full workers
   done_at c table column kind (Joins colocation) shape info old groups full workers whole all there local can is done =
       let a = done.added in
       let same : done.begun ≡ old = done.begins in
@@ -242,7 +241,7 @@ module _ {X : Type 0} (state : X → StoreState) where
       let number : (place : ℕ) → place < nodes → held place groups ≡ held place old + shards_on o.count place = λ place h. a.held place h ∙ ap (λ (gs : List (GroupState X)). held place gs + shards_on o.count place) same in
       record {
         after = groups_spread state c table column colocation (count_in (slice_get c.colocations colocation)) co.0 info old groups whole there local co.1 exact (λ place h. number place h ∙ ap (λ n. held place old + shards_on n place) count) all;
-        entries = gone_entries state _ old groups gone ∙ sym (append-nil (map entries_of old));
+        grows = λ who. same_grows who (journals_of old) (journals_of groups) (gone_journals state _ old groups gone);
         stores = keeps old groups full workers o.count a.both a.spent number;
         same_length = a.spent.same_length;
       }
@@ -263,8 +262,8 @@ module _ {X : Type 0} (state : X → StoreState) where
       let empty : (place : ℕ) → held place done.begun ≡ held place old = λ place. ap (held place) done.begins.1 ∙ held_empty state place c.groups old opened done.begins.3 in
       record {
         after = groups_spread state next table column (length c.colocations) count co info done.begun groups (whole_opened c kind count joinable whole can) there local (last_there c.colocations co) exact a.held begun_groups;
-        entries = gone_entries state _ done.begun groups a.gone ∙ ap (map entries_of) done.begins.1 ∙ map-append entries_of old opened
-            ∙ ap (λ (v : List (List Entry)). map entries_of old ++ v) (opened_entries c.groups count opened done.begins.2 (λ i g s. (done.begins.3 i g s).entries));
+        grows = λ who. opened_grow state who c.groups old opened (journals_of groups) done.begins.3 (sym all.count)
+            (gone_journals state _ done.begun groups a.gone ∙ ap (λ (gs : List (GroupState X)). journals_of gs) done.begins.1 ∙ map-append (λ (g : GroupState X). journal_of g) old opened);
         stores = keeps old groups full workers count a.both a.spent (λ place h. a.held place h ∙ ap (λ n. n + shards_on count place) (empty place));
         same_length = a.spent.same_length;
       }

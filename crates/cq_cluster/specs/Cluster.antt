@@ -1,19 +1,21 @@
 -- The shard groups of the catalogue over the two workers of a run, and what the workers' lists still hold.
-use Rattle.std.specs.Prelude.{◌≡◌, ◌+◌, ◌%◌, ◌<◌, ◌≤◌, ℕ, IsTrue, Bool, true, false, List, [], ◌∷◌, length, map, All, Option, Some, None, slice_get, nat_eq, if◌then◌else◌}
+use Rattle.std.specs.Prelude.{◌≡◌, ◌+◌, ◌%◌, ◌<◌, ◌≤◌, ℕ, IsTrue, Bool, true, false, List, [], ◌∷◌, length, All, Option, Some, None, slice_get, nat_eq, if◌then◌else◌}
 use Rattle.std.specs.List.{AllByRecursion}
-use Rattle.cq_tree.specs.declared.journal.Entry.{Entry}
 use Rattle.cq_catalog.specs.Contents.{Contents}
 use Rattle.cq_catalog.specs.Placement.{place_at}
 use Rattle.cq_catalog.specs.Whole.{IsWhole}
 use Rattle.cq_catalog.specs.declared.info.Colocation.{Colocation}
 use Rattle.cq_catalog.specs.declared.info.Place.TheVariants.{Distributed}
-use Rattle.cq_history.specs.Environment.{shape_in}
-use Rattle.cq_history.specs.Room.{nodes, taken}
+use Rattle.cq_planning.specs.Database.{shape_in}
+use Rattle.cq_journal.specs.Records.{Journal}
+use Rattle.cq_history.specs.Run.{Run, first_settings}
+use Rattle.cq_cluster.specs.Room.{nodes, taken}
 use Rattle.cq_store.specs.Stores.{StoreState, IsSpare}
 use Rattle.cq_store.specs.Workers.{room}
 use Rattle.cq_store.specs.declared.worker.Worker.{Worker}
 use Rattle.cq_group.specs.declared.group.GroupState.{GroupState}
-use Rattle.cq_group.specs.Groups.{IsKept, IsQuiet, IsSteady, Outline, outlines, HasTable, entries_of, stores_of}
+use Rattle.cq_group.specs.Groups.{IsKept, IsQuiet, IsSteady, Outline, outlines, HasTable, stores_of}
+use Rattle.cq_group.specs.Resting.{journals_of}
 use Rattle.cq_cluster.specs.declared.cluster.Cluster.{Cluster}
 
 -- the first fact where the answer is yes, and else the second
@@ -115,9 +117,13 @@ AreIdle {X} state workers = (place : ℕ) (w : Worker X) → slice_get workers p
 
 -- ---- the whole
 
--- the groups' entries, in order of group
-abbrev pub histories : {X : Type 0} → Cluster X → List (List Entry)
-histories {X} cl = map (λ (g : GroupState X). entries_of g) cl.groups.items
+-- the groups' journals, in order of group
+abbrev pub journals : {X : Type 0} → Cluster X → List Journal
+journals cl = journals_of cl.groups.items
+
+-- what a run was given, by the workers that were handed in
+abbrev pub run_of : {X : Type 0} → List (Worker X) → Run
+run_of entry = record { workers = nodes; stores = whole_at entry; settings = first_settings; phase = λ n. n }
 
 -- what a cluster keeps between two statements: its groups are those of the catalogue, and the workers have the other stores
 pub record IsSound {X : Type 0} (state : X → StoreState) (cl : Cluster X) : Type 0 where

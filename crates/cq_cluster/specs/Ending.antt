@@ -1,6 +1,7 @@
 -- Where the stores are at the end of a run.
 use Rattle.std.specs.Prelude.{◌≡◌, ◌≢◌, ◌+◌, ◌<◌, ◌≤◌, ◌⊎◌, ℕ, ⊤, List, [], ◌∷◌, ◌++◌, length, map, nat_eq, Some, slice_get}
 use Rattle.std.specs.List.{AllByRecursion, AllZip}
+use Rattle.cq_value.specs.Tables.{empty_table}
 use Rattle.cq_tree.specs.declared.journal.Entry.{Entry}
 use Rattle.cq_catalog.specs.Contents.{Contents}
 use Rattle.cq_catalog.specs.Placement.{place_at}
@@ -8,18 +9,16 @@ use Rattle.cq_catalog.specs.declared.info.Colocation.{Colocation}
 use Rattle.cq_catalog.specs.declared.info.Place.TheVariants.{Distributed}
 use Rattle.cq_journal.specs.Journals.{replay}
 use Rattle.cq_journal.specs.declared.journal.Journal.{Journal}
-use Rattle.cq_history.specs.Environment.{shape_in}
-use Rattle.cq_history.specs.Room.{nodes}
+use Rattle.cq_journal.specs.Records as records
+use Rattle.cq_planning.specs.Database.{shape_in}
+use Rattle.cq_cluster.specs.Room.{nodes}
 use Rattle.cq_store.specs.Stores.{StoreState, IsSpare}
 use Rattle.cq_store.specs.declared.worker.Worker.{Worker}
 use Rattle.cq_cluster.specs.Cluster.{Either, node_of, whole_at}
 
--- the journals are those of the groups 0, 1 and so on, and each was opened on its group's node
-pub record AreJournals (c : Contents) (journals : List Journal) : Type 0 where
-  pub count : length journals ≡ c.groups
-  pub numbered : (group : ℕ) (j : Journal) → slice_get journals group ≡ Some j → j.group ≡ group
-  pub opened : (colocation i : ℕ) (co : Colocation) (j : Journal) → slice_get c.colocations colocation ≡ Some co → i < co.count →
-      slice_get journals (co.first_group + i) ≡ Some j → j.opening ≡ node_of i
+-- a journal, as answers are judged by it: its group held nothing as its entries began
+abbrev pub record_of : Journal → records.Journal
+record_of j = record { number = j.group; opening = j.opening; base = λ table. empty_table; entries = j.entries.list }
 
 -- the store of a table's shard in the i-th shard group of its co-location group: on the group's node, with the shard's id, and it holds what the group's entries leave, ids and all
 pub record IsShard (c : Contents) (colocation i : ℕ) (es : List Entry) (table : ℕ) (s : StoreState) : Type 0 where

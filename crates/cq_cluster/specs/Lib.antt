@@ -1,3 +1,4 @@
+pub mod Room
 pub mod Cluster
 pub mod Steps
 pub mod Ending

@@ -3,9 +3,9 @@ ghost use Rattle.cq_store.specs.Workers.{room};
 ghost use Rattle.cq_store.specs.declared.worker.Worker.{Worker};
 ghost use Rattle.cq_group.specs.declared.group.GroupState.{GroupState};
 ghost use Rattle.cq_group.specs.Groups.{IsKept, stores_of};
-ghost use Rattle.cq_cluster.specs.Cluster.{AreWorkers, IsSound, histories};
+ghost use Rattle.cq_cluster.specs.Cluster.{AreWorkers, IsSound, journals as journals_in};
 ghost use Rattle.cq_cluster.specs.Closing.{IsUsed, AreUsed, HaveRoom, HaveBack};
-ghost use Rattle.cq_cluster.specs.Ending.{AreJournals, IsFinal};
+ghost use Rattle.cq_cluster.specs.Ending.{IsFinal, record_of};
 
 use crate::cluster::{Cluster, Ended};
 use crate::worker::give_all;
@@ -67,8 +67,7 @@ impl<S: Store> Cluster<S> {
         requires none { journals.old.list ≡ [] }
         requires room { length self.groups.items ≤ journals.old.room }
         ensures catalog { result.catalog ≡ self.catalog }
-        ensures entries { map (λ j. j.entries.list) journals.new.list ≡ histories self }
-        ensures journals { AreJournals self.catalog journals.new.list }
+        ensures journals { map record_of journals.new.list ≡ journals_in self }
         ensures stores { (entry : List (Worker S)) → AreWorkers S.state entry self.groups.items self.workers.items → IsFinal S.state entry self.catalog journals.new.list result.workers.items }
     {
         let Cluster {

@@ -1,11 +1,14 @@
-ghost use Rattle.std.specs.Prelude.{◌≡◌, ◌+◌, ◌≤◌, ◌⊎◌, ◌++◌, [], List, None, Some, OnOk, OnErr, IfErr, IfOk, ℕ, true, length, replicate};
+ghost use Rattle.std.specs.Prelude.{◌≡◌, ◌+◌, ◌≤◌, ◌⊎◌, List, None, Some, OnOk, OnErr, IfErr, IfOk, true, length};
 ghost use Rattle.cq_catalog.specs.Distribution.{decision_of, distributed_by};
-ghost use Rattle.cq_history.specs.Environment.{shape_in};
-ghost use Rattle.cq_history.specs.Room.{opened_groups};
+ghost use Rattle.cq_tree.specs.declared.journal.Who.{Who};
+ghost use Rattle.cq_planning.specs.Database.{shape_in};
+ghost use Rattle.cq_history.specs.Deeds.{Grows};
+ghost use Rattle.cq_history.specs.Journals.{none};
+ghost use Rattle.cq_history.specs.Laws.{OpensGroups};
 ghost use Rattle.cq_history.specs.Standing.{distribution_fault};
 ghost use Rattle.cq_store.specs.declared.worker.Worker.{Worker};
 ghost use Rattle.cq_group.specs.declared.group.GroupState.{GroupState};
-ghost use Rattle.cq_cluster.specs.Cluster.{AreWorkers, whole_at, histories, IsSound, KeepsStores};
+ghost use Rattle.cq_cluster.specs.Cluster.{AreWorkers, journals, run_of, IsSound, KeepsStores};
 ghost use Rattle.cq_cluster.specs.Steps.{shards_of as all_shards, forgotten, IsBegun, CanBegin, IsOpen, IsUndone, IsPlanned, IsReady};
 ghost use Rattle.cq_value.specs.declared.schema.Shape.{Shape};
 
@@ -107,7 +110,7 @@ impl<S: Store> Cluster<S> {
     ) -> Result<Opened, Fault>
         requires sound { IsSound S.state self.now }
         ensures ok { IfOk result (IsPlanned self.now.catalog self.now.workers.items table.now column.now count with.now default) }
-        ensures err { (entry : List (Worker S)) → AreWorkers S.state entry self.now.groups.items self.now.workers.items → IfErr result (λ f. (f ≡ Fault.Memory) ⊎ (distribution_fault self.now.catalog default (whole_at entry) table.now column.now count with.now ≡ Some f)) }
+        ensures err { (entry : List (Worker S)) → AreWorkers S.state entry self.now.groups.items self.now.workers.items → IfErr result (λ f. (f ≡ Fault.Memory) ⊎ (distribution_fault (run_of entry) self.now.catalog default table.now column.now count with.now ≡ Some f)) }
     {
         let opened = match self.catalog.preview(table, column, count, with, default) {
             Ok(opened) => opened,
@@ -151,11 +154,12 @@ impl<S: Store> Cluster<S> {
         requires sound { IsSound S.state self.old }
         ensures sound { IsSound S.state self.new }
         ensures catalog { OnOk result (self.new.catalog ≡ distributed_by self.old.catalog (decision_of self.old.catalog table.now column.now count with.now default)) }
-        ensures opened { OnOk result (histories self.new ≡ histories self.old ++ replicate (opened_groups (decision_of self.old.catalog table.now column.now count with.now default).target) []) }
-        ensures allowed { (entry : List (Worker S)) → AreWorkers S.state entry self.old.groups.items self.old.workers.items → OnOk result (distribution_fault self.old.catalog default (whole_at entry) table.now column.now count with.now ≡ None) }
-        ensures cause { (entry : List (Worker S)) → AreWorkers S.state entry self.old.groups.items self.old.workers.items → IfErr result (λ f. (f ≡ Fault.Memory) ⊎ (distribution_fault self.old.catalog default (whole_at entry) table.now column.now count with.now ≡ Some f)) }
+        ensures grows { OnOk result ((who : Who) → Grows who none (journals self.old) (journals self.new)) }
+        ensures opens { OnOk result ((entry : List (Worker S)) → OpensGroups (run_of entry) self.old.catalog self.new.catalog (journals self.new)) }
+        ensures allowed { (entry : List (Worker S)) → AreWorkers S.state entry self.old.groups.items self.old.workers.items → OnOk result (distribution_fault (run_of entry) self.old.catalog default table.now column.now count with.now ≡ None) }
+        ensures cause { (entry : List (Worker S)) → AreWorkers S.state entry self.old.groups.items self.old.workers.items → IfErr result (λ f. (f ≡ Fault.Memory) ⊎ (distribution_fault (run_of entry) self.old.catalog default table.now column.now count with.now ≡ Some f)) }
         ensures unchanged { OnErr result (self.new.catalog ≡ self.old.catalog) }
-        ensures same { OnErr result (histories self.new ≡ histories self.old) }
+        ensures same { OnErr result (journals self.new ≡ journals self.old) }
         ensures stores { KeepsStores S.state self.old self.new }
     {
         let opened = match self.plan(table, column, count, with, default) {

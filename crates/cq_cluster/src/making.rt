@@ -1,7 +1,7 @@
 ghost use Rattle.std.specs.Prelude.{◌≡◌, ◌≤◌, [], length};
 ghost use Rattle.cq_catalog.specs.Contents.{nothing};
-ghost use Rattle.cq_history.specs.Room.{nodes};
-ghost use Rattle.cq_cluster.specs.Cluster.{AreIdle, AreWorkers, IsSound, histories};
+ghost use Rattle.cq_cluster.specs.Room.{nodes};
+ghost use Rattle.cq_cluster.specs.Cluster.{AreIdle, AreWorkers, IsSound, journals};
 
 use crate::cluster::Cluster;
 use cq_catalog::Catalog;
@@ -19,7 +19,7 @@ impl<S: Store> Cluster<S> {
         ensures same { result.workers ≡ workers }
         ensures groups { result.groups.items ≡ [] }
         ensures catalog { result.catalog ≡ nothing }
-        ensures entries { histories result ≡ [] }
+        ensures journals { journals result ≡ [] }
     {
         Cluster {
             catalog: Catalog::new(alloc),

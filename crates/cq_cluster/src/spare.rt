@@ -1,5 +1,5 @@
 ghost use Rattle.std.specs.Prelude.{◌≡◌, ◌<◌, ◌+◌, ◌≤◌, ◌-◌, ◌/◌, ℕ, List, Some, None, slice_get, length, OnOk, IfErr};
-ghost use Rattle.cq_history.specs.Room.{shards_on as shards_at};
+ghost use Rattle.cq_cluster.specs.Room.{shards_on as shards_at};
 ghost use Rattle.cq_cluster.specs.Cluster.{stores_in};
 ghost use Rattle.cq_cluster.specs.Steps.{short_of, shortage};
 

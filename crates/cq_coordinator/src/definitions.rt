@@ -1,9 +1,10 @@
-ghost use Rattle.std.specs.Prelude.{◌≡◌, ◌<◌, ◌^◌, ℕ, List, Some};
+ghost use Rattle.std.specs.Prelude.{◌≡◌, ◌<◌, ◌^◌, List, Some};
 ghost use Rattle.cq_tree.specs.declared.statement.Statement.TheVariants as statement;
-ghost use Rattle.cq_history.specs.Between.{Responds};
-ghost use Rattle.cq_history.specs.Environment.{with_setting as settings_with};
+ghost use Rattle.cq_history.specs.Run.{with_setting as settings_with};
+ghost use Rattle.cq_history.specs.Refusals.{rules};
+ghost use Rattle.cq_history.specs.Log.{IsAnswered};
 ghost use Rattle.cq_store.specs.declared.worker.Worker.{Worker};
-ghost use Rattle.cq_cluster.specs.Cluster.{IsSound, KeepsStores, AreWorkers, whole_at};
+ghost use Rattle.cq_cluster.specs.Cluster.{IsSound, KeepsStores, AreWorkers, run_of};
 ghost use Rattle.cq_coordinator.specs.Coordination.{environment, journals};
 
 use crate::coordinator::Coordinator;
@@ -47,7 +48,7 @@ impl<S: Store> Coordinator<S> {
         key: &Positions,
     ) -> Answer
         requires sound { IsSound S.state self.old.cluster }
-        ensures responds { (stores : ℕ → ℕ) → Responds stores (environment self.old) (environment self.new) who (journals self.old) (journals self.new) (Some (statement.CreateTable name.now columns.now key.now)) result }
+        ensures answered { (entry : List (Worker S)) → IsAnswered rules (run_of entry) (environment self.old) (environment self.new) who (journals self.old) (journals self.new) (Some (statement.CreateTable name.now columns.now key.now)) result }
         ensures sound { IsSound S.state self.new.cluster }
         ensures stores { KeepsStores S.state self.old.cluster self.new.cluster }
     {
@@ -74,7 +75,7 @@ impl<S: Store> Coordinator<S> {
         with: &With,
     ) -> Answer
         requires sound { IsSound S.state self.old.cluster }
-        ensures responds { (entry : List (Worker S)) → AreWorkers S.state entry self.old.cluster.groups.items self.old.cluster.workers.items → Responds (whole_at entry) (environment self.old) (environment self.new) who (journals self.old) (journals self.new) (Some (statement.Distribute table.now column.now count with.now)) result }
+        ensures answered { (entry : List (Worker S)) → AreWorkers S.state entry self.old.cluster.groups.items self.old.cluster.workers.items → IsAnswered rules (run_of entry) (environment self.old) (environment self.new) who (journals self.old) (journals self.new) (Some (statement.Distribute table.now column.now count with.now)) result }
         ensures sound { IsSound S.state self.new.cluster }
         ensures stores { KeepsStores S.state self.old.cluster self.new.cluster }
     {
@@ -98,7 +99,7 @@ impl<S: Store> Coordinator<S> {
     pub fn set(&mut self, who: Who, which: u32, value: u64) -> Answer
         requires sound { IsSound S.state self.old.cluster }
         requires fits { value < 2 ^ 32 }
-        ensures responds { (stores : ℕ → ℕ) → Responds stores (environment self.old) (environment self.new) who (journals self.old) (journals self.new) (Some (statement.Setting which value)) result }
+        ensures answered { (entry : List (Worker S)) → IsAnswered rules (run_of entry) (environment self.old) (environment self.new) who (journals self.old) (journals self.new) (Some (statement.Setting which value)) result }
         ensures sound { IsSound S.state self.new.cluster }
         ensures stores { KeepsStores S.state self.old.cluster self.new.cluster }
     {

@@ -1,5 +1,6 @@
-ghost use Rattle.std.specs.Prelude.{IfOk};
-ghost use Rattle.cq_history.specs.Standing.{IsDistributed};
+ghost use Rattle.std.specs.Prelude.{IfOk, codes};
+ghost use Rattle.cq_answer.specs.declared.answer.Answer.TheVariants as answer;
+ghost use Rattle.cq_history.specs.Standing.{IsNotice};
 
 use cq_value::{Names, NoMemory, Row, Rows, Text, Value};
 use std::alloc::Global;
@@ -14,7 +15,7 @@ pub struct Notice {
 
 /// The notice of a call of `create_distributed_table`.
 pub fn distributed_notice(alloc: Global) -> Result<Notice, NoMemory>
-    ensures { IfOk result (λ n. IsDistributed n.names n.rows) }
+    ensures { IfOk result (λ n. IsNotice (codes "create_distributed_table") (answer.Table n.names n.rows)) }
 {
     let mut names = Names::new(alloc);
     names.put(Text::of_str(alloc, "create_distributed_table")?)?;

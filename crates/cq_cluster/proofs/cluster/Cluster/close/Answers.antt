@@ -1,7 +1,7 @@
 use Rattle.std.proofs.Common.{List, sym, subst}
 use Rattle.cq_journal.specs.declared.journal.Journal.{Journal}
-use Rattle.cq_cluster.specs.Ending.{AreJournals, IsFinal}
-use Rattle.cq_cluster.proofs.EndingLaws.{used_groups, have_room, entries_of_all, journals_of, final_of}
+use Rattle.cq_cluster.specs.Ending.{IsFinal}
+use Rattle.cq_cluster.proofs.EndingLaws.{used_groups, have_room, journals_of_all, final_of}
 use Rattle.cq_cluster.proofs.cluster.Cluster.close.Goals as goal
 
 pub close_groups-requires-clause-groups : goal.close_groups-requires-clause-groups
@@ -12,13 +12,8 @@ close_groups-requires-clause-workers g c =
     let sound = c.requires.sound in
     have_room g.S.Store.state sound.workers.0 c.args.self.groups.items c.args.self.workers.items sound.both sound.workers.1
 
-pub returns-clause-entries : goal.returns-clause-entries
-returns-clause-entries g c = entries_of_all g.S.Store.state c.close_groups.new.journals.list c.args.self.groups.items c.close_groups.ensures.journals
-
 pub returns-clause-journals : goal.returns-clause-journals
-returns-clause-journals g c =
-    let catalog = c.args.self.catalog in
-    subst (λ (js : List Journal). AreJournals catalog js) (sym c.close_groups.ensures.journals) (journals_of g.S.Store.state catalog c.args.self.groups.items c.requires.sound.groups)
+returns-clause-journals g c = journals_of_all g.S.Store.state c.close_groups.new.journals.list c.args.self.groups.items c.close_groups.ensures.journals
 
 pub returns-clause-stores : goal.returns-clause-stores
 returns-clause-stores g c entry now =

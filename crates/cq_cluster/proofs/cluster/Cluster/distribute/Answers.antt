@@ -1,5 +1,5 @@
 use Rattle.std.proofs.Common.{inl, refl, ◌∙◌}
-use Rattle.cq_history.specs.Environment.{shape_in}
+use Rattle.cq_planning.specs.Database.{shape_in}
 use Rattle.cq_cluster.specs.declared.cluster.Cluster.{Cluster}
 use Rattle.cq_cluster.proofs.PlanLaws.{ready_of}
 use Rattle.cq_cluster.proofs.DoneLaws.{as_it_was, distributed, memory_after, made_after}
@@ -83,11 +83,17 @@ returns-clause-sound g c =
     let made = made_after c.args.self.now.catalog c.add.new.self.catalog c.args.table.now c.args.column.now c.args.count c.args.with.now c.args.default c.add.ensures.catalog c.distribute.new.self c.in_default-distribute.ensures.distributed in
     (distributed g.S.Store.state c.args.self.now new c.args.table.now c.args.column.now c.args.count c.args.with.now c.args.default c.in-Ok.opened c.requires.sound c.in-Ok.ensures.ok c.in-Ok-add.ensures.ok made).sound
 
-pub returns-clause-opened : goal.returns-clause-opened
-returns-clause-opened g c =
+pub returns-clause-grows : goal.returns-clause-grows
+returns-clause-grows g c who =
     let new : Cluster g.row.S.Denot = record { catalog = c.distribute.new.self; groups = c.add.new.self.groups; workers = c.add.new.self.workers } in
     let made = made_after c.args.self.now.catalog c.add.new.self.catalog c.args.table.now c.args.column.now c.args.count c.args.with.now c.args.default c.add.ensures.catalog c.distribute.new.self c.in_default-distribute.ensures.distributed in
-    (distributed g.S.Store.state c.args.self.now new c.args.table.now c.args.column.now c.args.count c.args.with.now c.args.default c.in-Ok.opened c.requires.sound c.in-Ok.ensures.ok c.in-Ok-add.ensures.ok made).opened
+    (distributed g.S.Store.state c.args.self.now new c.args.table.now c.args.column.now c.args.count c.args.with.now c.args.default c.in-Ok.opened c.requires.sound c.in-Ok.ensures.ok c.in-Ok-add.ensures.ok made).grows who
+
+pub returns-clause-opens : goal.returns-clause-opens
+returns-clause-opens g c entry =
+    let new : Cluster g.row.S.Denot = record { catalog = c.distribute.new.self; groups = c.add.new.self.groups; workers = c.add.new.self.workers } in
+    let made = made_after c.args.self.now.catalog c.add.new.self.catalog c.args.table.now c.args.column.now c.args.count c.args.with.now c.args.default c.add.ensures.catalog c.distribute.new.self c.in_default-distribute.ensures.distributed in
+    (distributed g.S.Store.state c.args.self.now new c.args.table.now c.args.column.now c.args.count c.args.with.now c.args.default c.in-Ok.opened c.requires.sound c.in-Ok.ensures.ok c.in-Ok-add.ensures.ok made).opens entry
 
 pub returns-clause-allowed : goal.returns-clause-allowed
 returns-clause-allowed g c entry at =

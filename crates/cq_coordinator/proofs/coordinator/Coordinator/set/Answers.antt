@@ -3,13 +3,15 @@ use Rattle.cq_tree.specs.declared.statement.Statement.TheVariants as statement
 use Rattle.cq_answer.specs.declared.answer.Answer.TheVariants as answer
 use Rattle.cq_answer.specs.declared.answer.Tag.TheVariants as tag
 use Rattle.cq_answer.specs.declared.answered.Settings.{Settings}
-use Rattle.cq_history.specs.Between.{Responds}
-use Rattle.cq_history.proofs.Ddl.{responds_set}
+use Rattle.cq_history.specs.Log.{IsAnswered}
+use Rattle.cq_history.specs.Refusals.{rules}
+use Rattle.cq_cluster.specs.Cluster.{run_of}
 use Rattle.cq_coordinator.specs.Coordination.{environment, journals}
+use Rattle.cq_coordinator.proofs.DefinitionAnswers.{setting_made}
 use Rattle.cq_coordinator.proofs.coordinator.Coordinator.set.Goals as goal
 
-pub returns-clause-responds : goal.returns-clause-responds
-returns-clause-responds g c = λ stores.
-    subst (λ (v : Settings). Responds stores (environment c.args.self.now) (record { catalog = c.args.self.now.cluster.catalog; settings = v }) c.args.who (journals c.args.self.now) (journals c.args.self.now) (Some (statement.Setting c.args.which c.args.value)) (answer.Tag tag.Setting))
+pub returns-clause-answered : goal.returns-clause-answered
+returns-clause-answered g c = λ entry.
+    subst (λ (v : Settings). IsAnswered rules (run_of entry) (environment c.args.self.now) (record { catalog = c.args.self.now.cluster.catalog; settings = v }) c.args.who (journals c.args.self.now) (journals c.args.self.now) (Some (statement.Setting c.args.which c.args.value)) (answer.Tag tag.Setting))
     (sym c.with_setting-self.ensures)
-    (responds_set stores (environment c.args.self.now) c.args.who (journals c.args.self.now) c.args.which c.args.value)
+    (setting_made (run_of entry) (environment c.args.self.now) c.args.who (journals c.args.self.now) c.args.which c.args.value)
