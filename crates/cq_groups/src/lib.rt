@@ -9,6 +9,7 @@ mod looks;
 mod queries;
 mod reads;
 mod tables;
+mod wanted;
 
 pub use error::WriteError;
 pub use gathering::gather;
@@ -16,3 +17,4 @@ pub use looks::looks_at;
 pub use queries::answer_query;
 pub use reads::{Look, Looks, pick_group, read_groups};
 pub use tables::tables_of;
+pub use wanted::wanted_by;
