@@ -1,2 +1,3 @@
 pub mod DefinitionAnswers
 pub mod WriteAnswers
+pub mod QueryAnswers

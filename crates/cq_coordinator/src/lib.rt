@@ -1,9 +1,11 @@
-//! The coordinator of a run: it answers bound statements, each by the catalogue, by the settings or by shard groups.
+//! The coordinator of a run: it answers bound statements, each by the catalogue, by the settings or by the shard groups that it touches.
 #![tactic(auto)]
 
+mod answer;
 mod coordinator;
 mod definitions;
 mod notice;
+mod queries;
 mod writes;
 
 pub use coordinator::Coordinator;
