@@ -116,6 +116,7 @@ module _ {X : Type 0} (state : X → StoreState) (nodes : ℕ) where
         };
     covered = all.covered;
     apart = all.apart;
+    unreferenced = all.unreferenced;
     held = λ place h. held_gone state place old new gone ∙ all.held place h;
   }
 
@@ -189,6 +190,7 @@ module _ {X : Type 0} (state : X → StoreState) (nodes : ℕ) where
             | inr q ↦ p.0 ∙ sym q.0
           ]
         ];
+        unreferenced = all.unreferenced;
         held = λ place h. held_empty place c.groups old opened fresh ∙ all.held place h ∙ sym (placed_below c c.tables (λ i t s. (whole.tables i t s).placed) more place);
       }
     where
@@ -308,11 +310,18 @@ module _ {X : Type 0} (state : X → StoreState) (nodes : ℕ) where
             ];
         covered = λ group h. let was = all.covered group h in record { colocation = was.colocation; i = was.i; co = was.co; there = was.there; within = was.within; is = was.is };
         apart = all.apart;
+        unreferenced = λ t group shard p. elim (eqb_tells t table) [
+          | inl e ↦ not_reference at colocation c.next_shard group shard (sym is_here ∙ ap (place_at next) (sym e.1) ∙ p)
+          | inr e ↦ all.unreferenced t group shard (sym (kept_place t e.1) ∙ p)
+        ];
         held = λ p h. counted p h ∙ ap (λ n. n + shards_on nodes co.count p) (all.held p h) ∙ sym (taken_placed nodes c.colocations p c.tables table place info there local ∙ ap (λ (v : Option Colocation). taken nodes c p + shards_on nodes (count_in v) p) joins);
       }
     where
       same_colocation : (a k f a' k' f' : ℕ) → Distributed a k f ≡ Distributed a' k' f' → k ≡ k'
       same_colocation a k f a' k' f' e = cc
+
+      not_reference : (a k f g s : ℕ) → Distributed a k f ≡ Reference g s → ⊥
+      not_reference a k f g s e = cc
 
       local_or : (at k f : ℕ) → Distributed at k f ≡ Local → ⊥
       local_or at k f e = cc

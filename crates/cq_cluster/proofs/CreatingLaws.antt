@@ -17,7 +17,7 @@ use Rattle.cq_catalog.specs.declared.error.CatalogError.{CatalogError}
 use Rattle.cq_catalog.specs.declared.error.CatalogError.TheVariants.{NameTaken, Limit}
 use Rattle.cq_catalog.specs.declared.error.Limited.TheVariants.{Columns, Tables}
 use Rattle.cq_catalog.specs.declared.info.Colocation.{Colocation}
-use Rattle.cq_catalog.specs.declared.info.Place.TheVariants.{Local, Distributed}
+use Rattle.cq_catalog.specs.declared.info.Place.TheVariants.{Local, Distributed, Reference}
 use Rattle.cq_catalog.specs.declared.info.TableInfo.{TableInfo}
 use Rattle.cq_planning.specs.Database.{shape_in}
 use Rattle.cq_cluster.specs.Room.{taken_in}
@@ -95,6 +95,19 @@ module _ (c : Contents) (name : List ℕ) (columns : List Column) (key : List �
         | inr new ↦ absurd (local_or (ap (λ (u : TableInfo). u.place) new.1 ∙ q))
       ]
 
+  reference_before : (table group shard : ℕ) → place_at (with_table c name columns key) table ≡ Reference group shard → place_at c table ≡ Reference group shard
+  reference_before table group shard p = by_item (slice_get (c.tables ++ more ∷ []) table) refl p
+    where
+      local_or : Local ≡ Reference group shard → ⊥
+      local_or e = cc
+
+      by_item : (o : Option TableInfo) → slice_get (c.tables ++ more ∷ []) table ≡ o → place_in o ≡ Reference group shard → place_at c table ≡ Reference group shard
+      by_item None e q = cc
+      by_item (Some t) e q = elim (got_more c.tables more table t e) [
+        | inl old ↦ ap place_in old ∙ q
+        | inr new ↦ absurd (local_or (ap (λ (u : TableInfo). u.place) new.1 ∙ q))
+      ]
+
   taken_more : (nodes : ℕ) (cs : List Colocation) (place : ℕ) (ts : List TableInfo) → taken_in nodes cs place (ts ++ more ∷ []) ≡ taken_in nodes cs place ts
   taken_more nodes cs place [] = refl
   taken_more nodes cs place (t ∷ ts) = let further = taken_more nodes cs place ts in omega (arith, further)
@@ -121,6 +134,7 @@ module _ (c : Contents) (name : List ℕ) (columns : List Column) (key : List �
           };
       covered = λ group h. let was = all.covered group h in record { colocation = was.colocation; i = was.i; co = was.co; there = was.there; within = was.within; is = was.is };
       apart = all.apart;
+      unreferenced = λ table group shard p. all.unreferenced table group shard (reference_before table group shard p);
       held = λ place h. all.held place h ∙ sym (taken_more nodes c.colocations place c.tables);
     }
 

@@ -165,6 +165,7 @@ module _ {X : Type 0} (state : X → StoreState) where
         group_again nodes c colocation i co g h (are.each colocation i co g there_is within before) on.0 on.1;
     covered = are.covered;
     apart = are.apart;
+    unreferenced = are.unreferenced;
     held = λ place below. held_after place old new go ∙ are.held place below;
   }
 

@@ -25,6 +25,7 @@ module _ {X : Type 0} (state : X → StoreState) (nodes : ℕ) where
     each = λ colocation i co g s. cc;
     covered = λ group h. absurd (omega (arith, h));
     apart = λ j k a b x y s. cc;
+    unreferenced = λ table group shard p. cc;
     held = λ place h. refl;
   }
 

@@ -5,7 +5,7 @@ use Rattle.cq_catalog.specs.Contents.{Contents}
 use Rattle.cq_catalog.specs.Placement.{place_at}
 use Rattle.cq_catalog.specs.Whole.{IsWhole}
 use Rattle.cq_catalog.specs.declared.info.Colocation.{Colocation}
-use Rattle.cq_catalog.specs.declared.info.Place.TheVariants.{Distributed}
+use Rattle.cq_catalog.specs.declared.info.Place.TheVariants.{Distributed, Reference}
 use Rattle.cq_planning.specs.Database.{shape_in}
 use Rattle.cq_journal.specs.Records.{Journal}
 use Rattle.cq_history.specs.Run.{Run, first_settings}
@@ -69,13 +69,14 @@ abbrev pub held : {X : Type 0} → ℕ → List (GroupState X) → ℕ
 held place [] = 0
 held place (g ∷ gs) = (if nat_eq g.node (place + 1) then length (stores_of g) else 0) + held place gs
 
--- the groups are those of the catalogue
+-- the groups are those of the catalogue, which has no reference table yet
 pub record AreGroups {X : Type 0} (state : X → StoreState) (nodes : ℕ) (c : Contents) (groups : List (GroupState X)) : Type 0 where
   pub count : length groups ≡ c.groups
   pub each : (colocation i : ℕ) (co : Colocation) (g : GroupState X) → slice_get c.colocations colocation ≡ Some co → i < co.count →
       slice_get groups (co.first_group + i) ≡ Some g → IsGroupOf state nodes c colocation co i g
   pub covered : (group : ℕ) → group < c.groups → IsCovered c group
   pub apart : AreApart c
+  pub unreferenced : (table group shard : ℕ) → place_at c table ≡ Reference group shard → ⊥
   pub held : (place : ℕ) → place < nodes → held place groups ≡ taken nodes c place
 
 -- ---- workers
