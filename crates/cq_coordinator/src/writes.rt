@@ -58,7 +58,7 @@ impl<S: Store> Coordinator<S> {
         requires keyed { (table : ℕ) → IsKeyed self.old.cluster.catalog table }
         requires computable { IsComputable self.old.cluster.catalog (statement.Write op.now) }
         requires runs { refusal_in self.old.cluster.catalog (statement.Write op.now) ≡ None }
-        ensures answered { (entry : List (Worker S)) → AreWorkers S.state entry self.old.cluster.groups.items self.old.cluster.workers.items → IsAnswered rules (run_of entry) (environment self.old) (environment self.new) who (journals self.old) (journals self.new) (Some (statement.Write op.now)) result }
+        ensures answered { (entry : List (Worker S)) → AreWorkers S.state self.old.cluster.nodes entry self.old.cluster.groups.items self.old.cluster.workers.items → IsAnswered rules (run_of self.old.cluster.nodes entry) (environment self.old) (environment self.new) who (journals self.old) (journals self.new) (Some (statement.Write op.now)) result }
         ensures sound { IsSound S.state self.new.cluster }
         ensures stores { KeepsStores S.state self.old.cluster self.new.cluster }
     {

@@ -8,13 +8,13 @@ pub answer_query-requires-clause-resting : goal.answer_query-requires-clause-res
 answer_query-requires-clause-resting g c = rests g.S.Store.state c.args.self.now.cluster c.requires.sound
 
 pub answer_query-requires-clause-shaped : goal.answer_query-requires-clause-shaped
-answer_query-requires-clause-shaped g c = are_shaped g.S.Store.state c.args.self.now.cluster c.requires.sound c.requires.unreferenced
+answer_query-requires-clause-shaped g c = are_shaped g.S.Store.state c.args.self.now.cluster c.requires.sound c.requires.sound.groups.unreferenced
 
 pub returns-clause-answered : goal.returns-clause-answered
-returns-clause-answered g c = λ entry. c.answer_query.ensures.answered (run_of entry) c.args.self.now.settings
+returns-clause-answered g c = λ entry. c.answer_query.ensures.answered (run_of c.args.self.now.cluster.nodes entry) c.args.self.now.settings
 
 pub returns-clause-sound : goal.returns-clause-sound
-returns-clause-sound g c = sound_after g.S.Store.state c.args.self.now.cluster _ c.requires.sound c.answer_query.ensures.goes_on refl refl
+returns-clause-sound g c = sound_after g.S.Store.state c.args.self.now.cluster _ c.requires.sound c.answer_query.ensures.goes_on refl refl refl
 
 pub returns-clause-stores : goal.returns-clause-stores
-returns-clause-stores g c = stores_after g.S.Store.state c.args.self.now.cluster (record c.args.self.now.cluster { groups = c.answer_query.new.groups }) c.answer_query.ensures.goes_on refl
+returns-clause-stores g c = stores_after g.S.Store.state c.args.self.now.cluster (record c.args.self.now.cluster { groups = c.answer_query.new.groups }) c.answer_query.ensures.goes_on refl refl

@@ -29,7 +29,7 @@ pub write_groups-requires-clause-takes : goal.write_groups-requires-clause-takes
 write_groups-requires-clause-takes g c = takes g.S.Store.state c.args.self.now.cluster c.args.op.now c.requires.sound c.requires.runs c.requires.computable c.requires.legal c.in-Ok.divided c.in-Ok.ensures
 
 pub returns-in_default-clause-answered : goal.returns-in_default-clause-answered
-returns-in_default-clause-answered g c = λ entry are. write_lacks_memory rules (run_of entry) (environment c.args.self.now) c.args.who (journals c.args.self.now) c.args.op.now c.requires.runs
+returns-in_default-clause-answered g c = λ entry are. write_lacks_memory rules (run_of c.args.self.now.cluster.nodes entry) (environment c.args.self.now) c.args.who (journals c.args.self.now) c.args.op.now c.requires.runs
 
 pub returns-clause-answered : goal.returns-clause-answered
 returns-clause-answered g c = λ entry are.
@@ -37,12 +37,12 @@ returns-clause-answered g c = λ entry are.
     let old = c.args.self.now.cluster.groups.items in
     let new = c.write_groups.new.groups.items in
     let written = subst (λ (ps : List Part). IsWritten c.args.who ps old new c.write_groups.result) c.in-Ok.ensures c.write_groups.ensures.written in
-    subst (λ (a : Answer). IsAnswered rules (run_of entry) e e c.args.who (journals_of old) (journals_of new) (Some (statement.Write c.args.op.now)) a) (sym c.answer_of.ensures)
-    (write_is_answered (run_of entry) e c.args.who c.args.op.now old new c.requires.runs (c.requires.keyed (table_of c.args.op.now)) c.requires.computable
+    subst (λ (a : Answer). IsAnswered rules (run_of c.args.self.now.cluster.nodes entry) e e c.args.who (journals_of old) (journals_of new) (Some (statement.Write c.args.op.now)) a) (sym c.answer_of.ensures)
+    (write_is_answered (run_of c.args.self.now.cluster.nodes entry) e c.args.who c.args.op.now old new c.requires.runs (c.requires.keyed (table_of c.args.op.now)) c.requires.computable
     (its_shards g.S.Store.state c.args.self.now.cluster c.args.op.now c.requires.sound c.requires.runs) c.write_groups.ensures.goes_on.count c.write_groups.result written)
 
 pub returns-clause-sound : goal.returns-clause-sound
-returns-clause-sound g c = sound_after g.S.Store.state c.args.self.now.cluster _ c.requires.sound c.write_groups.ensures.goes_on refl refl
+returns-clause-sound g c = sound_after g.S.Store.state c.args.self.now.cluster _ c.requires.sound c.write_groups.ensures.goes_on refl refl refl
 
 pub returns-clause-stores : goal.returns-clause-stores
-returns-clause-stores g c = stores_after g.S.Store.state c.args.self.now.cluster (record c.args.self.now.cluster { groups = c.write_groups.new.groups }) c.write_groups.ensures.goes_on refl
+returns-clause-stores g c = stores_after g.S.Store.state c.args.self.now.cluster (record c.args.self.now.cluster { groups = c.write_groups.new.groups }) c.write_groups.ensures.goes_on refl refl
