@@ -1,2 +1,3 @@
 pub mod DefinitionAnswers
+pub mod QueryAnswers
 pub mod WriteAnswers

@@ -4,6 +4,7 @@
 mod coordinator;
 mod definitions;
 mod notice;
+mod queries;
 mod writes;
 
 pub use coordinator::Coordinator;

@@ -7,3 +7,10 @@ pub mod Written
 pub mod Touching
 pub mod Judging
 pub mod Answering
+pub mod Growth
+pub mod ReadLaws
+pub mod GatherLaws
+pub mod LookLaws
+pub mod QueryLaws
+pub mod AloneLaws
+pub mod Nodes

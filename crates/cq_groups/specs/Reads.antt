@@ -1,9 +1,26 @@
 -- What a query reads of several shard groups.
-use Rattle.std.specs.Prelude.{◌≡◌, ℕ, List, [], map, Option, Some, None, slice_get}
-use Rattle.std.specs.List.{flat_map}
+use Rattle.std.specs.Prelude.{◌≡◌, ◌≤◌, ⊤, ℕ, true, List, [], map, length, Option, Some, None, slice_get}
+use Rattle.std.specs.List.{AllByRecursion, flat_map}
+use Rattle.cq_tree.specs.declared.journal.Who.{Who}
+use Rattle.cq_tree.specs.declared.journal.EntryKind.TheVariants.{Read}
+use Rattle.cq_tree.specs.declared.query.Query.{Query, out-Query}
 use Rattle.cq_meaning.specs.Values.{Row, Tables}
+use Rattle.cq_meaning.specs.Queries.{AnswersWith}
+use Rattle.cq_meaning.specs.Limits.{is_large}
+use Rattle.cq_catalog.specs.Contents.{Contents}
+use Rattle.cq_planning.specs.Database.{shape_in}
+use Rattle.cq_answer.specs.declared.answer.Answer.{Answer}
+use Rattle.cq_answer.specs.declared.answer.Answer.TheVariants as answer
+use Rattle.cq_answer.specs.declared.fault.What.TheVariants as what
+use Rattle.cq_answer.specs.declared.fault.Fault.TheVariants as fault
 use Rattle.cq_group.specs.declared.group.GroupState.{GroupState}
+use Rattle.cq_group.specs.Groups.{HasTable, shapes}
 use Rattle.cq_group.specs.Calls.{captured}
+use Rattle.cq_group.specs.Resting.{journals_of}
+use Rattle.cq_history.specs.Journals.{in_each}
+use Rattle.cq_history.specs.Standing.{most_rows, AreAmong}
+use Rattle.cq_history.specs.Deeds.{Grows}
+use Rattle.cq_history.specs.Looks.{has_shard}
 
 -- a group, and the tables that are read there
 abbrev pub Look : Type 0
@@ -19,3 +36,51 @@ captured_by groups looks = flat_map (λ (l : Look). captured_of (slice_get group
 
 abbrev pub groups_in : List Look → List ℕ
 groups_in looks = map (λ (l : Look). l.0) looks
+
+-- the rows that a group's entries leave of a table
+abbrev pub rows_in : {X : Type 0} → Option (GroupState X) → ℕ → List Row
+rows_in None table = []
+rows_in (Some g) table = (captured g table).1
+
+-- the group is there, has the tables, and is on a node at least
+pub record CanLook {X : Type 0} (groups : List (GroupState X)) (l : Look) : Type 0 where
+  pub group : GroupState X
+  pub there : slice_get groups l.0 ≡ Some group
+  pub tables : AllByRecursion (HasTable group) l.1
+  pub near : group.node ≡ 0 → 1 ≤ group.nodes
+
+-- one Read was entered in each of these groups
+abbrev pub AreRead : {X : Type 0} → Who → List ℕ → List (GroupState X) → List (GroupState X) → Type 0
+AreRead who groups old new = Grows who (in_each groups (λ g. Read)) (journals_of old) (journals_of new)
+
+-- one Read was entered in each of some of these groups
+pub record AreReadInPart {X : Type 0} (who : Who) (groups : List ℕ) (old new : List (GroupState X)) : Type 0 where
+  pub some : List ℕ
+  pub among : AreAmong some groups
+  pub grows : AreRead who some old new
+
+-- what the groups' entries leave of each table stays as it was
+abbrev pub Leaves : {X : Type 0} → List (GroupState X) → List (GroupState X) → Type 0
+Leaves old new = (g : ℕ) (tables : List ℕ) → captured_of (slice_get new g) tables ≡ captured_of (slice_get old g) tables
+
+-- a group is on a node at least, and has the tables of the catalogue that have a shard in it, with their shapes
+pub record IsShaped {X : Type 0} (c : Contents) (group : ℕ) (g : GroupState X) : Type 0 where
+  pub near : g.node ≡ 0 → 1 ≤ g.nodes
+  pub tables : (table : ℕ) → has_shard c group table ≡ true → HasTable g table × (shapes g table ≡ shape_in c table)
+
+-- the groups are those of the catalogue
+pub record AreShaped {X : Type 0} (c : Contents) (groups : List (GroupState X)) : Type 0 where
+  pub count : length groups ≡ c.groups
+  pub each : (group : ℕ) (g : GroupState X) → slice_get groups group ≡ Some g → IsShaped c group g
+
+-- the answer of a query over tables
+abbrev pub Computes : Query → Tables → List (List ℕ) → Answer → Type 0
+Computes q db names (answer.Table ns rows) = (ns ≡ names) × AnswersWith q db [] rows
+Computes q db names (answer.Failed (fault.Limit what.Rows n)) = (n ≡ most_rows) × (is_large q db [] ≡ true)
+Computes q db names (answer.Failed fault.Memory) = ⊤
+Computes q db names a = ⊥
+
+-- the answer of a query by its looks, from which these tables came: each was made, or memory ran out after some of them
+pub data IsComputed {X : Type 0} (who : Who) (q : Query) (looks : List Look) (db : Tables) (old new : List (GroupState X)) : Answer → Type 0 where
+  done : {a : Answer} → AreRead who (groups_in looks) old new → Computes q db (out-Query q).names a → IsComputed who q looks db old new a
+  stopped : AreReadInPart who (groups_in looks) old new → IsComputed who q looks db old new (answer.Failed fault.Memory)

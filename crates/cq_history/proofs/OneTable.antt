@@ -5,16 +5,14 @@ use Rattle.std.specs.List.{AllByRecursion}
 use Rattle.std.specs.List.Sorted.{IsPermutation}
 use Rattle.std.proofs.lemmas.List.Elements.{filter-append}
 use Rattle.cq_tree.specs.declared.expression.Cond.{Cond}
-use Rattle.cq_tree.specs.declared.expression.Expr.{Expr}
-use Rattle.cq_tree.specs.declared.query.Agg.{Agg}
 use Rattle.cq_tree.specs.declared.query.FromTree.{Table}
 use Rattle.cq_tree.specs.declared.query.Query.{Query, Query', Row_of-Query, end_of-Query, more_of-Query}
 use Rattle.cq_meaning.specs.Values.{Row, Tables, Results, column, table_rows}
 use Rattle.cq_meaning.specs.Expressions.{keeps}
 use Rattle.cq_meaning.specs.Groups.{distinct_if}
-use Rattle.cq_meaning.specs.Queries.{item_rows, AnswersWith}
+use Rattle.cq_meaning.specs.Queries.{AnswersWith}
 use Rattle.cq_meaning.specs.Results.{results_of, count_of, with_ctes, with_ins_all, ins_in_ctes, ins_in_all}
-use Rattle.cq_meaning.specs.Limits.{has_large_group, is_large}
+use Rattle.cq_meaning.specs.Limits.{is_large}
 use Rattle.cq_catalog.specs.Contents.{Contents, place_in, colocation_of, first_group_in, count_in}
 use Rattle.cq_catalog.specs.Placement.{place_at, HasShard, group_of}
 use Rattle.cq_catalog.specs.declared.info.Place.{Place}
@@ -26,17 +24,8 @@ use Rattle.cq_planning.specs.Touched.{among}
 use Rattle.cq_history.specs.Laws.{ReadsOneTable, OneTableNarrows}
 use Rattle.cq_history.proofs.Lists.{two_ways, all_weaker, filter_none}
 use Rattle.cq_history.proofs.Joined.{table_in_whole}
-
--- ---- a query depends on the rows that its WHERE keeps
-
-items_alike : (f : Cond) (grouped : Bool) (keys : List Expr) (aggs : List Agg) (having : Cond) (items : List Expr) (xs ys : List Row) → filter (keeps f []) xs ≡ filter (keeps f []) ys →
-    item_rows f grouped keys aggs having items [] xs ≡ item_rows f grouped keys aggs having items [] ys
-items_alike f true keys aggs having items xs ys e = rw e refl
-items_alike f false keys aggs having items xs ys e = rw e refl
-
-large_alike : (f : Cond) (grouped : Bool) (keys : List Expr) (xs ys : List Row) → filter (keeps f []) xs ≡ filter (keeps f []) ys → has_large_group f grouped keys [] xs ≡ has_large_group f grouped keys [] ys
-large_alike f true keys xs ys e = rw e refl
-large_alike f false keys xs ys e = refl
+use Rattle.cq_history.proofs.Looks.{no_ctes}
+use Rattle.cq_history.proofs.Demands.{items_alike, large_kept}
 
 -- ---- what it keeps of the whole
 
@@ -84,10 +73,6 @@ module _ (c : Contents) (touched : List ℕ) (table : ℕ) (f : Cond) (held : He
 
 -- ---- without CTE and subquery there are no results
 
-no_ctes : {n : _} (ctes : Row_of-Query n) (db : Tables) (i k : ℕ) (rs : Results) → count_of ctes ≡ 0 → (with_ctes ctes db i k rs ≡ rs) × (ins_in_ctes ctes ≡ 0)
-no_ctes end_of-Query db i k rs e = (refl, refl)
-no_ctes (more_of-Query q more) db i k rs e = absurd (omega (arith, e))
-
 no_subs : {n : _} (subs : Row_of-Query n) (db : Tables) (k : ℕ) (rs : Results) → count_of subs ≡ 0 → (with_ins_all subs db k rs ≡ rs) × (ins_in_all subs ≡ 0)
 no_subs end_of-Query db k rs e = (refl, refl)
 no_subs (more_of-Query q more) db k rs e = absurd (omega (arith, e))
@@ -117,7 +102,7 @@ alike c touched q held rows reach can h = absurd reach
 
 large_in_both : (c : Contents) (touched : List ℕ) (q : Query) (held : Held) → ReadsOneTable c touched q → ((g : ℕ) → CanHold c g (held g)) → is_large q (whole c (narrowed touched held)) [] ≡ is_large q (whole c held) []
 large_in_both c touched (Query' cs ctes ss subs (Table t n) f grouped keys aggs having items shown distinct order limit offset names) held reach can =
-    large_alike f grouped keys (table_rows (whole c (narrowed touched held)) t) (table_rows (whole c held) t) (kept_whole c touched t f held reach.2 can)
+    large_kept f grouped keys (table_rows (whole c (narrowed touched held)) t) (table_rows (whole c held) t) (kept_whole c touched t f held reach.2 can)
 large_in_both c touched q held reach can = absurd reach
 
 pub one_table_narrows : OneTableNarrows

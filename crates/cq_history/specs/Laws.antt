@@ -2,7 +2,6 @@
 use Rattle.std.specs.Prelude.{◌-◌, ◌%◌, slice_get, ◌≡◌, ⊤, ℕ, ◌+◌, ◌≤◌, ◌<◌, true, false, List, [], ◌∷◌, ◌++◌, length, nat_eq, ◌&&◌, if◌then◌else◌, Option, Some, None}
 use Rattle.std.specs.List.{AllByRecursion, sum_by}
 use Rattle.std.specs.List.Sorted.{IsPermutation}
-use Rattle.cq_tree.specs.declared.expression.Cond.{Cond}
 use Rattle.cq_tree.specs.declared.write.ShardOp.{ShardOp}
 use Rattle.cq_tree.specs.declared.write.ShardOp.TheVariants.{Insert, Update, Remove}
 use Rattle.cq_tree.specs.declared.write.Reply.{Reply}
@@ -13,9 +12,8 @@ use Rattle.cq_tree.specs.declared.query.FromTree.{Table}
 use Rattle.cq_tree.specs.declared.query.Query.{Query, Query', out-Query}
 use Rattle.cq_tree.specs.declared.statement.Statement.TheVariants as statement
 use Rattle.cq_value.specs.Tables.{rows_of}
-use Rattle.cq_meaning.specs.Values.{Row, Tables, column, table_rows}
-use Rattle.cq_meaning.specs.Results.{Answers, count_of}
-use Rattle.cq_meaning.specs.Expressions.{keeps}
+use Rattle.cq_meaning.specs.Values.{Row, Tables, table_rows}
+use Rattle.cq_meaning.specs.Results.{Answers, count_of, results_of}
 use Rattle.cq_meaning.specs.Effects.{effect, reply_of, table_of, inserts}
 use Rattle.cq_value.specs.declared.schema.Column.{Column}
 use Rattle.cq_value.specs.declared.schema.With.{With}
@@ -23,9 +21,8 @@ use Rattle.cq_catalog.specs.Contents.{Contents, first_group_in, count_in}
 use Rattle.cq_catalog.specs.Creation.{with_table}
 use Rattle.cq_catalog.specs.Distribution.{decision_of, distribution_refusal, distributed_by, reference_refusal, with_reference}
 use Rattle.cq_catalog.specs.Whole.{IsWhole as IsWholeCatalog}
-use Rattle.cq_catalog.specs.Placement.{place_at, colocation_at, HasShard, group_of}
-use Rattle.cq_catalog.specs.declared.info.Place.{Place}
-use Rattle.cq_catalog.specs.declared.info.Place.TheVariants.{Local, Distributed, Reference}
+use Rattle.cq_catalog.specs.Placement.{place_at}
+use Rattle.cq_catalog.specs.declared.info.Place.TheVariants.{Local, Reference}
 use Rattle.cq_journal.specs.Fitting.{Fits, WriteSetsSorts}
 use Rattle.cq_journal.specs.Journals.{most_ids}
 use Rattle.cq_journal.specs.Replies.{IsRefusal}
@@ -46,6 +43,9 @@ use Rattle.cq_planning.specs.Touched.{among}
 use Rattle.cq_journal.specs.Records.{Journal}
 use Rattle.cq_history.specs.Journals.{none, Kinds, journal_in, held_in, in_each, with_entries}
 use Rattle.cq_history.specs.Legality.{LeavesColumn, IsLegal, IsKeyed}
+use Rattle.cq_history.specs.Refusals.{is_alone}
+use Rattle.cq_history.specs.Looks.{tables_in, Agree}
+use Rattle.cq_history.specs.Demands.{demands, rows_with}
 use Rattle.cq_history.specs.Standing.{most_rows, AreAmong, counted, reply_in, HasIds, IsReady, tag_of, StandsIn, Stands}
 use Rattle.cq_history.specs.Deeds.{Deed, first_seen, in_deed, Does, HasDeed, Grows, GoesOn, Follows, deed_over}
 use Rattle.cq_history.specs.Log.{who_of, AllStandFrom, AllDoneFrom, AllStand, IsWhole, IsLaidOut, IsConsistent, IsAnswered, next_who, answered_by}
@@ -165,6 +165,20 @@ abbrev pub LargeDoes : Type 0
 LargeDoes = (rules : Rules) (run : Run) (e : Environment) (d : Deed) (seen : ℕ → Journal) (q : Query) → IsReading rules e d seen q →
     (GivesSimply e.catalog q → Narrows e.catalog (rules.touched e.catalog (statement.Select q)) (IsLarge q)) → IsLarge q (seen_whole e.catalog (rules.touched e.catalog (statement.Select q)) seen) →
     Does rules run e d (Some (statement.Select q)) (answer.Failed (fault.Limit what.Rows most_rows))
+
+-- a query without CTE and IN subquery has no results to find first, and depends on the rows of its tables alone
+abbrev pub TablesSuffice : Type 0
+TablesSuffice = (q : Query) (db dc : Tables) → is_alone q ≡ true → Agree (tables_in q) db dc →
+    (results_of q db ≡ []) × ((rows : List Row) → Answers q dc rows → Answers q db rows) × (IsLarge q dc → IsLarge q db)
+
+-- the second database has of the query's one table the rows alone that WHERE can keep
+abbrev pub HasWanted : Query → ℕ → Tables → Tables → Type 0
+HasWanted q table db dc = table_rows dc table ≡ rows_with (demands (out-Query q).filter) (table_rows db table)
+
+-- where its FROM is one table, no other rows matter
+abbrev pub WantedSuffice : Type 0
+WantedSuffice = (q : Query) (table n : ℕ) (db dc : Tables) → is_alone q ≡ true → (out-Query q).from ≡ Table table n → HasWanted q table db dc →
+    ((rows : List Row) → Answers q dc rows → Answers q db rows) × (IsLarge q dc → IsLarge q db)
 
 -- ---- deeds
 

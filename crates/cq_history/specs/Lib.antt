@@ -7,4 +7,6 @@ pub mod Deeds
 pub mod Log
 pub mod Refusals
 pub mod Computable
+pub mod Looks
+pub mod Demands
 pub mod Laws

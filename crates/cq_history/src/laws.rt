@@ -1,4 +1,6 @@
 ghost use Rattle.cq_history.specs.Laws.{PartsAreMade, PartIsRefused, PartsHaveEffect, MadeDoes, RefusedDoes, LacksDoes, ReadDoes, LargeDoes, OneTableNarrows, GrowsOn, GrowsNone, GrowsEach, GrowsInOne, DeedsStay, GrowsByOther, DeedsStand, BlockIsDone, DoneStands};
+ghost use Rattle.cq_history.specs.Demands.{KeptHasDemands};
+ghost use Rattle.cq_history.specs.Laws.{TablesSuffice, WantedSuffice};
 ghost use Rattle.cq_history.specs.Laws.{LogBegins, LogGoesOn, AnswersGoOn, IdleIsAnswered, DeedIsAnswered, StaysLaidOut, CatalogGoesOn, LogStands};
 ghost use Rattle.cq_history.specs.Laws.{MadeIsAnswered, RefusedIsAnswered, LacksIsAnswered, ReadIsAnswered, LargeIsAnswered, ReadLacksMemory, WriteLacksMemory, RefusalIsAnswered, OpensLaidOut, CatalogIsAnswered};
 
@@ -22,6 +24,14 @@ pub fn statement_laws()
     ensures grows_none { GrowsNone }
     ensures grows_each { GrowsEach }
     ensures grows_in_one { GrowsInOne }
+{}
+
+/// What a query without CTE and subquery in WHERE depends on: the rows of its tables, and of one table those that WHERE can keep. Does
+/// nothing.
+pub fn query_laws()
+    ensures tables { TablesSuffice }
+    ensures demands { KeptHasDemands }
+    ensures wanted { WantedSuffice }
 {}
 
 /// What a statement did stays in the journals as those grow, and stands over the undistributed database. Does nothing.

@@ -1,0 +1,53 @@
+-- Which tables a query reads in which groups, and all rows that were read of a table.
+use Rattle.std.specs.Prelude.{◌≡◌, ℕ, true, false, Option, Some, None, List, [], ◌∷◌, ◌++◌, map, fold, Bool, not, ◌&&◌, if◌then◌else◌, nat_eq}
+use Rattle.cq_meaning.specs.Values.{Row, Tables}
+use Rattle.cq_catalog.specs.Contents.{Contents}
+use Rattle.cq_tree.specs.declared.query.Query.{Query}
+use Rattle.cq_planning.specs.Routing.{fits_router, touched_in_block}
+use Rattle.cq_planning.specs.Touched.{among}
+use Rattle.cq_answer.specs.declared.answered.Settings.{Settings}
+use Rattle.cq_history.specs.Run.{Environment}
+use Rattle.cq_history.specs.Refusals.{is_alone}
+use Rattle.cq_history.specs.Looks.{tables_in, has_shard}
+use Rattle.cq_groups.specs.Reads.{Look}
+
+-- a table goes last among those that are read in a group, where it has a shard there, and once
+abbrev pub with_table : Contents → ℕ → List ℕ → ℕ → List ℕ
+with_table c group there table = if has_shard c group table && not (among table there) then there ++ table ∷ [] else there
+
+abbrev pub tables_there : Contents → ℕ → List ℕ → List ℕ
+tables_there c group tables = fold (with_table c group) [] tables
+
+-- a look at each of these groups
+abbrev pub looks_by : Contents → List ℕ → List ℕ → List Look
+looks_by c tables groups = map (λ g. (g, tables_there c g tables)) groups
+
+-- the looks of a query
+abbrev pub looks_of : Contents → Query → List Look
+looks_of c q = looks_by c (tables_in q) (touched_in_block c q)
+
+-- the looks of a query that runs
+abbrev pub IsPlan : Contents → Query → Option (List Look) → Type 0
+IsPlan c q None = (is_alone q && fits_router c q) ≡ false
+IsPlan c q (Some looks) = (is_alone q ≡ true) × (fits_router c q ≡ true) × (looks ≡ looks_of c q)
+
+abbrev pub environment_at : Contents → Settings → Environment
+environment_at c settings = record { catalog = c; settings = settings }
+
+-- whether rows are of this table
+abbrev pub is_of : ℕ → ℕ × List Row → Bool
+is_of table p = nat_eq p.0 table
+
+-- rows of a table go behind those of it that are there
+abbrev pub with_rows : Tables → ℕ → List Row → Tables
+with_rows [] table rows = (table, rows) ∷ []
+with_rows (p ∷ ps) table rows = if nat_eq p.0 table then (p.0, p.1 ++ rows) ∷ ps else p ∷ with_rows ps table rows
+
+-- each table once, with all of its rows
+abbrev pub merged : Tables → Tables
+merged tables = fold (λ (done : Tables) (p : ℕ × List Row). with_rows done p.0 p.1) [] tables
+
+-- all rows of a table
+abbrev pub gathered : Tables → ℕ → List Row
+gathered [] table = []
+gathered (p ∷ ps) table = (if nat_eq p.0 table then p.1 else []) ++ gathered ps table
