@@ -1,4 +1,4 @@
-//! The coordinator of a run: it answers bound statements, each by the catalogue, by the settings or by shard groups.
+//! The coordinator of a run: it answers bound statements, each by the catalogue, by the settings or by its shard groups.
 #![tactic(auto)]
 
 mod coordinator;

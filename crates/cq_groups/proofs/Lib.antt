@@ -14,3 +14,4 @@ pub mod LookLaws
 pub mod QueryLaws
 pub mod AloneLaws
 pub mod Nodes
+pub mod WantedLaws

@@ -10,6 +10,7 @@ mod queries;
 mod reads;
 mod staging;
 mod tables;
+mod wanted;
 mod writes;
 
 pub use error::WriteError;
@@ -18,4 +19,5 @@ pub use looks::looks_at;
 pub use queries::answer_query;
 pub use reads::{Look, Looks, pick_group, read_groups};
 pub use tables::tables_of;
+pub use wanted::wanted_by;
 pub use writes::write_groups;

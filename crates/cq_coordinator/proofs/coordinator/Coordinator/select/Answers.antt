@@ -1,0 +1,20 @@
+use Rattle.std.proofs.Common.{refl}
+use Rattle.cq_cluster.proofs.GroupLaws.{rests, sound_after, stores_after}
+use Rattle.cq_cluster.specs.Cluster.{run_of}
+use Rattle.cq_coordinator.proofs.QueryAnswers.{are_shaped}
+use Rattle.cq_coordinator.proofs.coordinator.Coordinator.select.Goals as goal
+
+pub answer_query-requires-clause-resting : goal.answer_query-requires-clause-resting
+answer_query-requires-clause-resting g c = rests g.S.Store.state c.args.self.now.cluster c.requires.sound
+
+pub answer_query-requires-clause-shaped : goal.answer_query-requires-clause-shaped
+answer_query-requires-clause-shaped g c = are_shaped g.S.Store.state c.args.self.now.cluster c.requires.sound c.requires.unreferenced
+
+pub returns-clause-answered : goal.returns-clause-answered
+returns-clause-answered g c = λ entry. c.answer_query.ensures.answered (run_of entry) c.args.self.now.settings
+
+pub returns-clause-sound : goal.returns-clause-sound
+returns-clause-sound g c = sound_after g.S.Store.state c.args.self.now.cluster _ c.requires.sound c.answer_query.ensures.goes_on refl refl
+
+pub returns-clause-stores : goal.returns-clause-stores
+returns-clause-stores g c = stores_after g.S.Store.state c.args.self.now.cluster (record c.args.self.now.cluster { groups = c.answer_query.new.groups }) c.answer_query.ensures.goes_on refl

@@ -1,0 +1,40 @@
+ghost use Rattle.std.specs.Prelude.{◌≡◌, ℕ, List, Some};
+ghost use Rattle.cq_tree.specs.declared.statement.Statement.TheVariants as statement;
+ghost use Rattle.cq_catalog.specs.Placement.{place_at};
+ghost use Rattle.cq_catalog.specs.declared.info.Place.TheVariants.{Reference};
+ghost use Rattle.cq_history.specs.Computable.{IsComputable};
+ghost use Rattle.cq_history.specs.Journals.{journal_in};
+ghost use Rattle.cq_history.specs.Legality.{IsLegal};
+ghost use Rattle.cq_history.specs.Refusals.{rules};
+ghost use Rattle.cq_history.specs.Log.{IsAnswered};
+ghost use Rattle.cq_store.specs.declared.worker.Worker.{Worker};
+ghost use Rattle.cq_cluster.specs.Cluster.{IsSound, KeepsStores, run_of};
+ghost use Rattle.cq_coordinator.specs.Coordination.{environment, journals};
+
+use crate::coordinator::Coordinator;
+use cq_answer::Answer;
+use cq_groups::answer_query;
+use cq_store::Store;
+use cq_tree::{Query, Who};
+use std::alloc::Global;
+
+impl<S: Store> Coordinator<S> {
+    /// The answer of a query, which is entered in the journals of the shard groups that it touches.
+    pub fn select(&mut self, alloc: Global, who: Who, query: &Query) -> Answer
+        requires sound { IsSound S.state self.old.cluster }
+        requires legal { (g : ℕ) → IsLegal self.old.cluster.catalog g (journal_in (journals self.old) g) }
+        requires unreferenced { (table group shard : ℕ) → place_at self.old.cluster.catalog table ≡ Reference group shard → ⊥ }
+        requires computable { IsComputable self.old.cluster.catalog (statement.Select query.now) }
+        ensures answered { (entry : List (Worker S)) → IsAnswered rules (run_of entry) (environment self.old) (environment self.new) who (journals self.old) (journals self.new) (Some (statement.Select query.now)) result }
+        ensures sound { IsSound S.state self.new.cluster }
+        ensures stores { KeepsStores S.state self.old.cluster self.new.cluster }
+    {
+        answer_query(
+            alloc,
+            &self.cluster.catalog,
+            &mut self.cluster.groups,
+            who,
+            query,
+        )
+    }
+}
