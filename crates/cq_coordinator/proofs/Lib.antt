@@ -1,3 +1,4 @@
 pub mod DefinitionAnswers
 pub mod WriteAnswers
 pub mod QueryAnswers
+pub mod RefusalAnswers
