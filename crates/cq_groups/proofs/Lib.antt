@@ -6,3 +6,4 @@ pub mod QueryLaws
 pub mod AloneLaws
 pub mod Nodes
 pub mod WantedLaws
+pub mod ShardLaws
