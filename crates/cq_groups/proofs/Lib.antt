@@ -15,3 +15,4 @@ pub mod Touching
 pub mod Judging
 pub mod Answering
 pub mod WantedLaws
+pub mod ShardLaws

@@ -8,6 +8,7 @@ mod gathering;
 mod looks;
 mod queries;
 mod reads;
+mod shard;
 mod staging;
 mod tables;
 mod wanted;

@@ -1,4 +1,4 @@
-ghost use Rattle.std.specs.Prelude.{◌≡◌, ℕ, [], Some, IfOk};
+ghost use Rattle.std.specs.Prelude.{◌≡◌, ℕ, [], ◌∷◌, Some, IfOk};
 ghost use Rattle.std.specs.List.{AllByRecursion};
 ghost use Rattle.cq_tree.specs.declared.query.Query.{out-Query};
 ghost use Rattle.cq_tree.specs.declared.statement.Statement.TheVariants as statement;
@@ -13,13 +13,15 @@ ghost use Rattle.cq_history.specs.Refusals.{rules};
 ghost use Rattle.cq_history.specs.Log.{IsAnswered};
 ghost use Rattle.cq_group.specs.Resting.{journals_of, AreResting, GoOn};
 ghost use Rattle.cq_groups.specs.Reads.{captured_by, groups_in, CanLook, AreShaped, Computes, IsComputed};
-ghost use Rattle.cq_groups.specs.Looking.{merged, IsPlan, environment_at};
+ghost use Rattle.cq_groups.specs.Looking.{merged, look_at, wanted_of, IsPlan, environment_at};
 
 use crate::alone::is_alone;
 use crate::gathering::gather;
 use crate::looks::looks_at;
-use crate::reads::{Look, Looks, read_groups};
+use crate::reads::{Look, Looks, pick_group, read_groups};
+use crate::shard::{Shard, one_shard};
 use crate::tables::tables_of;
+use crate::wanted::wanted_by;
 use cq_answer::{Answer, Fault, What};
 use cq_catalog::Catalog;
 use cq_group::{GroupState, Tables};
@@ -93,6 +95,36 @@ fn look_and_compute<S: Store>(
     compute(alloc, query, names, &tables)
 }
 
+/// The answer of a query by the rows of its one shard that its WHERE demands; the group's journal has a Read then.
+fn pick_and_compute<S: Store>(
+    alloc: Global,
+    groups: &mut Vec<GroupState<S>>,
+    who: Who,
+    query: &Query,
+    shard: Shard,
+) -> Answer
+    requires resting { AreResting S.state groups.old.items }
+    requires there { CanLook groups.old.items (look_at shard) }
+    requires safe { IsSafeQuery query.now (wanted_of groups.old.items query.now shard) [] }
+    ensures computed { IsComputed who query.now (look_at shard ∷ []) (wanted_of groups.old.items query.now shard) groups.old.items groups.new.items result }
+    ensures goes_on { GoOn S.state groups.old.items groups.new.items }
+{
+    let Ok(names) = query.names.copy(alloc) else {
+        return Answer::Failed(Fault::Memory);
+    };
+    let Ok(wanted) = wanted_by(alloc, &query.filter) else {
+        return Answer::Failed(Fault::Memory);
+    };
+    let Ok(rows) = pick_group(groups, who, shard.group, shard.table, &wanted) else {
+        return Answer::Failed(Fault::Memory);
+    };
+    let mut tables = Tables::new(alloc);
+    let Ok(()) = tables.put((shard.table, rows)) else {
+        return Answer::Failed(Fault::Memory);
+    };
+    compute(alloc, query, names, &tables)
+}
+
 /// The answer of a query over the shard groups of a catalogue.
 pub fn answer_query<S: Store>(
     alloc: Global,
@@ -114,5 +146,8 @@ pub fn answer_query<S: Store>(
     let Some(looks) = planned else {
         return Answer::Failed(Fault::NotBuilt);
     };
-    look_and_compute(alloc, groups, who, query, looks.as_slice())
+    match one_shard(query, looks.as_slice()) {
+        Some(shard) => pick_and_compute(alloc, groups, who, query, shard),
+        None => look_and_compute(alloc, groups, who, query, looks.as_slice()),
+    }
 }
