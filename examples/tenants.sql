@@ -46,5 +46,13 @@ SELECT count(*), count(amount), sum(amount), max(amount) FROM orders WHERE store
 SELECT count(*), sum(amount) FROM orders WHERE store = 2;
 SELECT page, hits FROM visits WHERE host = 'anchor.example' ORDER BY hits DESC LIMIT 1;
 
--- This one names none. Queries over several shards don't run yet.
+-- Stores and orders of a tenant lie in one shard group, so that a join of them is one query of that group.
+SELECT name, orders.id, amount FROM stores JOIN orders ON store = stores.id WHERE stores.id = 3 ORDER BY orders.id;
+
+-- A write goes to all the shards that it concerns, or to none.
+INSERT INTO orders VALUES (1, 5, 'zoe', 30), (2, 1, 'zoe', 5), (3, 3, 'zoe', 8);
+UPDATE orders SET amount = amount + 1 WHERE store = 3 AND customer = 'eve';
+DELETE FROM orders WHERE customer = 'zoe';
+
+-- This one names no tenant. Queries over several shards don't run yet.
 SELECT count(*) FROM orders;

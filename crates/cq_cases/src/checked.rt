@@ -1,15 +1,12 @@
-ghost use Rattle.std.specs.Prelude.{◌≡◌, ◌<◌, ◌+◌, length, IfSome};
+ghost use Rattle.std.specs.Prelude.{◌≡◌, IfSome};
 ghost use Rattle.cq_meaning.specs.Queries.{meaning};
-ghost use Rattle.cq_meaning.specs.Effects.{inserts};
-ghost use Rattle.cq_engine.specs.WriteEffects.{IsEffect};
 
-use cq_engine::{Effect, changes_of};
 use cq_meaning::Columns;
 use cq_meaning_laws::width_laws;
 use cq_queries::{Tables, run_query};
-use cq_tree::{Query, ShardOp};
-use cq_value::{Numbered, Results, Rows, Shape};
-use cq_widths::{are_within, is_bound_write, output_bits, pairs_within};
+use cq_tree::Query;
+use cq_value::{Results, Rows};
+use cq_widths::{are_within, output_bits};
 use std::alloc::Global;
 
 /// The rows of a query, where its widths and those of the tables and results are kept.
@@ -28,23 +25,4 @@ pub fn checked_query(
     }
     width_laws();
     run_query(alloc, q, tables, results).ok()
-}
-
-/// What a write comes to, where its widths and those of the table are kept.
-pub fn checked_write(
-    alloc: Global,
-    op: &ShardOp,
-    table: &Numbered,
-    shape: &Shape,
-    ks: &[u32],
-) -> Option<Effect>
-    requires few { length (inserts op.now) < 1000 }
-    requires low { table.now.next < 1000 }
-    ensures { IfSome result (λ made. IsEffect op.now table.now shape.now made) }
-{
-    if !is_bound_write(op, ks) || !pairs_within(ks, table.pairs()) {
-        return None;
-    }
-    width_laws();
-    changes_of(alloc, op, table, table.next(), shape).ok()
 }

@@ -1,13 +1,12 @@
-//! Queries of several relations, UPDATE and DELETE, by the engine alone. Behind `=>` stand PostgreSQL's rows, or the reply and what
-//! becomes of the rows of t, which have the ids 0, 1 and 2.
+//! Queries of several relations, by the engine alone. Behind `=>` stand PostgreSQL's rows.
 
-use crate::checked::{checked_query, checked_write};
+use crate::checked::checked_query;
 use crate::tables::{bound, catalog};
 use cq_catalog::Catalog;
-use cq_engine::{Effect, Tables};
 use cq_meaning::{Bits, Columns};
+use cq_queries::Tables;
 use cq_tree::{Queries, Query, ShardOp, Statement};
-use cq_value::{Change, Items, NoMemory, Numbered, Results, Row, Rows, Value};
+use cq_value::{Items, NoMemory, Results, Row, Rows, Value};
 use cq_widths::output_bits;
 use std::alloc::Global;
 use std::process::Abort;
@@ -18,9 +17,7 @@ const ROWS: [&str; 2] = [
     "INSERT INTO b VALUES (1, 100), (1, NULL), (3, 300), (5, 500)",
 ];
 
-const WRITTEN: &str = "INSERT INTO t VALUES (1, 10, 'a'), (2, NULL, 'b'), (3, -5, NULL)";
-
-const CASES: [&str; 34] = [
+const CASES: [&str; 24] = [
     "SELECT a.k, w FROM a JOIN b ON a.k = b.k ORDER BY 1, 2 => 1 100; 1 null; 3 300;",
     "SELECT a.k, w FROM a LEFT JOIN b ON a.k = b.k ORDER BY 1, 2 => 1 100; 1 null; 2 null; 3 300; 4 null;",
     "SELECT a.k, b.k FROM a CROSS JOIN b WHERE a.k = 2 ORDER BY 2 => 2 1; 2 1; 2 3; 2 5;",
@@ -45,16 +42,6 @@ const CASES: [&str; 34] = [
     "SELECT k FROM a GROUP BY k HAVING k IN (SELECT v FROM a WHERE k > 9) OR k = 2 => 2;",
     "WITH e AS (SELECT v AS x FROM a WHERE k = 1) SELECT k FROM a JOIN e ON v = x => 1;",
     "WITH e AS (SELECT k FROM b), f AS (SELECT k FROM e WHERE k < 4) SELECT DISTINCT a.k FROM a, f WHERE a.k = f.k AND a.k IN (SELECT k FROM e) ORDER BY 1 => 1; 3;",
-    "UPDATE t SET v = 2147483647 WHERE k = 1 => Count(1): 1 2147483647 a;",
-    "UPDATE t SET v = 2147483648 WHERE k = 1 => OutOfRange:",
-    "UPDATE t SET v = -2147483649 WHERE k = 1 => OutOfRange:",
-    "UPDATE t SET v = 2147483648 WHERE v > 100 => Count(0):",
-    "UPDATE t SET v = v + 1 => Count(3): 1 11 a; 2 null b; 3 -4 null;",
-    "UPDATE t SET k = v, v = k WHERE k = 1 => Count(1): 10 1 a;",
-    "UPDATE t SET s = NULL WHERE NOT v > 0 => Count(1): 3 -5 null;",
-    "DELETE FROM t WHERE NOT v > 0 => Count(1): drop 2;",
-    "DELETE FROM t WHERE v = NULL => Count(0):",
-    "DELETE FROM t => Count(3): drop 0; drop 1; drop 2;",
 ];
 
 /// The tables and the results so far, with the bits of their columns.
@@ -126,17 +113,6 @@ fn answer(alloc: Global, db: &mut Database, q: &Query) -> Option<Rows> {
     db.rows(alloc, q)
 }
 
-fn small_table(rt: &impl Abort, alloc: Global, catalog: &Catalog) -> Result<Numbered, Fail> {
-    let mut table = Numbered::new(alloc);
-    let (_, rows) = rows_of(alloc, catalog, WRITTEN).expect(rt, "an INSERT");
-    for row in rows.into_vec() {
-        let id = table.next();
-        assert!(rt; id < 1000);
-        table.add(id, row)?;
-    }
-    Ok(table)
-}
-
 fn put_row(shown: &mut String, alloc: Global, row: &Row) -> Result<(), Fail> {
     for v in row.as_slice() {
         match v {
@@ -149,18 +125,6 @@ fn put_row(shown: &mut String, alloc: Global, row: &Row) -> Result<(), Fail> {
     Ok(())
 }
 
-fn shown_effect(alloc: Global, effect: &Effect) -> Result<String, Fail> {
-    let reply = effect.reply;
-    let mut shown = format!(in alloc; " {reply:?}:")?;
-    for change in effect.changes.as_slice() {
-        match change {
-            Change::Add(_, row) | Change::Put(_, row) => put_row(&mut shown, alloc, row)?,
-            Change::Drop(id) => shown.push_str(format!(in alloc; " drop {id};")?.as_str())?,
-        }
-    }
-    Ok(shown)
-}
-
 fn queried(rt: &impl Abort, alloc: Global, catalog: &Catalog, q: &Query) -> Result<String, Fail> {
     let mut db = small_database(rt, alloc, catalog)?;
     let rows = answer(alloc, &mut db, q).expect(rt, "widths that are kept");
@@ -171,37 +135,18 @@ fn queried(rt: &impl Abort, alloc: Global, catalog: &Catalog, q: &Query) -> Resu
     Ok(shown)
 }
 
-fn written(
-    rt: &impl Abort,
-    alloc: Global,
-    catalog: &Catalog,
-    op: &ShardOp,
-) -> Result<String, Fail> {
-    let table = small_table(rt, alloc, catalog)?;
-    let ks = bits_of(alloc, &[63, 31, 0])?;
-    let inserted = match op {
-        ShardOp::Insert { rows, .. } => rows.len(),
-        ShardOp::Update { .. } | ShardOp::Remove { .. } => 0,
-    };
-    let next = table.next();
-    assert!(rt; inserted < 1000 && next < 1000 && 0 < catalog.tables());
-    let made = checked_write(alloc, op, &table, &catalog.shape(0)?, ks.as_slice());
-    shown_effect(alloc, &made.expect(rt, "widths that are kept"))
-}
-
 fn said(rt: &impl Abort, alloc: Global, catalog: &Catalog, text: &str) -> Result<String, Fail> {
     match bound(alloc, catalog, text) {
         Some(Statement::Select(query)) => queried(rt, alloc, catalog, &query),
-        Some(Statement::Write(op)) => written(rt, alloc, catalog, &op),
         other => {
             drop(other);
-            Err(Fail::from("no query and no write"))
+            Err(Fail::from("no query"))
         }
     }
 }
 
 #[test]
-fn queries_and_writes(rt: HostRuntime) -> Result<(), Fail> {
+fn queries(rt: HostRuntime) -> Result<(), Fail> {
     let catalog = catalog(rt.alloc())?;
     for case in CASES {
         let (text, wanted) = case.split_once(" =>").expect(&rt, "an arrow");

@@ -18,4 +18,4 @@ mod tokens;
 #[cfg(test)]
 mod touched;
 
-pub use checked::{checked_query, checked_write};
+pub use checked::checked_query;

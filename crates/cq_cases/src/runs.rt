@@ -19,7 +19,7 @@ use std::thread::Threads;
 #[derive(Clone, Copy, Debug, PartialEq, Eq)]
 enum Did {
     Read,
-    Inserted(u64),
+    Counted(u64),
     Refused,
     Other,
 }
@@ -54,7 +54,7 @@ CREATE TABLE c (v bigint, k bigint);SET citus.shard_count TO 4;
 SELECT create_distributed_table('a', 'k');SELECT create_distributed_table('b', 'k', colocate_with => 'a');
 SELECT create_distributed_table('c', 'k', shard_count => 2);
 INSERT INTO a VALUES (3, 1);INSERT INTO b VALUES (3, 2);INSERT INTO c (k, v) VALUES (3, 8);
-INSERT INTO c VALUES (9, 7);INSERT INTO a VALUES (3, 4);DELETE FROM a;DROP TABLE a;SELECT v FROM b WHERE k = 3",
+INSERT INTO c VALUES (9, 7);INSERT INTO a VALUES (3, 4);EXPLAIN SELECT v FROM a;DROP TABLE a;SELECT v FROM b WHERE k = 3",
     take_fails: &[],
     put_fails: &[],
     workers: 2,
@@ -67,12 +67,12 @@ v\n2\n(1 row)
 ",
     answers: 15,
     entries: &[
-        (1, 8, Did::Inserted(1)),
-        (1, 9, Did::Inserted(1)),
+        (1, 8, Did::Counted(1)),
+        (1, 9, Did::Counted(1)),
         (1, 12, Did::Refused),
         (1, 15, Did::Read),
-        (4, 10, Did::Inserted(1)),
-        (5, 11, Did::Inserted(1)),
+        (4, 10, Did::Counted(1)),
+        (5, 11, Did::Counted(1)),
     ],
     rows: &[
         (1, 102016, 8, 3),
@@ -80,6 +80,34 @@ v\n2\n(1 row)
         (2, 102013, 3, 2),
         (2, 102017, 9, 7),
     ],
+};
+
+/// A write has one entry in each group that it touches, and a refused one has one alone; a query that touches none has none.
+const OVER: Script = Script {
+    script: b"CREATE TABLE t (k bigint, v bigint, PRIMARY KEY (k));SELECT create_distributed_table('t', 'k', shard_count => 4);
+INSERT INTO t VALUES (1,10),(2,20),(3,30),(4,40);INSERT INTO t VALUES (5,50),(1,99);DELETE FROM t WHERE k IN (1, 3);
+UPDATE t SET v = v + 1;UPDATE t SET v = 9223372036854775807 + v WHERE k = 2;SELECT k FROM t WHERE k = 2;
+SELECT v FROM t WHERE k = 1 AND k = 2",
+    written: b"CREATE TABLE\ncreate_distributed_table\n\n(1 row)\nINSERT 0 4\nERROR 30 duplicate key\nDELETE 2\nUPDATE 2
+ERROR 31 value out of range\nk\n2\n(1 row)\nv\n(0 rows)\n",
+    answers: 9,
+    entries: &[
+        (0, 3, Did::Counted(1)),
+        (0, 4, Did::Refused),
+        (0, 5, Did::Counted(1)),
+        (0, 6, Did::Counted(0)),
+        (1, 3, Did::Counted(1)),
+        (1, 5, Did::Counted(1)),
+        (1, 6, Did::Counted(0)),
+        (2, 3, Did::Counted(1)),
+        (2, 6, Did::Counted(1)),
+        (2, 7, Did::Refused),
+        (2, 8, Did::Read),
+        (3, 3, Did::Counted(1)),
+        (3, 6, Did::Counted(1)),
+    ],
+    rows: &[(1, 102010, 2, 21), (2, 102011, 4, 41)],
+    ..BESIDE
 };
 
 /// What a run left.
@@ -136,8 +164,8 @@ fn run_with<R: Threads + Wait + Sync>(
 fn noted(group: u32, entry: &Entry) -> Noted {
     let did = match &entry.kind {
         EntryKind::Read => Did::Read,
-        EntryKind::Write(_, Reply::Count(rows)) => Did::Inserted(*rows),
-        EntryKind::Write(_, Reply::Duplicate) => Did::Refused,
+        EntryKind::Write(_, Reply::Count(rows)) => Did::Counted(*rows),
+        EntryKind::Write(_, Reply::Duplicate | Reply::OutOfRange) => Did::Refused,
         _ => Did::Other,
     };
     (group, entry.who.statement, did)
@@ -205,6 +233,7 @@ fn scripts_are_answered(rt: HostRuntime) -> Result<(), Fail> {
     };
     let cases = [
         BESIDE,
+        OVER,
         // a third worker takes no part
         Script {
             workers: 3,

@@ -1,5 +1,5 @@
 -- The shard groups of a sound cluster between two statements: they rest, and a table is in those of its shards. And a cluster whose groups went on.
-use Rattle.std.proofs.Common.{◌≡◌, ◌⊎◌, inl, inr, ℕ, suc, ◌+◌, ◌-◌, ◌<◌, List, [], ◌∷◌, length, refl, sym, ap, ◌∙◌, subst, arith, cond, Some, None, Option, IsSome, slice_get, get_or}
+use Rattle.std.proofs.Common.{◌≡◌, ◌⊎◌, inl, inr, ℕ, suc, ◌+◌, ◌-◌, ◌<◌, ◌≤◌, List, map, [], ◌∷◌, length, refl, sym, ap, ◌∙◌, subst, arith, cond, Some, None, Option, IsSome, slice_get, get_or}
 use Rattle.std.specs.List.{AllByRecursion, AllZip}
 use Rattle.std.specs.Prelude.{nat_eq}
 use Rattle.std.proofs.lemmas.Bool.Decides.{eqb_tells}
@@ -15,7 +15,9 @@ use Rattle.cq_planning.specs.Database.{shape_in}
 use Rattle.cq_store.specs.Stores.{StoreState}
 use Rattle.cq_store.specs.declared.worker.Worker.{Worker}
 use Rattle.cq_group.specs.declared.group.GroupState.{GroupState}
-use Rattle.cq_group.specs.Groups.{HasTable, Outline, outlines, stores_of, shapes, shape_at, or_no_shape, journal_of}
+use Rattle.cq_tree.specs.declared.journal.Entry.{Entry}
+use Rattle.cq_group.specs.declared.group.GroupTable.{GroupTable}
+use Rattle.cq_group.specs.Groups.{HasTable, IsTableKept, Outline, outline, entries_of, copies_of, outlines, stores_of, shapes, shape_at, or_no_shape, journal_of}
 use Rattle.cq_group.specs.Calls.{GroupGoesOn, Lifted, GoesOn}
 use Rattle.cq_group.specs.Resting.{IsResting, AreResting, GoOn}
 use Rattle.cq_cluster.specs.Cluster.{IsShardOf, IsGroupOf, IsReferenceGroup, IsCovered, IsReferenced, AreGroups, AreWorkers, IsWorkerAt, IsSound, KeepsStores, held, everywhere, whole_at, journals}
@@ -114,6 +116,20 @@ module _ {X : Type 0} (state : X → StoreState) where
 
   pub journals_count : (cl : Cluster X) → IsSound state cl → length (journals cl) ≡ cl.catalog.groups
   journals_count cl s = length-map cl.groups.items (λ (g : GroupState X). journal_of g) ∙ s.groups.count
+
+  some_copy : (node copies : ℕ) (es : List Entry) (ts : List (GroupTable X)) (o : Outline) → map outline ts ≡ o ∷ [] → AllByRecursion (IsTableKept state node copies es) ts → 0 < copies
+  some_copy node copies es [] o e all = cc
+  some_copy node copies es (t ∷ ts) o e all = all.0.some_store
+
+  -- a group on all nodes is on the first one
+  pub near_there : (cl : Cluster X) (group : ℕ) (g : GroupState X) → IsSound state cl → slice_get cl.groups.items group ≡ Some g → g.node ≡ 0 → 1 ≤ g.nodes
+  near_there cl group g s at all_nodes = elim (one_of cl group g s at) [
+    | inl one ↦ absurd (let node = one.of.node in omega (arith, node, all_nodes))
+    | inr one ↦
+        let copies : copies_of g ≡ g.nodes = rw all_nodes refl in
+        let some = some_copy g.node (copies_of g) (entries_of g) g.tables.items (one.table, shape_in cl.catalog one.table, one.shard, cl.nodes) one.of.only one.of.kept.tables in
+        omega (arith, copies, some)
+  ]
 
   -- ---- the tables of a group
 

@@ -1,6 +1,4 @@
-pub mod GroupLaws
-pub mod GroupCalls
-pub mod QueryAnswers
-pub mod InsertAnswers
 pub mod DefinitionAnswers
-pub mod WantedLaws
+pub mod WriteAnswers
+pub mod QueryAnswers
+pub mod RefusalAnswers

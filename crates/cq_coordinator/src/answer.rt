@@ -1,49 +1,53 @@
-ghost use Rattle.std.specs.Prelude.{◌≡◌, ℕ, List, Some, Ok};
-ghost use Rattle.cq_history.specs.Between.{Responds};
-ghost use Rattle.cq_history.specs.Places.{EachJournal};
-ghost use Rattle.cq_history.specs.Legality.{IsLegal};
-ghost use Rattle.cq_routing.specs.Routes.{IsRoute};
+ghost use Rattle.std.specs.Prelude.{◌≡◌, ℕ, List, Some, None};
+ghost use Rattle.cq_meaning.specs.Effects.{table_of as table_of_op};
+ghost use Rattle.cq_catalog.specs.Placement.{place_at};
+ghost use Rattle.cq_planning.specs.Refusals.{refusal_of as refusal_by_rule};
+ghost use Rattle.cq_planning.specs.Routing.{is_distributed_place};
+ghost use Rattle.cq_history.specs.Computable.{IsComputable};
+ghost use Rattle.cq_history.specs.Journals.{journal_in};
+ghost use Rattle.cq_history.specs.Legality.{IsLegal, IsKeyed};
+ghost use Rattle.cq_history.specs.Refusals.{rules};
+ghost use Rattle.cq_history.specs.Log.{IsAnswered};
 ghost use Rattle.cq_store.specs.declared.worker.Worker.{Worker};
-ghost use Rattle.cq_cluster.specs.Cluster.{IsSound, KeepsStores, AreWorkers, whole_at};
-ghost use Rattle.cq_coordinator.specs.Coordination.{environment, journals, IsComputable, IsGroup, IsReading};
+ghost use Rattle.cq_cluster.specs.Cluster.{IsSound, KeepsStores, AreWorkers, run_of};
+ghost use Rattle.cq_coordinator.specs.Coordination.{environment, journals};
 
 use crate::coordinator::Coordinator;
-use cq_answer::Answer;
-use cq_routing::{Point, Route, route_of};
+use cq_answer::{Answer, Fault};
+use cq_catalog::{Catalog, Place};
+use cq_plan::refusal_of;
+use cq_relations::place_of;
 use cq_store::Store;
-use cq_tree::{Statement, Who};
+use cq_tree::{ShardOp, Statement, Who};
 use std::alloc::Global;
 
-/// The shard group that a way leads to.
-fn group_in(route: Route) -> u32
-    requires { IsGroup route }
-    ensures { route ≡ Route.Group result }
+/// The table that a write names.
+fn table_of(op: &ShardOp) -> u32
+    ensures { result ≡ table_of_op op.now }
 {
-    match route {
-        Route::Group(group) => group,
-        Route::Catalog | Route::Reads(_) => unreachable!(),
+    match op {
+        ShardOp::Insert { table, .. }
+        | ShardOp::Update { table, .. }
+        | ShardOp::Remove { table, .. } => *table,
     }
 }
 
-/// The point that a way leads to.
-fn point_in(route: Route) -> Point
-    requires { IsReading route }
-    ensures { route ≡ Route.Reads result }
+/// Whether a write is to a distributed table.
+fn is_distributed(catalog: &Catalog, op: &ShardOp) -> bool
+    ensures { result ≡ is_distributed_place (place_at catalog.now (table_of_op op.now)) }
 {
-    match route {
-        Route::Reads(point) => point,
-        Route::Catalog | Route::Group(_) => unreachable!(),
-    }
+    matches!(place_of(catalog, table_of(op)), Place::Distributed { .. })
 }
 
 impl<S: Store> Coordinator<S> {
-    /// The answer of a statement that this way leads.
-    fn follow(&mut self, alloc: Global, who: Who, statement: &Statement, route: Route) -> Answer
+    /// The answer of a statement that planning supports.
+    fn answer_supported(&mut self, alloc: Global, who: Who, statement: &Statement) -> Answer
         requires sound { IsSound S.state self.old.cluster }
-        requires legal { EachJournal (IsLegal self.old.cluster.catalog) (journals self.old) }
-        requires route { IsRoute self.old.cluster.catalog statement.now (Ok route) }
+        requires legal { (g : ℕ) → IsLegal self.old.cluster.catalog g (journal_in (journals self.old) g) }
+        requires keyed { (table : ℕ) → IsKeyed self.old.cluster.catalog table }
         requires computable { IsComputable self.old.cluster.catalog statement.now }
-        ensures responds { (entry : List (Worker S)) → AreWorkers S.state entry self.old.cluster.groups.items self.old.cluster.workers.items → Responds (whole_at entry) (environment self.old) (environment self.new) who (journals self.old) (journals self.new) (Some statement.now) result }
+        requires supported { refusal_by_rule self.old.cluster.catalog statement.now ≡ None }
+        ensures answered { (entry : List (Worker S)) → AreWorkers S.state self.old.cluster.nodes entry self.old.cluster.groups.items self.old.cluster.workers.items → IsAnswered rules (run_of self.old.cluster.nodes entry) (environment self.old) (environment self.new) who (journals self.old) (journals self.new) (Some statement.now) result }
         ensures sound { IsSound S.state self.new.cluster }
         ensures stores { KeepsStores S.state self.old.cluster self.new.cluster }
     {
@@ -58,32 +62,40 @@ impl<S: Store> Coordinator<S> {
                 with,
             } => self.distribute(alloc, who, table, column, *count, with),
             Statement::Setting { which, value } => self.set(who, *which, *value),
-            Statement::Select(query) => self.select(alloc, who, query, point_in(route)),
-            Statement::Write(op) => self.insert(alloc, who, op, group_in(route)),
+            Statement::Select(query) => self.select(alloc, who, query),
+            Statement::Write(op) => {
+                if is_distributed(&self.cluster.catalog, op) {
+                    self.write(alloc, who, op)
+                } else {
+                    Answer::Failed(Fault::NotBuilt)
+                }
+            }
             Statement::Reference { .. }
             | Statement::Copy { .. }
             | Statement::Explain(_)
             | Statement::Move { .. }
             | Statement::Rebalance { .. }
-            | Statement::RebalancePlan { .. } => unreachable!(),
+            | Statement::RebalancePlan { .. } => Answer::Failed(Fault::NotBuilt),
         }
     }
 
-    /// The answer of a bound statement, which is entered in the journal of the shard group that it reads or writes.
+    /// The answer of a bound statement, which is entered in the journals of the shard groups that it touches.
     ///
-    /// Conditions: the journals are legal, and the engine can compute the statement, as the binder makes sure. The answer is what `Responds` says: it is
-    /// the statement's meaning over the undistributed database, or a refusal with its cause, or want of memory.
+    /// Conditions: the journals are legal, primary keys of distributed tables have the distribution column, and the statement can be
+    /// computed and planned, as the binder makes sure. The answer is what `IsAnswered` says: the statement's meaning over the
+    /// undistributed database, or a refusal with its cause, or want of memory.
     pub fn answer(&mut self, alloc: Global, who: Who, statement: &Statement) -> Answer
         requires sound { IsSound S.state self.old.cluster }
-        requires legal { EachJournal (IsLegal self.old.cluster.catalog) (journals self.old) }
+        requires legal { (g : ℕ) → IsLegal self.old.cluster.catalog g (journal_in (journals self.old) g) }
+        requires keyed { (table : ℕ) → IsKeyed self.old.cluster.catalog table }
         requires computable { IsComputable self.old.cluster.catalog statement.now }
-        ensures responds { (entry : List (Worker S)) → AreWorkers S.state entry self.old.cluster.groups.items self.old.cluster.workers.items → Responds (whole_at entry) (environment self.old) (environment self.new) who (journals self.old) (journals self.new) (Some statement.now) result }
+        ensures answered { (entry : List (Worker S)) → AreWorkers S.state self.old.cluster.nodes entry self.old.cluster.groups.items self.old.cluster.workers.items → IsAnswered rules (run_of self.old.cluster.nodes entry) (environment self.old) (environment self.new) who (journals self.old) (journals self.new) (Some statement.now) result }
         ensures sound { IsSound S.state self.new.cluster }
         ensures stores { KeepsStores S.state self.old.cluster self.new.cluster }
     {
-        match route_of(&self.cluster.catalog, statement) {
-            Ok(route) => self.follow(alloc, who, statement, route),
-            Err(fault) => Answer::Failed(fault),
+        if let Some(why) = refusal_of(statement, &self.cluster.catalog) {
+            return Answer::Failed(Fault::Unsupported(why));
         }
+        self.answer_supported(alloc, who, statement)
     }
 }

@@ -8,7 +8,7 @@ ghost use Rattle.cq_cluster.specs.Cluster.{IsSound, KeepsStores, AreWorkers, run
 ghost use Rattle.cq_coordinator.specs.Coordination.{environment, journals};
 
 use crate::coordinator::Coordinator;
-use crate::notice::distributed_notice;
+use crate::notice::notice_of;
 use cq_answer::{Answer, Fault, Settings, Tag};
 use cq_store::Store;
 use cq_tree::Who;
@@ -79,7 +79,7 @@ impl<S: Store> Coordinator<S> {
         ensures sound { IsSound S.state self.new.cluster }
         ensures stores { KeepsStores S.state self.old.cluster self.new.cluster }
     {
-        let Ok(told) = distributed_notice(alloc) else {
+        let Ok(told) = notice_of(alloc, "create_distributed_table") else {
             return Answer::Failed(Fault::Memory);
         };
         let default = self.settings.shard_count;

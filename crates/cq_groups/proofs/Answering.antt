@@ -1,12 +1,10 @@
 -- What a write over several groups is answered.
-use Rattle.std.proofs.Common.{◌≡◌, ◌≢◌, inl, inr, ℕ, ◌+◌, ◌<◌, ◌≤◌, true, false, List, [], ◌∷◌, ◌++◌, length, map, refl, sym, ◌∙◌, ap, subst, arith, Some, None, slice_get, Result, Ok, Err}
-use Rattle.std.specs.Prelude.{nat_eq}
-use Rattle.std.specs.List.{AllByRecursion, sum_by}
+use Rattle.std.proofs.Common.{◌≡◌, inl, inr, ℕ, ◌+◌, ◌<◌, ◌≤◌, true, List, [], ◌∷◌, length, refl, sym, ◌∙◌, ap, subst, arith, Some, None, slice_get, Result, Ok, Err}
+use Rattle.std.specs.List.{sum_by}
 use Rattle.std.proofs.lemmas.Bool.Decides.{eqb_tells}
 use Rattle.std.proofs.lemmas.Option.{same_Some}
 use Rattle.cq_value.specs.declared.schema.Shape.{Shape}
 use Rattle.cq_tree.specs.declared.journal.Who.{Who}
-use Rattle.cq_tree.specs.declared.journal.EntryKind.{EntryKind}
 use Rattle.cq_tree.specs.declared.journal.EntryKind.TheVariants as entry
 use Rattle.cq_tree.specs.declared.statement.Statement.TheVariants as statement
 use Rattle.cq_tree.specs.declared.write.Reply.{Reply}
@@ -27,7 +25,6 @@ use Rattle.cq_history.specs.Journals.{journal_in, held_in, in_each}
 use Rattle.cq_history.specs.Legality.{IsKeyed}
 use Rattle.cq_history.specs.Standing.{HasIds as HasIdsBy, IsReady}
 use Rattle.cq_history.specs.Computable.{IsWritable}
-use Rattle.cq_history.specs.Deeds.{Grows}
 use Rattle.cq_history.specs.Log.{IsAnswered}
 use Rattle.cq_history.specs.Laws.{IsWriting, AreThere, refusal_by, reply_over as reply_by}
 use Rattle.cq_history.proofs.Lists.{got_below}
@@ -41,7 +38,7 @@ use Rattle.cq_router.specs.declared.insertion.Part.{Part}
 use Rattle.cq_groups.specs.declared.error.WriteError.{WriteError}
 use Rattle.cq_groups.specs.declared.error.WriteError.TheVariants.{Ids, Memory}
 use Rattle.cq_groups.specs.Writes.{reply_over, HasIds, InGroup, Replies, IsReadyIn, AreMade, IsStopped, IsRefused, IsLacking, IsWritten}
-use Rattle.cq_groups.specs.Answers.{HasShards, IsTableIn, parts_by, answer_by}
+use Rattle.cq_groups.specs.Answers.{HasShards, parts_by, answer_by}
 use Rattle.cq_groups.proofs.Entering.{long, journal_at}
 use Rattle.cq_groups.proofs.Touching.{part_at, parts_at, parts_are, each_at, sum_at, entered_at, stop_is, ready_below}
 use Rattle.cq_groups.proofs.Judging.{its_not_local, is_writing, table_part}
@@ -142,9 +139,9 @@ module _ {X : Type 0} (run : Run) (e : Environment) (who : Who) (op : ShardOp) (
   entry_same : (p : Part) (reply : Reply) (g : ℕ) → part_at e.catalog op p.group ≡ p → in_each (p.group ∷ []) (λ h. entry.Write p.op reply) g ≡ in_each (p.group ∷ []) (λ h. entry.Write (part e.catalog op h) reply) g
   entry_same p reply g same = elim (eqb_tells g p.group) [
     | inl y ↦ (
-      let is : p.op ≡ part e.catalog op g = sym (ap (λ (q : Part). q.op) same) ∙ ap (part e.catalog op) (sym y.1) in
-      rw y.0 (ap (λ (o : ShardOp). entry.Write o reply ∷ []) is)
-    )
+        let is : p.op ≡ part e.catalog op g = sym (ap (λ (q : Part). q.op) same) ∙ ap (part e.catalog op) (sym y.1) in
+        rw y.0 (ap (λ (o : ShardOp). entry.Write o reply ∷ []) is)
+        )
     | inr z ↦ rw z.0 refl
   ]
 

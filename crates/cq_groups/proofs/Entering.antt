@@ -1,19 +1,18 @@
 -- The entries of a write's parts, and what the groups' journals come to.
-use Rattle.std.proofs.Common.{◌≡◌, ◌≢◌, inl, inr, ℕ, zero, suc, ◌+◌, ◌<◌, ◌≤◌, true, false, List, [], ◌∷◌, ◌++◌, length, map, get_or, refl, sym, ◌∙◌, ap, subst, arith, Some, slice_get, Result, Ok, Err}
+use Rattle.std.proofs.Common.{◌≡◌, inl, inr, ℕ, zero, suc, ◌≤◌, true, false, List, [], ◌∷◌, ◌++◌, length, refl, sym, ◌∙◌, ap, subst, arith, Some, slice_get}
 use Rattle.std.specs.Prelude.{nat_eq, slice_index_or}
-use Rattle.std.specs.List.{AllByRecursion, sum_by}
+use Rattle.std.specs.List.{AllByRecursion}
 use Rattle.std.proofs.lemmas.Bool.Decides.{eqb_tells}
 use Rattle.std.proofs.lemmas.Option.{same_Some}
 use Rattle.cq_value.specs.Tables.{empty_table}
 use Rattle.cq_tree.specs.declared.journal.Who.{Who}
-use Rattle.cq_tree.specs.declared.journal.Entry.{Entry}
 use Rattle.cq_tree.specs.declared.journal.EntryKind.{EntryKind}
 use Rattle.cq_tree.specs.declared.journal.EntryKind.TheVariants as entry
 use Rattle.cq_tree.specs.declared.write.Reply.{Reply}
-use Rattle.cq_tree.specs.declared.write.Reply.TheVariants.{Count, Duplicate, OutOfRange}
+use Rattle.cq_tree.specs.declared.write.Reply.TheVariants.{Count}
 use Rattle.cq_tree.specs.declared.write.ShardOp.{ShardOp}
 use Rattle.cq_journal.specs.Records.{Journal}
-use Rattle.cq_history.specs.Journals.{journal_in, Kinds, in_each, with_entries}
+use Rattle.cq_history.specs.Journals.{Kinds, with_entries}
 use Rattle.cq_history.specs.Deeds.{Grows}
 use Rattle.cq_history.proofs.Lists.{got, got_below}
 use Rattle.cq_history.proofs.Entries.{index_beyond}
@@ -26,8 +25,8 @@ use Rattle.cq_group.specs.Calls.{GroupGoesOn}
 use Rattle.cq_router.specs.declared.insertion.Part.{Part}
 use Rattle.cq_groups.specs.declared.staging.ReadyPart.{ReadyPart}
 use Rattle.cq_groups.specs.Writes.{entered}
-use Rattle.cq_groups.specs.Staging.{InBoth, TurnsOne, IsApart, AreApart, Turned, IsDropped, Enters, place_of, AreRestored}
-use Rattle.cq_groups.proofs.Turning.{one_at, turned_at}
+use Rattle.cq_groups.specs.Staging.{InBoth, IsApart, AreApart, Turned, Enters, place_of, AreRestored}
+use Rattle.cq_groups.proofs.Turning.{turned_at}
 use Rattle.cq_groups.proofs.Holding.{goes_on_same, rests_again}
 use Rattle.cq_groups.proofs.Stopping.{parts_of}
 

@@ -24,7 +24,7 @@ use Rattle.cq_groups.specs.declared.error.WriteError.TheVariants.{Ids, Memory}
 use Rattle.cq_groups.specs.declared.staging.Stop.{Stop}
 use Rattle.cq_groups.specs.declared.staging.Stop.TheVariants as stop
 use Rattle.cq_groups.specs.Writes.{reply_over, HasIds}
-use Rattle.cq_groups.specs.Staging.{IsHeld, IsDropped, Stages, IsReplied, StopsAt, StagesOne, outcome_by}
+use Rattle.cq_groups.specs.Staging.{IsHeld, IsDropped, Stages, StopsAt, StagesOne, outcome_by}
 
 made_or : (r : Reply) → IsMade r → IsRefusal r → ⊥
 made_or (Count n) m f = f

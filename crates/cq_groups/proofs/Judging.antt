@@ -1,10 +1,10 @@
 -- What the binder and planning make sure of, over the groups of a write's table.
-use Rattle.std.proofs.Common.{◌≡◌, ◌≢◌, inl, inr, ℕ, ◌+◌, ◌<◌, ◌≤◌, Bool, true, false, cond, List, [], ◌∷◌, length, map, refl, sym, ◌∙◌, ap, subst, arith, IsSome, Option, Some, None, slice_get}
-use Rattle.std.specs.Prelude.{nat_eq, option_map}
+use Rattle.std.proofs.Common.{◌≡◌, inl, inr, ℕ, Bool, true, false, cond, List, [], ◌∷◌, refl, sym, subst, Option, Some, None}
+use Rattle.std.specs.Prelude.{option_map}
 use Rattle.std.specs.List.{AllByRecursion}
 use Rattle.std.proofs.lemmas.Bool.Decides.{eqb_tells}
 use Rattle.cq_value.specs.declared.schema.Shape.{Shape}
-use Rattle.cq_value.specs.Tables.{Table, Pair}
+use Rattle.cq_value.specs.Tables.{Pair}
 use Rattle.cq_tree.specs.declared.journal.Entry.{Entry}
 use Rattle.cq_tree.specs.declared.journal.EntryKind.{EntryKind}
 use Rattle.cq_tree.specs.declared.journal.EntryKind.TheVariants.{Read, Write, MoveStart, CatchUp, Cutover, MoveStop}
@@ -14,11 +14,10 @@ use Rattle.cq_tree.specs.declared.unsupported.Unsupported.TheVariants as unsuppo
 use Rattle.cq_tree.specs.declared.write.Set.{Set}
 use Rattle.cq_tree.specs.declared.write.ShardOp.{ShardOp}
 use Rattle.cq_tree.specs.declared.write.ShardOp.TheVariants.{Insert, Update, Remove}
-use Rattle.cq_meaning.specs.Values.{Row}
 use Rattle.cq_meaning.specs.Widths.{Within}
-use Rattle.cq_meaning.specs.Effects.{IsSafeWrite, table_of}
+use Rattle.cq_meaning.specs.Effects.{table_of}
 use Rattle.cq_catalog.specs.Contents.{Contents}
-use Rattle.cq_catalog.specs.Placement.{place_at, colocation_at, HasShard, IsDistributed}
+use Rattle.cq_catalog.specs.Placement.{place_at, IsDistributed}
 use Rattle.cq_catalog.specs.declared.info.Place.{Place}
 use Rattle.cq_catalog.specs.declared.info.Place.TheVariants.{Local, Distributed, Reference}
 use Rattle.cq_answer.specs.declared.fault.Fault.TheVariants as fault
@@ -38,7 +37,7 @@ use Rattle.cq_history.specs.Computable.{column_bits, IsWritable}
 use Rattle.cq_history.specs.Laws.{IsFitting, IsWriting}
 use Rattle.cq_history.proofs.Lists.{all_weaker}
 use Rattle.cq_group.specs.declared.group.GroupState.{GroupState}
-use Rattle.cq_group.specs.Groups.{HasTable, entries_of, shapes, journal_of}
+use Rattle.cq_group.specs.Groups.{HasTable, entries_of, shapes}
 use Rattle.cq_group.specs.Calls.{CanCompute}
 use Rattle.cq_group.specs.Resting.{journals_of}
 use Rattle.cq_groups.specs.Writes.{CanTake}

@@ -3,6 +3,7 @@ pub mod ReadLaws
 pub mod GatherLaws
 pub mod LookLaws
 pub mod QueryLaws
+pub mod AloneLaws
 pub mod Nodes
 pub mod Turning
 pub mod Holding
@@ -13,3 +14,5 @@ pub mod Written
 pub mod Touching
 pub mod Judging
 pub mod Answering
+pub mod WantedLaws
+pub mod ShardLaws

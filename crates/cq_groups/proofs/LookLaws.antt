@@ -1,15 +1,13 @@
 -- The looks of a query at the groups of a catalogue.
-use Rattle.std.proofs.Common.{zero, suc, ◌≡◌, ◌+◌, ◌<◌, ◌≤◌, inl, inr, ℕ, Bool, true, false, cond, List, [], ◌∷◌, ◌++◌, map, filter, fold, length, refl, sym, ◌∙◌, ap, subst, arith, Some, Option, slice_get, take}
+use Rattle.std.proofs.Common.{zero, suc, ◌≡◌, ◌+◌, ◌<◌, ◌≤◌, inl, inr, ℕ, Bool, true, false, cond, List, [], ◌∷◌, ◌++◌, filter, fold, length, refl, sym, ◌∙◌, ap, subst, arith, Some, Option, slice_get}
 use Rattle.std.specs.Prelude.{not, ◌&&◌, nat_eq, nat_le, nat_lt}
-use Rattle.std.specs.List.{AllByRecursion, flat_map}
+use Rattle.std.specs.List.{AllByRecursion}
 use Rattle.std.proofs.lemmas.Bool.Decides.{eqb_tells}
 use Rattle.std.proofs.lemmas.List.{take_all}
 use Rattle.cq_value.specs.Tables.{rows_of}
 use Rattle.cq_tree.specs.declared.journal.Entry.{Entry}
-use Rattle.cq_meaning.specs.Values.{Row, Tables, table_rows}
+use Rattle.cq_meaning.specs.Values.{Tables, table_rows}
 use Rattle.cq_meaning.specs.Widths.{AllWithin, Within}
-use Rattle.cq_journal.specs.Fitting.{Fits}
-use Rattle.cq_journal.specs.Records.{Journal}
 use Rattle.cq_journal.proofs.Fitting.{fits_within}
 use Rattle.cq_catalog.specs.Contents.{Contents, first_group_in, count_in}
 use Rattle.cq_catalog.specs.Placement.{place_at, colocation_at, HasShard}
@@ -29,7 +27,7 @@ use Rattle.cq_history.specs.Looks.{is_within, has_shard_at, has_shard}
 use Rattle.cq_history.proofs.Lists.{two_ways, all_weaker, all_append}
 use Rattle.cq_history.proofs.Replays.{can_hold}
 use Rattle.cq_history.proofs.Sums.{among_here, among_more}
-use Rattle.cq_groups.specs.Reads.{Look, captured_of, captured_by, groups_in, CanLook, IsShaped, AreShaped}
+use Rattle.cq_groups.specs.Reads.{captured_of, captured_by, groups_in, CanLook, AreShaped}
 use Rattle.cq_groups.specs.Looking.{with_table, tables_there, looks_by, merged, gathered}
 use Rattle.cq_groups.proofs.Growth.{got}
 use Rattle.cq_groups.proofs.GatherLaws.{seen_of, rows_at, HasShapes, look_rows, merged_rows, gathered_append}

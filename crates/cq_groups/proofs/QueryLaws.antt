@@ -1,20 +1,17 @@
 -- The answer of a query that was computed over its looks.
-use Rattle.std.proofs.Common.{◌≡◌, ℕ, Bool, true, List, [], ◌∷◌, length, refl, sym, ◌∙◌, ap, subst, Some, None, Option}
-use Rattle.std.specs.Prelude.{◌&&◌, nat_eq}
+use Rattle.std.proofs.Common.{◌≡◌, ℕ, true, List, [], ◌∷◌, length, refl, sym, ◌∙◌, ap, subst, Some, None, Option}
+use Rattle.std.specs.Prelude.{◌&&◌}
 use Rattle.std.specs.List.{AllByRecursion, flat_map}
 use Rattle.cq_tree.specs.declared.journal.Who.{Who}
 use Rattle.cq_tree.specs.declared.journal.EntryKind.TheVariants.{Read}
 use Rattle.cq_tree.specs.declared.query.Query.{Query, out-Query}
 use Rattle.cq_tree.specs.declared.statement.Statement.TheVariants as statement
-use Rattle.cq_meaning.specs.Values.{Row, Tables, table_rows}
-use Rattle.cq_meaning.specs.Limits.{is_large}
-use Rattle.cq_meaning.specs.Queries.{AnswersWith}
-use Rattle.cq_meaning.specs.Results.{Answers}
+use Rattle.cq_meaning.specs.Values.{Tables, table_rows}
 use Rattle.cq_meaning.specs.Safety.{IsSafeQuery}
 use Rattle.cq_journal.specs.Records.{Journal}
 use Rattle.cq_catalog.specs.Contents.{Contents}
-use Rattle.cq_planning.specs.Database.{IsLarge}
 use Rattle.cq_planning.specs.Occurrences.{occurrences_in}
+use Rattle.cq_planning.specs.Reaching.{IsAscendingFrom}
 use Rattle.cq_planning.specs.Routing.{fits_router, touched_in_block}
 use Rattle.cq_planning.specs.Touched.{among, groups_of, touched}
 use Rattle.cq_answer.specs.declared.answer.Answer.{Answer}
@@ -27,30 +24,29 @@ use Rattle.cq_group.specs.declared.group.GroupState.{GroupState}
 use Rattle.cq_group.specs.Resting.{journals_of}
 use Rattle.cq_history.specs.Run.{Run, Environment}
 use Rattle.cq_history.specs.Computable.{IsReadable}
-use Rattle.cq_history.specs.Journals.{journal_in, in_each}
+use Rattle.cq_history.specs.Journals.{journal_in}
 use Rattle.cq_history.specs.Legality.{IsLegal}
-use Rattle.cq_history.specs.Deeds.{Grows}
+use Rattle.cq_history.specs.Deeds.{in_deed}
 use Rattle.cq_history.specs.Log.{IsAnswered}
 use Rattle.cq_history.specs.Looks.{tables_in, Agree}
-use Rattle.cq_history.specs.Laws.{seen_whole}
+use Rattle.cq_history.specs.Laws.{seen_whole, idle}
 use Rattle.cq_history.specs.Refusals.{rules, refusal_in, is_alone, unless_built}
 use Rattle.cq_history.proofs.Alone.{touched_alone}
-use Rattle.cq_history.proofs.Answering.{read_is_answered, large_is_answered, read_lacks_memory}
+use Rattle.cq_history.proofs.Answering.{read_is_answered, large_is_answered, read_lacks_memory, refusal_is_answered}
+use Rattle.cq_history.proofs.Growing.{none_grow}
+use Rattle.cq_history.proofs.Script.{idle_is_answered}
+use Rattle.cq_history.specs.Standing.{RunsUnless}
 use Rattle.cq_history.proofs.Looks.{tables_suffice, alone_answers, alone_large}
 use Rattle.cq_history.proofs.Sums.{among_here, among_more}
-use Rattle.cq_groups.specs.Reads.{Look, captured_by, groups_in, AreRead, AreReadInPart, AreShaped, Computes}
-use Rattle.cq_groups.specs.Looking.{looks_by, merged}
+use Rattle.cq_groups.specs.Reads.{Look, CanLook, captured_by, groups_in, AreRead, AreReadInPart, AreShaped, Computes, IsComputed, done, stopped}
+use Rattle.cq_groups.specs.Looking.{looks_of, merged, IsPlan, environment_at}
 use Rattle.cq_groups.proofs.GatherLaws.{gathered_whole}
-use Rattle.cq_groups.proofs.LookLaws.{in_order_ascends, in_order_below, has_shapes, groups_looked, merged_within}
+use Rattle.cq_groups.proofs.LookLaws.{can_look_at, in_order_ascends, in_order_below, has_shapes, groups_looked, merged_within}
 use Rattle.cq_groups.proofs.ReadLaws.{nothing_read}
 
 each_of : (P : ℕ → Type 0) (xs : List ℕ) → ((t : ℕ) → among t xs ≡ true → P t) → AllByRecursion P xs
 each_of P [] f = tt
 each_of P (x ∷ xs) f = (f x (among_here x xs), each_of P xs (λ t m. f t (among_more t x xs m)))
-
--- the looks of a query
-abbrev pub looks_of : Contents → Query → List Look
-looks_of c q = looks_by c (tables_in q) (touched_in_block c q)
 
 module _ {X : Type 0} (c : Contents) (q : Query) (groups : List (GroupState X)) (shaped : AreShaped c groups) (alone : is_alone q ≡ true) where
   -- what was read, each table once
@@ -67,6 +63,17 @@ module _ {X : Type 0} (c : Contents) (q : Query) (groups : List (GroupState X)) 
   -- it can be computed
   pub can_compute : IsReadable c q → ((g : ℕ) → IsLegal c g (journal_in (journals_of groups) g)) → IsSafeQuery q read_of []
   can_compute readable legal = readable.safe alone read_of (merged_within c groups shaped (tables_in q) legal (flat_map (groups_of c) (occurrences_in c q [])))
+
+  -- and its looks can be made
+  pub plan_there : (looks : List Look) → looks ≡ looks_of c q → AllByRecursion (CanLook groups) looks
+  plan_there looks is = subst (λ ls. AllByRecursion (CanLook groups) ls) (sym is) (can_look_at c groups shaped (tables_in q) (flat_map (groups_of c) (occurrences_in c q [])))
+
+  pub plan_ascends : (looks : List Look) → looks ≡ looks_of c q → IsAscendingFrom 0 (groups_in looks)
+  plan_ascends looks is =
+      subst (λ gs. IsAscendingFrom 0 gs) (sym (ap groups_in is ∙ groups_looked c (tables_in q) (touched_in_block c q))) (in_order_ascends c (flat_map (groups_of c) (occurrences_in c q [])))
+
+  pub plan_safe : (looks : List Look) → looks ≡ looks_of c q → IsReadable c q → ((g : ℕ) → IsLegal c g (journal_in (journals_of groups) g)) → IsSafeQuery q (merged (captured_by groups looks)) []
+  plan_safe looks is readable legal = subst (λ ls. IsSafeQuery q (merged (captured_by groups ls)) []) (sym is) (can_compute readable legal)
 
   module _ (routed : fits_router c q ≡ true) where
     not_refused : refusal_in c (statement.Select q) ≡ None
@@ -104,3 +111,31 @@ module _ {X : Type 0} (c : Contents) (q : Query) (groups : List (GroupState X)) 
       -- or before any was
       pub query_not_begun : journals_of new ≡ journals_of groups → IsAnswered rules run the_environment the_environment who (journals_of groups) (journals_of new) (Some (statement.Select q)) (answer.Failed fault.Memory)
       query_not_begun same = query_stopped (record { some = []; among = λ g m. cc; grows = nothing_read who groups new same })
+
+      pub query_computed : IsReadable c q → (looks : List Look) (db : Tables) (a : Answer) → looks ≡ looks_of c q → db ≡ merged (captured_by groups looks) → IsComputed who q looks db groups new a →
+          IsAnswered rules run the_environment the_environment who (journals_of groups) (journals_of new) (Some (statement.Select q)) a
+      query_computed readable looks db a is of (done {a = b} grows computes) =
+          query_answered readable (subst (λ ls. AreRead who (groups_in ls) groups new) is grows) b
+          (subst (λ (v : Tables). Computes q v (out-Query q).names b) (of ∙ ap (λ ls. merged (captured_by groups ls)) is) computes)
+      query_computed readable looks db a is of (stopped part) = query_stopped (subst (λ ls. AreReadInPart who (groups_in ls) groups new) is part)
+
+-- ---- a query that isn't read
+
+module _ (run : Run) (c : Contents) (settings : Settings) (who : Who) (js : List Journal) (q : Query) where
+  -- memory ran out first
+  pub query_lacks_memory : IsAnswered rules run (environment_at c settings) (environment_at c settings) who js js (Some (statement.Select q)) (answer.Failed fault.Memory)
+  query_lacks_memory = by_refusal (refusal_in c (statement.Select q)) refl
+    where
+      by_refusal : (o : Option Fault) → refusal_in c (statement.Select q) ≡ o → IsAnswered rules run (environment_at c settings) (environment_at c settings) who js js (Some (statement.Select q)) (answer.Failed fault.Memory)
+      by_refusal None r = read_lacks_memory rules run (environment_at c settings) who js js q [] r (λ g m. cc) (none_grow who (λ g. Read) js) refl
+      by_refusal (Some f) r =
+          idle_is_answered rules run (environment_at c settings) who js (Some (statement.Select q)) (answer.Failed fault.Memory)
+          (subst (λ (o : Option Fault). RunsUnless o (touched c (statement.Select q)) run (environment_at c settings) (in_deed c idle) (statement.Select q) (answer.Failed fault.Memory)) (sym r) (λ g. refl, tt)) refl
+
+  -- it isn't built
+  pub query_not_built : IsPlan c q None → IsAnswered rules run (environment_at c settings) (environment_at c settings) who js js (Some (statement.Select q)) (answer.Failed fault.NotBuilt)
+  query_not_built left = (refusal_is_answered rules run (environment_at c settings) who js fault.NotBuilt).1 (statement.Select q) (ap (λ b. unless_built b None) left)
+
+-- the same of equal tables and names
+pub computes_as : (q : Query) (db dc : Tables) (names ns : List (List ℕ)) (a : Answer) → db ≡ dc → names ≡ ns → Computes q db names a → Computes q dc ns a
+computes_as q db dc names ns a e f h = subst (λ (v : List (List ℕ)). Computes q dc v a) f (subst (λ (v : Tables). Computes q v names a) e h)

@@ -1,22 +1,20 @@
 -- Parts that are staged in order, and the part at which a write stops.
-use Rattle.std.proofs.Common.{◌≡◌, ◌≢◌, inl, inr, ℕ, ◌+◌, ◌<◌, ◌≤◌, List, [], ◌∷◌, ◌++◌, length, map, get_or, refl, sym, ◌∙◌, ap, subst, arith, Some, slice_get, Result, Ok, Err}
+use Rattle.std.proofs.Common.{◌≡◌, inl, inr, ℕ, zero, suc, take, drop, add-one, ◌+◌, ◌<◌, ◌≤◌, List, [], ◌∷◌, ◌++◌, length, map, get_or, refl, sym, ◌∙◌, ap, subst, arith, Some, slice_get, Result, Ok, Err}
 use Rattle.std.proofs.lemmas.Option.{same_Some}
 use Rattle.std.specs.List.{AllByRecursion}
 use Rattle.cq_history.proofs.Lists.{got, got_below}
 use Rattle.cq_tree.specs.declared.write.Reply.{Reply}
 use Rattle.cq_journal.specs.Replies.{IsMade, IsRefusal}
-use Rattle.cq_meaning.specs.Effects.{table_of}
 use Rattle.cq_store.specs.Stores.{StoreState}
 use Rattle.cq_group.specs.declared.group.GroupState.{GroupState}
-use Rattle.cq_group.specs.Groups.{IsKept, IsQuiet, IsReady, HasTable}
-use Rattle.cq_group.specs.Calls.{CanCompute}
-use Rattle.cq_group.specs.Resting.{IsResting, AreResting}
+use Rattle.cq_group.specs.Groups.{IsKept, IsQuiet, IsReady}
+use Rattle.cq_group.specs.Resting.{AreResting}
 use Rattle.cq_router.specs.declared.insertion.Part.{Part}
 use Rattle.cq_groups.specs.declared.error.WriteError.TheVariants.{Ids, Memory}
 use Rattle.cq_groups.specs.declared.staging.ReadyPart.{ReadyPart}
 use Rattle.cq_groups.specs.declared.staging.Stop.{Stop}
 use Rattle.cq_groups.specs.declared.staging.Stop.TheVariants as stop
-use Rattle.cq_groups.specs.Writes.{InGroup, CanTake, IsReadyIn, AscendFrom, IsStopped, LacksIds}
+use Rattle.cq_groups.specs.Writes.{InGroup, CanTake, IsReadyIn, AscendFrom, IsStopped}
 use Rattle.cq_groups.specs.Staging.{InBoth, TurnsOne, IsApart, AreApart, Turned, IsHeld, IsDropped, Stages, Refuses, CanStage, place_of, IsReplied, StopsAt, IsPut, AreStaged, AreDropped, IsNext, AreRestored, StopsBy, AllStaged}
 use Rattle.cq_groups.proofs.Turning.{apart_last, one_at, one_twice, one_weaker, turned_at, turned_more}
 use Rattle.cq_groups.proofs.Holding.{held_same, held_more, dropped_more, made_over, stops_dropped}
@@ -72,6 +70,23 @@ rest_now all done a now rest e s = e ∙ ap (λ ys. done ++ ys) s
 pub rest_none : {A : Type 0} (all done now : List A) → all ≡ done ++ now → now ≡ [] → all ≡ done
 rest_none all done now e s = e ∙ ap (λ ys. done ++ ys) s ∙ nil_right done
 
+-- the item at a place of a list, between those before it and those after it
+pub at_place : {A : Type 0} (xs : List A) (i : ℕ) (a : A) → i < length xs → a ≡ get_or xs i a → xs ≡ take i xs ++ a ∷ drop (suc i) xs
+at_place [] i a l e = absurd (omega (arith, l))
+at_place (x ∷ xs) zero a l e = ap (λ y. y ∷ xs) (sym e)
+at_place (x ∷ xs) (suc i) a l e = ap (λ ys. x ∷ ys) (at_place xs i a (omega (arith, l)) e)
+
+pub front_next : {A : Type 0} (xs : List A) (i : ℕ) (a : A) → i < length xs → a ≡ get_or xs i a → take (suc i) xs ≡ take i xs ++ a ∷ []
+front_next [] i a l e = absurd (omega (arith, l))
+front_next (x ∷ xs) zero a l e = ap (λ y. y ∷ []) (sym e)
+front_next (x ∷ xs) (suc i) a l e = ap (λ ys. x ∷ ys) (front_next xs i a (omega (arith, l)) e)
+
+pub front_all : {A : Type 0} (xs : List A) (i : ℕ) → length xs ≤ i → take i xs ≡ xs
+front_all [] zero l = refl
+front_all [] (suc i) l = refl
+front_all (x ∷ xs) zero l = absurd (omega (arith, l))
+front_all (x ∷ xs) (suc i) l = ap (λ ys. x ∷ ys) (front_all xs i (omega (arith, l)))
+
 -- a fact of the group of a part
 pub in_group : {X : Type 0} (groups : List (GroupState X)) (p : Part) (P : GroupState X → Type 0) → InGroup groups p P → (g : GroupState X) → slice_get groups p.group ≡ Some g → P g
 in_group groups p P a g s = subst P (same_Some a.group g (sym a.there ∙ s)) a.holds
@@ -91,6 +106,23 @@ module _ {X : Type 0} (Q : ReadyPart → GroupState X → GroupState X → Type 
   pub turned_next : (new : List (GroupState X)) → TurnsOne s.part.group (Q s) mid new → Turned place_of Q (done ++ s ∷ []) old new
   turned_next new one = turned_more place_of Q done s old mid new t one own_place
 
+-- what is staged is dropped, part by part
+module _ {X : Type 0} (state : X → StoreState) (all items : List ReadyPart) (i : ℕ) (s : ReadyPart) (old mid : List (GroupState X)) (e : items ≡ all) (l : i < length items) (is : s ≡ get_or items i s) (apart : AreApart place_of all) (t : AreDropped state (take i all) old mid) where
+  within_all : i < length all
+  within_all = subst (λ (v : List ReadyPart). i < length v) e l
+
+  is_in : s ≡ get_or all i s
+  is_in = subst (λ (v : List ReadyPart). s ≡ get_or v i s) e is
+
+  pub discard_kept : AllByRecursion (λ (r : ReadyPart). InGroup old r.part (IsKept state)) all → InGroup mid s.part (IsKept state)
+  discard_kept kept = in_next (λ (r : ReadyPart). IsDropped state) all (take i all) s (drop (suc i) all) old mid (at_place all i s within_all is_in) apart t (λ (r : ReadyPart). IsKept state) kept
+
+  pub discard_more : (new : List (GroupState X)) → TurnsOne s.part.group (IsDropped state) mid new → AreDropped state (take (i + 1) all) old new
+  discard_more new one =
+      let next : take (i + 1) all ≡ take i all ++ s ∷ [] = subst (λ n. take n all ≡ take i all ++ s ∷ []) (sym (add-one i)) (front_next all i s within_all is_in) in
+      subst (λ (v : List ReadyPart). AreDropped state v old new) (sym next)
+      (turned_next (λ (r : ReadyPart). IsDropped state) all (take i all) s (drop (suc i) all) old mid (at_place all i s within_all is_in) apart t new one)
+
 -- ---- a loop over the parts
 
 module _ {X : Type 0} (state : X → StoreState) where
@@ -99,8 +131,7 @@ module _ {X : Type 0} (state : X → StoreState) where
       TurnsOne p.group (IsReplied state p.op reply) old mid → IsPut state s ready more mid new r → IsNext state p ready more old new r
   next_after p reply s ready more old mid new (Ok x) is t put =
       let made : IsMade reply = subst (λ (v : ReadyPart). IsMade v.reply) is put.0 in
-      let one : TurnsOne p.group (Stages state p.op reply) old mid = one_weaker (IsReplied state p.op reply) (Stages state p.op reply) (λ g h a. record { held = a.held; made = made; ready = a.ready }) p.group old mid t in
-      (
+      let one : TurnsOne p.group (Stages state p.op reply) old mid = one_weaker (IsReplied state p.op reply) (Stages state p.op reply) (λ g h a. record { held = a.held; made = made; ready = a.ready }) p.group old mid t in (
         record { part = p; reply = reply },
         put.1 ∙ ap (λ (v : ReadyPart). ready ++ v ∷ []) is,
         refl,
@@ -112,7 +143,7 @@ module _ {X : Type 0} (state : X → StoreState) where
       let part : q.part ≡ p = ap (λ (v : ReadyPart). v.part) same in
       let its : q.reply ≡ reply = ap (λ (v : ReadyPart). v.reply) same in
       let one : TurnsOne p.group (StopsAt state p (stop.Refused q)) old mid = one_weaker (IsReplied state p.op reply) (StopsAt state p (stop.Refused q))
-          (λ g h a. (part, subst (λ (v : Reply). Refuses state p.op v g h) (sym its) (record { dropped = record { held = a.held; quiet = a.quiet refusal }; refusal = refusal; ready = a.ready }))) p.group old mid t in
+      (λ g h a. (part, subst (λ (v : Reply). Refuses state p.op v g h) (sym its) (record { dropped = record { held = a.held; quiet = a.quiet refusal }; refusal = refusal; ready = a.ready }))) p.group old mid t in
       (put.0, subst (λ (v : List (GroupState X)). TurnsOne p.group (StopsAt state p (stop.Refused q)) old v) (sym put.3) one)
   next_after p reply s ready more old mid new (Err (stop.Failed Ids)) is t put = absurd put
   next_after p reply s ready more old mid new (Err (stop.Failed Memory)) is t put =
@@ -135,8 +166,7 @@ module _ {X : Type 0} (state : X → StoreState) where
   staged_more old mid new ready more p rest ascend t n =
       let s : ReadyPart = n.0 in
       let one : TurnsOne s.part.group (Stages state s.part.op s.reply) mid new = subst (λ (q : Part). TurnsOne q.group (Stages state q.op s.reply) mid new) (sym n.2) n.3 in
-      let apart : IsApart place_of s.part.group ready = subst (λ (q : Part). IsApart place_of q.group ready) (sym n.2) (ascend_apart 0 ready p rest ascend) in
-      (
+      let apart : IsApart place_of s.part.group ready = subst (λ (q : Part). IsApart place_of q.group ready) (sym n.2) (ascend_apart 0 ready p rest ascend) in (
         subst (λ (r : List ReadyPart). AreStaged state r old new) (sym n.1) (turned_more place_of (λ (r : ReadyPart). Stages state r.part.op r.reply) ready s old mid new t one apart),
         one_further ready s p rest n.2 ∙ ap (λ (r : List ReadyPart). parts_of r ++ rest) (sym n.1),
       )
@@ -178,13 +208,13 @@ module _ {X : Type 0} (state : X → StoreState) where
         elim (turned_at place_of (λ (r : ReadyPart). IsDropped state) ready stopped new d i n h ns hs) [
           | inl a ↦ record { held = held_more state g n h both a.2.held; quiet = a.2.quiet }
           | inr b ↦
-            let quiet : IsQuiet state n = elim (one_at (StopsAt state p why) p.group mid stopped at i m n ms ns) [
-              | inl a ↦ (stops_dropped state p why m n a.1).quiet
-              | inr c ↦
-                let same : m ≡ g = same_Some m g (sym ms ∙ t.others i b.0 ∙ gs) in
-                subst (λ (v : GroupState X). IsQuiet state v) (sym (c.1 ∙ same)) (resting i g gs).quiet
-            ] in
-            subst (λ (v : GroupState X). IsDropped state g v) (sym b.1) (record { held = both; quiet = quiet })
+              let quiet : IsQuiet state n = elim (one_at (StopsAt state p why) p.group mid stopped at i m n ms ns) [
+                | inl a ↦ (stops_dropped state p why m n a.1).quiet
+                | inr c ↦
+                    let same : m ≡ g = same_Some m g (sym ms ∙ t.others i b.0 ∙ gs) in
+                    subst (λ (v : GroupState X). IsQuiet state v) (sym (c.1 ∙ same)) (resting i g gs).quiet
+              ] in
+              subst (λ (v : GroupState X). IsDropped state g v) (sym b.1) (record { held = both; quiet = quiet })
         ]
 
     pub restored : AreRestored state old new
@@ -223,8 +253,7 @@ module _ {X : Type 0} (state : X → StoreState) where
       AreStaged state ready old mid → IsNext state p ready more mid stopped (Err why) → AreDropped state more stopped new → AllStaged state parts old new (Err why)
   all_stop parts old mid stopped new ready more p rest why resting e ascend t n d =
       let up = subst (λ (ps : List Part). AscendFrom 0 ps) e ascend in
-      let dropped = subst (λ (r : List ReadyPart). AreDropped state r stopped new) n.0 d in
-      (
+      let dropped = subst (λ (r : List ReadyPart). AreDropped state r stopped new) n.0 d in (
         restored old mid stopped new ready p rest why resting up t n.1 dropped,
         subst (λ (ps : List Part). StopsBy state ps old new why) (sym e) (stops_by old mid stopped new ready p rest why resting up t n.1 dropped),
       )

@@ -1,16 +1,15 @@
 -- The parts of a write in the groups that it touches.
-use Rattle.std.proofs.Common.{◌≡◌, ◌≢◌, inl, inr, ℕ, ◌+◌, ◌<◌, ◌≤◌, true, false, List, [], ◌∷◌, ◌++◌, map, refl, sym, ◌∙◌, ap, subst, arith}
+use Rattle.std.proofs.Common.{◌≡◌, inl, inr, ℕ, ◌+◌, ◌<◌, true, false, List, [], ◌∷◌, ◌++◌, map, refl, sym, ◌∙◌, ap, subst, arith}
 use Rattle.std.specs.Prelude.{nat_eq}
 use Rattle.std.specs.List.{AllByRecursion, sum_by}
 use Rattle.std.proofs.lemmas.Bool.Decides.{eqb_tells}
 use Rattle.std.proofs.lemmas.List.Sums.{sum_by-cons}
-use Rattle.cq_tree.specs.declared.journal.EntryKind.{EntryKind}
 use Rattle.cq_tree.specs.declared.journal.EntryKind.TheVariants as entry
 use Rattle.cq_tree.specs.declared.write.Reply.TheVariants.{Count}
 use Rattle.cq_tree.specs.declared.write.ShardOp.{ShardOp}
 use Rattle.cq_tree.specs.declared.statement.Statement.TheVariants as statement
 use Rattle.cq_catalog.specs.Contents.{Contents}
-use Rattle.cq_planning.specs.Parts.{part, parts}
+use Rattle.cq_planning.specs.Parts.{part}
 use Rattle.cq_planning.specs.Reaching.{IsAscendingFrom}
 use Rattle.cq_planning.specs.Touched.{touched, among}
 use Rattle.cq_history.specs.Journals.{in_each}

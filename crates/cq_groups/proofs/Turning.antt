@@ -57,10 +57,10 @@ module _ {X : Type 0} where
       ((i ≡ place) × P g h) ⊎ ((i ≢ place) × (h ≡ g))
   one_at P place old new t i g h s n = elim (eqb_tells i place) [
     | inl y ↦
-      let b = t.one in
-      let first : b.before ≡ g = same_Some b.before g (sym b.was ∙ sym (ap (slice_get old) y.1) ∙ s) in
-      let last : b.after ≡ h = same_Some b.after h (sym b.is ∙ sym (ap (slice_get new) y.1) ∙ n) in
-      inl (y.1, subst (λ (v : GroupState X). P g v) last (subst (λ (v : GroupState X). P v b.after) first b.holds))
+        let b = t.one in
+        let first : b.before ≡ g = same_Some b.before g (sym b.was ∙ sym (ap (slice_get old) y.1) ∙ s) in
+        let last : b.after ≡ h = same_Some b.after h (sym b.is ∙ sym (ap (slice_get new) y.1) ∙ n) in
+        inl (y.1, subst (λ (v : GroupState X). P g v) last (subst (λ (v : GroupState X). P v b.after) first b.holds))
     | inr z ↦ inr (z.1, same_Some h g (sym n ∙ t.others i z.1 ∙ s))
   ]
 
@@ -138,8 +138,8 @@ module _ {X A : Type 0} (at : A → ℕ) where
   turned_at P items old new t i g h s n = elim (find P old new i items t.each) [
     | inl apart ↦ inr (apart, same_Some h g (sym n ∙ t.others i apart ∙ s))
     | inr q ↦
-      let b = q.2 in
-      let first : b.before ≡ g = same_Some b.before g (sym b.was ∙ sym (ap (slice_get old) q.1) ∙ s) in
-      let last : b.after ≡ h = same_Some b.after h (sym b.is ∙ sym (ap (slice_get new) q.1) ∙ n) in
-      inl (q.0, q.1, subst (λ (v : GroupState X). P q.0 g v) last (subst (λ (v : GroupState X). P q.0 v b.after) first b.holds))
+        let b = q.2 in
+        let first : b.before ≡ g = same_Some b.before g (sym b.was ∙ sym (ap (slice_get old) q.1) ∙ s) in
+        let last : b.after ≡ h = same_Some b.after h (sym b.is ∙ sym (ap (slice_get new) q.1) ∙ n) in
+        inl (q.0, q.1, subst (λ (v : GroupState X). P q.0 g v) last (subst (λ (v : GroupState X). P q.0 v b.after) first b.holds))
   ]

@@ -1,5 +1,5 @@
 -- What a write over several groups came to.
-use Rattle.std.proofs.Common.{◌≡◌, ◌≢◌, inl, inr, ℕ, ◌+◌, ◌^◌, ◌<◌, ◌≤◌, true, false, List, [], ◌∷◌, ◌++◌, length, map, get_or, refl, sym, ◌∙◌, ap, subst, arith, Some, slice_get, Result, Ok, Err}
+use Rattle.std.proofs.Common.{◌≡◌, inl, inr, ℕ, ◌^◌, ◌<◌, ◌≤◌, true, false, List, [], ◌∷◌, ◌++◌, length, refl, sym, ◌∙◌, ap, subst, arith, Some, slice_get, Ok, Err}
 use Rattle.std.specs.Prelude.{nat_eq}
 use Rattle.std.specs.List.{AllByRecursion, sum_by}
 use Rattle.std.proofs.lemmas.Bool.Decides.{eqb_tells}
@@ -12,14 +12,13 @@ use Rattle.cq_tree.specs.declared.write.Reply.TheVariants.{Count, Duplicate, Out
 use Rattle.cq_tree.specs.declared.write.ShardOp.{ShardOp}
 use Rattle.cq_journal.specs.Replies.{IsRefusal}
 use Rattle.cq_history.specs.Journals.{Kinds, in_each, with_entries}
-use Rattle.cq_history.specs.Deeds.{Grows}
 use Rattle.cq_history.proofs.Lists.{got, got_below}
 use Rattle.cq_history.proofs.Script.{with_none}
 use Rattle.cq_store.specs.Stores.{StoreState}
 use Rattle.cq_group.specs.declared.group.GroupState.{GroupState}
 use Rattle.cq_group.specs.Groups.{entries_of, journal_of}
 use Rattle.cq_group.specs.Calls.{GroupGoesOn}
-use Rattle.cq_group.specs.Resting.{IsResting, AreResting, GoOn, journals_of}
+use Rattle.cq_group.specs.Resting.{IsResting, AreResting, GoOn}
 use Rattle.cq_group.proofs.WriteLaws.{goes_on_twice}
 use Rattle.cq_router.specs.declared.insertion.Part.{Part}
 use Rattle.cq_groups.specs.declared.staging.ReadyPart.{ReadyPart}
@@ -27,8 +26,8 @@ use Rattle.cq_groups.specs.declared.staging.Stop.{Stop}
 use Rattle.cq_groups.specs.declared.staging.Stop.TheVariants as stop
 use Rattle.cq_groups.specs.declared.error.WriteError.{WriteError}
 use Rattle.cq_groups.specs.declared.error.WriteError.TheVariants.{Ids, Memory}
-use Rattle.cq_groups.specs.Writes.{AscendFrom, AreMade, IsRefused, IsLacking, IsWritten}
-use Rattle.cq_groups.specs.Staging.{InBoth, TurnsOne, IsApart, AreApart, Turned, Stages, Refuses, Enters, IsDropped, place_of, count_in, AreStaged, AreEntered, AreRestored, AllStaged}
+use Rattle.cq_groups.specs.Writes.{AscendFrom, AreMade, IsRefused, IsWritten}
+use Rattle.cq_groups.specs.Staging.{InBoth, TurnsOne, AreApart, Turned, Stages, Enters, place_of, count_in, AreStaged, AreEntered, AllStaged}
 use Rattle.cq_groups.proofs.Turning.{both_twice, one_at}
 use Rattle.cq_groups.proofs.Holding.{rests_again, ready_over}
 use Rattle.cq_groups.proofs.Stopping.{parts_of, ascend_each}

@@ -11,7 +11,7 @@ use Rattle.cq_answer.specs.declared.answer.Answer.TheVariants as answer
 use Rattle.cq_answer.specs.declared.fault.What.TheVariants as what
 use Rattle.cq_answer.specs.declared.fault.Fault.TheVariants as fault
 use Rattle.cq_planning.specs.Database.{shape_in}
-use Rattle.cq_planning.specs.Parts.{part, parts}
+use Rattle.cq_planning.specs.Parts.{parts}
 use Rattle.cq_history.specs.Standing.{tag_of}
 use Rattle.cq_group.specs.declared.group.GroupState.{GroupState}
 use Rattle.cq_group.specs.Groups.{HasTable, shapes}

@@ -3,7 +3,7 @@ use Rattle.std.specs.Prelude.{◌≡◌, ◌≤◌, ⊤, ℕ, true, List, [], ma
 use Rattle.std.specs.List.{AllByRecursion, flat_map}
 use Rattle.cq_tree.specs.declared.journal.Who.{Who}
 use Rattle.cq_tree.specs.declared.journal.EntryKind.TheVariants.{Read}
-use Rattle.cq_tree.specs.declared.query.Query.{Query}
+use Rattle.cq_tree.specs.declared.query.Query.{Query, out-Query}
 use Rattle.cq_meaning.specs.Values.{Row, Tables}
 use Rattle.cq_meaning.specs.Queries.{AnswersWith}
 use Rattle.cq_meaning.specs.Limits.{is_large}
@@ -79,3 +79,8 @@ Computes q db names (answer.Table ns rows) = (ns ≡ names) × AnswersWith q db 
 Computes q db names (answer.Failed (fault.Limit what.Rows n)) = (n ≡ most_rows) × (is_large q db [] ≡ true)
 Computes q db names (answer.Failed fault.Memory) = ⊤
 Computes q db names a = ⊥
+
+-- the answer of a query by its looks, from which these tables came: each was made, or memory ran out after some of them
+pub data IsComputed {X : Type 0} (who : Who) (q : Query) (looks : List Look) (db : Tables) (old new : List (GroupState X)) : Answer → Type 0 where
+  done : {a : Answer} → AreRead who (groups_in looks) old new → Computes q db (out-Query q).names a → IsComputed who q looks db old new a
+  stopped : AreReadInPart who (groups_in looks) old new → IsComputed who q looks db old new (answer.Failed fault.Memory)

@@ -2,17 +2,23 @@
 //! groups or in none.
 #![tactic(auto)]
 
+mod alone;
 mod error;
 mod gathering;
 mod looks;
+mod queries;
 mod reads;
+mod shard;
 mod staging;
 mod tables;
+mod wanted;
 mod writes;
 
 pub use error::WriteError;
 pub use gathering::gather;
 pub use looks::looks_at;
+pub use queries::answer_query;
 pub use reads::{Look, Looks, pick_group, read_groups};
 pub use tables::tables_of;
+pub use wanted::wanted_by;
 pub use writes::write_groups;

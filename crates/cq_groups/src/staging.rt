@@ -63,12 +63,12 @@ fn discard_in<S: Store>(groups: &mut Vec<GroupState<S>>, group: u32)
 }
 
 /// Drops what is staged of these parts.
-fn discard_parts<S: Store>(groups: &mut Vec<GroupState<S>>, ready: Items<ReadyPart>)
-    requires kept { AllByRecursion (λ (s : ReadyPart). InGroup groups.old.items s.part (IsKept S.state)) ready }
-    requires apart { AreApart place_of ready }
-    ensures { AreDropped S.state ready groups.old.items groups.new.items }
+fn discard_parts<S: Store>(groups: &mut Vec<GroupState<S>>, ready: &Items<ReadyPart>)
+    requires kept { AllByRecursion (λ (s : ReadyPart). InGroup groups.old.items s.part (IsKept S.state)) ready.now }
+    requires apart { AreApart place_of ready.now }
+    ensures { AreDropped S.state ready.now groups.old.items groups.new.items }
 {
-    for staged in ready.into_vec() {
+    for staged in ready.as_slice() {
         discard_in(groups, staged.part.group);
     }
 }
@@ -122,7 +122,10 @@ fn stage_next<S: Store>(
 {
     match stage_part(alloc, groups, &part) {
         Ok(reply) => put_replied(groups, ready, ReadyPart { part, reply }),
-        Err(error) => Err(Stop::Failed(error)),
+        Err(error) => {
+            drop(part);
+            Err(Stop::Failed(error))
+        }
     }
 }
 
@@ -142,7 +145,7 @@ pub fn stage_parts<S: Store>(
     let mut ready = Items::new(alloc);
     for part in parts.into_vec() {
         if let Err(stop) = stage_next(alloc, groups, &mut ready, part) {
-            discard_parts(groups, ready);
+            discard_parts(groups, &ready);
             return Err(stop);
         }
     }

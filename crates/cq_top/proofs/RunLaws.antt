@@ -111,6 +111,7 @@ pub may_end : (status : Status) (words workers : ℕ) (source source_end : Sourc
 may_end status words workers source source_end answers usage blames served = record {
   usage = usage;
   read_fault = blames.rose;
+  steady_source = blames.never;
   too_long = λ e bytes left. (let s = served bytes left in long_answered status bytes s.taken answers e s.answered);
 }
 

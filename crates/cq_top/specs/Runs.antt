@@ -57,11 +57,12 @@ pub record HasCause (status : Status) (words workers : ℕ) (source source_end :
   pub no_stop : status ≢ Stopped
   pub no_script : status ≢ Script
 
--- how a run may end before its last line: a wrong command line ends it at once, a read fault only where the count of faults rose, and the
--- limit of bytes only where there are more
+-- how a run may end before its last line: a wrong command line ends it at once, a read fault only where the count of faults rose and never
+-- a steady source's, and the limit of bytes only where there are more
 pub record MayEnd (words workers : ℕ) (source source_end : SourceState) (status : Status) : Type 0 where
   pub usage : (status ≡ Usage) ↔ IsMisused words workers
   pub read_fault : status ≡ ReadFault → Rose source.faults source_end.faults
+  pub steady_source : IsTrue source.steady → status ≢ ReadFault
   pub too_long : status ≡ TooLong → (bytes : List ℕ) → source.left ≡ Some bytes → most_bytes < length bytes
 
 -- what was written after the bytes that stood there before

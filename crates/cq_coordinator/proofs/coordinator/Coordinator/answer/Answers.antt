@@ -1,7 +1,13 @@
-use Rattle.cq_history.proofs.Responses.{responds_unrun}
-use Rattle.cq_cluster.specs.Cluster.{whole_at}
+use Rattle.std.proofs.Common.{sym, ◌∙◌}
+use Rattle.cq_answer.specs.declared.fault.Fault.TheVariants as fault
+use Rattle.cq_history.specs.Refusals.{rules}
+use Rattle.cq_history.proofs.Answering.{refusal_is_answered}
+use Rattle.cq_cluster.specs.Cluster.{run_of}
 use Rattle.cq_coordinator.specs.Coordination.{environment, journals}
+use Rattle.cq_coordinator.proofs.RefusalAnswers.{unsupported}
 use Rattle.cq_coordinator.proofs.coordinator.Coordinator.answer.Goals as goal
 
-pub returns-in-Err-clause-responds : goal.returns-in-Err-clause-responds
-returns-in-Err-clause-responds g c = λ entry are. responds_unrun (whole_at entry) (environment c.args.self.now) c.args.who (journals c.args.self.now) c.args.statement.now c.in-Err.fault c.in-Err.ensures
+pub returns-in-Some-clause-answered : goal.returns-in-Some-clause-answered
+returns-in-Some-clause-answered g c = λ entry are.
+    (refusal_is_answered rules (run_of c.args.self.now.cluster.nodes entry) (environment c.args.self.now) c.args.who (journals c.args.self.now) (fault.Unsupported c.in-Some.why)).1
+    c.args.statement.now (unsupported c.args.self.now.cluster.catalog c.args.statement.now c.in-Some.why (sym c.refusal_of.ensures ∙ c.in-Some.is))

@@ -1,0 +1,40 @@
+use Rattle.std.proofs.Common.{ℕ, refl, sym, ap, ◌∙◌, inl, inr, ◌≡◌, Bool, false}
+use Rattle.cq_tree.specs.declared.statement.Statement.{Statement}
+use Rattle.cq_tree.specs.declared.statement.Statement.TheVariants as statement
+use Rattle.cq_answer.specs.declared.fault.Fault.TheVariants as fault
+use Rattle.cq_catalog.specs.Contents.{Contents}
+use Rattle.cq_history.specs.Refusals.{rules, is_built}
+use Rattle.cq_history.proofs.Answering.{refusal_is_answered}
+use Rattle.cq_cluster.specs.Cluster.{run_of}
+use Rattle.cq_coordinator.specs.Coordination.{environment, journals}
+use Rattle.cq_coordinator.proofs.RefusalAnswers.{not_built}
+use Rattle.cq_coordinator.proofs.coordinator.Coordinator.answer_supported.Goals as goal
+
+pub returns-else-is_distributed-clause-answered : goal.returns-else-is_distributed-clause-answered
+returns-else-is_distributed-clause-answered g c = λ entry are.
+    (refusal_is_answered rules (run_of c.args.self.now.cluster.nodes entry) (environment c.args.self.now) c.args.who (journals c.args.self.now) fault.NotBuilt).1
+    c.args.statement.now (not_built c.args.self.now.cluster.catalog c.args.statement.now c.requires.supported
+    (ap (is_built c.args.self.now.cluster.catalog) c.in-Write.is ∙ (sym c.is_distributed.ensures ∙ c.if-is_distributed.false)))
+
+pub returns-in-Reference-clause-answered : goal.returns-in-Reference-clause-answered
+returns-in-Reference-clause-answered g c =
+    let k : Contents = c.args.self.now.cluster.catalog in
+    let unbuilt : is_built k c.args.statement.now ≡ false = elim c.in-Reference.is [
+      | inl x ↦ ap (is_built k) x.1
+      | inr a ↦ elim a [
+        | inl x ↦ ap (is_built k) x.4
+        | inr a ↦ elim a [
+          | inl x ↦ ap (is_built k) x.1
+          | inr a ↦ elim a [
+            | inl x ↦ ap (is_built k) x.3
+            | inr a ↦ elim a [
+              | inl x ↦ ap (is_built k) x.1
+              | inr x ↦ ap (is_built k) x.1
+            ]
+          ]
+        ]
+      ]
+    ] in
+    λ entry are.
+    (refusal_is_answered rules (run_of c.args.self.now.cluster.nodes entry) (environment c.args.self.now) c.args.who (journals c.args.self.now) fault.NotBuilt).1
+    c.args.statement.now (not_built k c.args.statement.now c.requires.supported unbuilt)

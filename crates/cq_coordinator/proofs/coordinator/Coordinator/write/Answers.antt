@@ -1,0 +1,48 @@
+use Rattle.std.proofs.Common.{refl, sym, subst, arith}
+use Rattle.cq_answer.specs.declared.answer.Answer.{Answer}
+use Rattle.cq_tree.specs.declared.statement.Statement.TheVariants as statement
+use Rattle.cq_meaning.specs.Effects.{table_of}
+use Rattle.cq_router.specs.declared.insertion.Part.{Part}
+use Rattle.std.proofs.Common.{List, Some}
+use Rattle.cq_history.specs.Refusals.{rules}
+use Rattle.cq_history.specs.Log.{IsAnswered}
+use Rattle.cq_history.proofs.Answering.{write_lacks_memory}
+use Rattle.cq_group.specs.Resting.{journals_of}
+use Rattle.cq_groups.specs.Writes.{IsWritten}
+use Rattle.cq_groups.proofs.Answering.{write_is_answered}
+use Rattle.cq_cluster.specs.Cluster.{run_of}
+use Rattle.cq_cluster.proofs.GroupLaws.{rests, sound_after, stores_after}
+use Rattle.cq_coordinator.specs.Coordination.{environment, journals}
+use Rattle.cq_coordinator.proofs.WriteAnswers.{its_shards, ascending, takes}
+use Rattle.cq_coordinator.proofs.coordinator.Coordinator.write.Goals as goal
+
+pub write_groups-requires-clause-resting : goal.write_groups-requires-clause-resting
+write_groups-requires-clause-resting g c = rests g.S.Store.state c.args.self.now.cluster c.requires.sound
+
+pub write_groups-requires-clause-few : goal.write_groups-requires-clause-few
+write_groups-requires-clause-few g c = let count = c.requires.sound.groups.count in let few = c.requires.sound.whole.few_groups in omega (arith, count, few)
+
+pub write_groups-requires-clause-ascending : goal.write_groups-requires-clause-ascending
+write_groups-requires-clause-ascending g c = ascending g.S.Store.state c.args.self.now.cluster c.args.op.now c.requires.sound c.requires.runs c.requires.computable c.in-Ok.divided c.in-Ok.ensures
+
+pub write_groups-requires-clause-takes : goal.write_groups-requires-clause-takes
+write_groups-requires-clause-takes g c = takes g.S.Store.state c.args.self.now.cluster c.args.op.now c.requires.sound c.requires.runs c.requires.computable c.requires.legal c.in-Ok.divided c.in-Ok.ensures
+
+pub returns-in_default-clause-answered : goal.returns-in_default-clause-answered
+returns-in_default-clause-answered g c = λ entry are. write_lacks_memory rules (run_of c.args.self.now.cluster.nodes entry) (environment c.args.self.now) c.args.who (journals c.args.self.now) c.args.op.now c.requires.runs
+
+pub returns-clause-answered : goal.returns-clause-answered
+returns-clause-answered g c = λ entry are.
+    let e = environment c.args.self.now in
+    let old = c.args.self.now.cluster.groups.items in
+    let new = c.write_groups.new.groups.items in
+    let written = subst (λ (ps : List Part). IsWritten c.args.who ps old new c.write_groups.result) c.in-Ok.ensures c.write_groups.ensures.written in
+    subst (λ (a : Answer). IsAnswered rules (run_of c.args.self.now.cluster.nodes entry) e e c.args.who (journals_of old) (journals_of new) (Some (statement.Write c.args.op.now)) a) (sym c.answer_of.ensures)
+    (write_is_answered (run_of c.args.self.now.cluster.nodes entry) e c.args.who c.args.op.now old new c.requires.runs (c.requires.keyed (table_of c.args.op.now)) c.requires.computable
+    (its_shards g.S.Store.state c.args.self.now.cluster c.args.op.now c.requires.sound c.requires.runs) c.write_groups.ensures.goes_on.count c.write_groups.result written)
+
+pub returns-clause-sound : goal.returns-clause-sound
+returns-clause-sound g c = sound_after g.S.Store.state c.args.self.now.cluster _ c.requires.sound c.write_groups.ensures.goes_on refl refl refl
+
+pub returns-clause-stores : goal.returns-clause-stores
+returns-clause-stores g c = stores_after g.S.Store.state c.args.self.now.cluster (record c.args.self.now.cluster { groups = c.write_groups.new.groups }) c.write_groups.ensures.goes_on refl refl

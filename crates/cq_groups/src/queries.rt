@@ -1,0 +1,153 @@
+ghost use Rattle.std.specs.Prelude.{◌≡◌, ℕ, [], ◌∷◌, Some, IfOk};
+ghost use Rattle.std.specs.List.{AllByRecursion};
+ghost use Rattle.cq_tree.specs.declared.query.Query.{out-Query};
+ghost use Rattle.cq_tree.specs.declared.statement.Statement.TheVariants as statement;
+ghost use Rattle.cq_meaning.specs.Safety.{IsSafeQuery};
+ghost use Rattle.cq_planning.specs.Reaching.{IsAscendingFrom};
+ghost use Rattle.cq_answer.specs.declared.answered.Settings.{Settings};
+ghost use Rattle.cq_history.specs.Run.{Run};
+ghost use Rattle.cq_history.specs.Computable.{IsReadable};
+ghost use Rattle.cq_history.specs.Journals.{journal_in};
+ghost use Rattle.cq_history.specs.Legality.{IsLegal};
+ghost use Rattle.cq_history.specs.Refusals.{rules};
+ghost use Rattle.cq_history.specs.Log.{IsAnswered};
+ghost use Rattle.cq_group.specs.Resting.{journals_of, AreResting, GoOn};
+ghost use Rattle.cq_groups.specs.Reads.{captured_by, groups_in, CanLook, AreShaped, Computes, IsComputed};
+ghost use Rattle.cq_groups.specs.Looking.{merged, look_at, wanted_of, IsPlan, environment_at};
+
+use crate::alone::is_alone;
+use crate::gathering::gather;
+use crate::looks::looks_at;
+use crate::reads::{Look, Looks, pick_group, read_groups};
+use crate::shard::{Shard, one_shard};
+use crate::tables::tables_of;
+use crate::wanted::wanted_by;
+use cq_answer::{Answer, Fault, What};
+use cq_catalog::Catalog;
+use cq_group::{GroupState, Tables};
+use cq_queries::run_query;
+use cq_router::router;
+use cq_store::Store;
+use cq_tree::{Query, QueryError, Who};
+use cq_value::{Names, NoMemory, Results};
+use std::alloc::Global;
+
+/// The most rows of a group of a query.
+const MOST_ROWS: u64 = 2147483648;
+
+/// The looks of a query that runs: one without CTEs and IN subqueries, which the router takes.
+fn plan(alloc: Global, catalog: &Catalog, query: &Query) -> Result<Option<Looks>, NoMemory>
+    ensures { IfOk result (IsPlan catalog.now query.now) }
+{
+    if !is_alone(query) {
+        return Ok(None);
+    }
+    match router(alloc, query, catalog)? {
+        Some(routed) => {
+            let tables = tables_of(alloc, query)?;
+            let looks = looks_at(alloc, catalog, tables.as_slice(), routed.touched.as_slice())?;
+            Ok(Some(looks))
+        }
+        None => Ok(None),
+    }
+}
+
+/// The answer of a query over the rows of its tables.
+fn compute(alloc: Global, query: &Query, names: Names, tables: &Tables) -> Answer
+    requires { IsSafeQuery query.now tables.now [] }
+    ensures { Computes query.now tables.now names result }
+{
+    let none = Results::new(alloc);
+    match run_query(alloc, query, tables, &none) {
+        Ok(rows) => Answer::Table { names, rows },
+        Err(QueryError::Rows) => Answer::Failed(Fault::Limit {
+            what: What::Rows,
+            number: MOST_ROWS,
+        }),
+        Err(QueryError::Memory) => Answer::Failed(Fault::Memory),
+    }
+}
+
+/// The answer of a query by its looks, each of which is a Read in its group's journal then.
+fn look_and_compute<S: Store>(
+    alloc: Global,
+    groups: &mut Vec<GroupState<S>>,
+    who: Who,
+    query: &Query,
+    looks: &[Look],
+) -> Answer
+    requires resting { AreResting S.state groups.old.items }
+    requires there { AllByRecursion (CanLook groups.old.items) looks.now }
+    requires ascending { IsAscendingFrom 0 (groups_in looks.now) }
+    requires safe { IsSafeQuery query.now (merged (captured_by groups.old.items looks.now)) [] }
+    ensures computed { IsComputed who query.now looks.now (merged (captured_by groups.old.items looks.now)) groups.old.items groups.new.items result }
+    ensures goes_on { GoOn S.state groups.old.items groups.new.items }
+{
+    let Ok(names) = query.names.copy(alloc) else {
+        return Answer::Failed(Fault::Memory);
+    };
+    let Ok(seen) = read_groups(alloc, groups, who, looks) else {
+        return Answer::Failed(Fault::Memory);
+    };
+    let Ok(tables) = gather(alloc, seen) else {
+        return Answer::Failed(Fault::Memory);
+    };
+    compute(alloc, query, names, &tables)
+}
+
+/// The answer of a query by the rows of its one shard that its WHERE demands; the group's journal has a Read then.
+fn pick_and_compute<S: Store>(
+    alloc: Global,
+    groups: &mut Vec<GroupState<S>>,
+    who: Who,
+    query: &Query,
+    shard: Shard,
+) -> Answer
+    requires resting { AreResting S.state groups.old.items }
+    requires there { CanLook groups.old.items (look_at shard) }
+    requires safe { IsSafeQuery query.now (wanted_of groups.old.items query.now shard) [] }
+    ensures computed { IsComputed who query.now (look_at shard ∷ []) (wanted_of groups.old.items query.now shard) groups.old.items groups.new.items result }
+    ensures goes_on { GoOn S.state groups.old.items groups.new.items }
+{
+    let Ok(names) = query.names.copy(alloc) else {
+        return Answer::Failed(Fault::Memory);
+    };
+    let Ok(wanted) = wanted_by(alloc, &query.filter) else {
+        return Answer::Failed(Fault::Memory);
+    };
+    let Ok(rows) = pick_group(groups, who, shard.group, shard.table, &wanted) else {
+        return Answer::Failed(Fault::Memory);
+    };
+    let mut tables = Tables::new(alloc);
+    let Ok(()) = tables.put((shard.table, rows)) else {
+        return Answer::Failed(Fault::Memory);
+    };
+    compute(alloc, query, names, &tables)
+}
+
+/// The answer of a query over the shard groups of a catalogue.
+pub fn answer_query<S: Store>(
+    alloc: Global,
+    catalog: &Catalog,
+    groups: &mut Vec<GroupState<S>>,
+    who: Who,
+    query: &Query,
+) -> Answer
+    requires resting { AreResting S.state groups.old.items }
+    requires shaped { AreShaped catalog.now groups.old.items }
+    requires legal { (g : ℕ) → IsLegal catalog.now g (journal_in (journals_of groups.old.items) g) }
+    requires computable { IsReadable catalog.now query.now }
+    ensures answered { (run : Run) (settings : Settings) → IsAnswered rules run (environment_at catalog.now settings) (environment_at catalog.now settings) who (journals_of groups.old.items) (journals_of groups.new.items) (Some (statement.Select query.now)) result }
+    ensures goes_on { GoOn S.state groups.old.items groups.new.items }
+{
+    let Ok(planned) = plan(alloc, catalog, query) else {
+        return Answer::Failed(Fault::Memory);
+    };
+    let Some(looks) = planned else {
+        return Answer::Failed(Fault::NotBuilt);
+    };
+    match one_shard(query, looks.as_slice()) {
+        Some(shard) => pick_and_compute(alloc, groups, who, query, shard),
+        None => look_and_compute(alloc, groups, who, query, looks.as_slice()),
+    }
+}

@@ -1,0 +1,21 @@
+-- UPDATE and DELETE over the same three rows.
+CREATE TABLE t (k bigint, v integer, s text, PRIMARY KEY (k));
+SELECT create_distributed_table('t', 'k', shard_count => 1);
+INSERT INTO t VALUES (1, 10, 'a'), (2, NULL, 'b'), (3, -5, NULL);
+UPDATE t SET v = 2147483648 WHERE k = 1;
+UPDATE t SET v = -2147483649 WHERE k = 1;
+UPDATE t SET v = 2147483648 WHERE v > 100;
+SELECT * FROM t ORDER BY k;
+UPDATE t SET v = 2147483647 WHERE k = 1;
+SELECT * FROM t ORDER BY k;
+UPDATE t SET v = v - 2147483637 WHERE k = 1;
+UPDATE t SET v = v + 1;
+SELECT * FROM t ORDER BY k;
+UPDATE t SET s = NULL WHERE NOT v > 0;
+UPDATE t SET v = k, s = 'c' WHERE k = 2;
+SELECT * FROM t ORDER BY k;
+DELETE FROM t WHERE v = NULL;
+DELETE FROM t WHERE NOT v > 0;
+SELECT * FROM t ORDER BY k;
+DELETE FROM t;
+SELECT * FROM t ORDER BY k;
