@@ -8,7 +8,7 @@ use Rattle.cq_tree.specs.declared.statement.Statement.TheVariants as statement
 use Rattle.cq_meaning.specs.Values.{Row}
 use Rattle.cq_catalog.specs.Contents.{Contents}
 use Rattle.cq_catalog.specs.Creation.{creation_refusal, with_table}
-use Rattle.cq_catalog.specs.Distribution.{decision_of, distributed_by, distribution_refusal, opened_by}
+use Rattle.cq_catalog.specs.Distribution.{decision_of, distributed_by, distribution_refusal, opened_by, with_reference, reference_refusal}
 use Rattle.cq_catalog.specs.Refusals.{first_of}
 use Rattle.cq_catalog.specs.Whole.{IsWhole}
 use Rattle.cq_catalog.specs.declared.error.CatalogError.{CatalogError}
@@ -22,7 +22,7 @@ use Rattle.cq_answer.specs.Faults.{fault_of_catalog}
 use Rattle.cq_journal.specs.Records.{Journal}
 use Rattle.cq_history.specs.Run.{Run, Environment, with_setting, shards_on, room_fault}
 use Rattle.cq_history.specs.Journals.{none}
-use Rattle.cq_history.specs.Standing.{creation_fault, distribution_fault, IsNotice, Yields}
+use Rattle.cq_history.specs.Standing.{creation_fault, distribution_fault, reference_fault, IsNotice, Yields}
 use Rattle.cq_history.specs.Deeds.{Grows}
 use Rattle.cq_history.specs.Log.{IsAnswered}
 use Rattle.cq_history.specs.Laws.{OpensGroups}
@@ -58,6 +58,9 @@ module _ (run : Run) (e : Environment) (who : Who) (js : List Journal) where
       IsAnswered rules run e e who js js (Some (statement.Distribute table column count beside)) (answer.Failed f)
   not_distributed table column count beside f cause =
       idle_is_answered rules run e who js (Some (statement.Distribute table column count beside)) (answer.Failed f) (λ g. refl, by_cause (distribution_fault run e.catalog e.settings.shard_count table column count beside) _ f cause) refl
+
+  pub not_referenced : (table : List ℕ) (f : Fault) → (f ≡ fault.Memory) ⊎ (reference_fault run e.catalog table ≡ Some f) → IsAnswered rules run e e who js js (Some (statement.Reference table)) (answer.Failed f)
+  not_referenced table f cause = idle_is_answered rules run e who js (Some (statement.Reference table)) (answer.Failed f) (λ g. refl, by_cause (reference_fault run e.catalog table) _ f cause) refl
 
   -- ---- SET
 
@@ -125,3 +128,27 @@ module _ {X : Type 0} (entry : List (Worker X)) (settings : Settings) (old new :
       subst (λ (v : List Journal). IsAnswered rules (run_of old.nodes entry) (setting_of old.catalog) (setting_of new.catalog) who (journals old) v (Some (statement.Distribute table column count beside)) (answer.Failed f)) (sym still)
       (subst (λ (v : Contents). IsAnswered rules (run_of old.nodes entry) (setting_of old.catalog) (setting_of v) who (journals old) (journals old) (Some (statement.Distribute table column count beside)) (answer.Failed f)) (sym made)
       (not_distributed (run_of old.nodes entry) (setting_of old.catalog) who (journals old) table column count beside f cause))
+
+-- ---- create_reference_table
+
+module _ {X : Type 0} (entry : List (Worker X)) (settings : Settings) (old new : Cluster X) (who : Who) (table : List ℕ) where
+  abbrev with_settings : Contents → Environment
+  with_settings c = record { catalog = c; settings = settings }
+
+  pub referenced_in : (names : List (List ℕ)) (rows : List Row) → IsWhole old.catalog → reference_fault (run_of old.nodes entry) old.catalog table ≡ None → IsNotice (codes "create_reference_table") (answer.Table names rows) → new.catalog ≡ with_reference old.catalog table →
+      Grows who none (journals old) (journals new) → OpensGroups (run_of old.nodes entry) old.catalog new.catalog (journals new) →
+      IsAnswered rules (run_of old.nodes entry) (with_settings old.catalog) (with_settings new.catalog) who (journals old) (journals new) (Some (statement.Reference table)) (answer.Table names rows)
+  referenced_in names rows whole allowed told made grows opens =
+      let c = old.catalog in
+      let free = not_refused (reference_refusal c table) (room_fault (run_of old.nodes entry) c (λ at. 1) ∷ []) allowed in
+      subst (λ (v : Contents). IsAnswered rules (run_of old.nodes entry) (with_settings c) (with_settings v) who (journals old) (journals new) (Some (statement.Reference table)) (answer.Table names rows)) (sym made)
+      (catalog_is_answered rules (run_of old.nodes entry) (with_settings c) who (journals old) (journals new) (statement.Reference table) (answer.Table names rows) whole
+      (λ g. refl, subst (λ (o : Option Fault). Yields o (IsNotice (codes "create_reference_table")) (answer.Table names rows)) (sym allowed) told)
+      ((catalog_goes_on c whole).2 table free) grows (subst (λ (v : Contents). OpensGroups (run_of old.nodes entry) c v (journals new)) made opens))
+
+  pub not_referenced_in : (f : Fault) → (f ≡ fault.Memory) ⊎ (reference_fault (run_of old.nodes entry) old.catalog table ≡ Some f) → new.catalog ≡ old.catalog → journals new ≡ journals old →
+      IsAnswered rules (run_of old.nodes entry) (with_settings old.catalog) (with_settings new.catalog) who (journals old) (journals new) (Some (statement.Reference table)) (answer.Failed f)
+  not_referenced_in f cause made still =
+      subst (λ (v : List Journal). IsAnswered rules (run_of old.nodes entry) (with_settings old.catalog) (with_settings new.catalog) who (journals old) v (Some (statement.Reference table)) (answer.Failed f)) (sym still)
+      (subst (λ (v : Contents). IsAnswered rules (run_of old.nodes entry) (with_settings old.catalog) (with_settings v) who (journals old) (journals old) (Some (statement.Reference table)) (answer.Failed f)) (sym made)
+      (not_referenced (run_of old.nodes entry) (with_settings old.catalog) who (journals old) table f cause))

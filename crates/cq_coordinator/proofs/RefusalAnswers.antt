@@ -1,5 +1,5 @@
 -- Why a bound statement doesn't run.
-use Rattle.std.proofs.Common.{◌≡◌, Bool, false, Some, None}
+use Rattle.std.proofs.Common.{◌≡◌, false, Some, None}
 use Rattle.cq_tree.specs.declared.statement.Statement.{Statement}
 use Rattle.cq_tree.specs.declared.unsupported.Unsupported.{Unsupported}
 use Rattle.cq_catalog.specs.Contents.{Contents}

@@ -61,6 +61,7 @@ impl<S: Store> Coordinator<S> {
                 count,
                 with,
             } => self.distribute(alloc, who, table, column, *count, with),
+            Statement::Reference { table } => self.reference(alloc, who, table),
             Statement::Setting { which, value } => self.set(who, *which, *value),
             Statement::Select(query) => self.select(alloc, who, query),
             Statement::Write(op) => {
@@ -70,8 +71,7 @@ impl<S: Store> Coordinator<S> {
                     Answer::Failed(Fault::NotBuilt)
                 }
             }
-            Statement::Reference { .. }
-            | Statement::Copy { .. }
+            Statement::Copy { .. }
             | Statement::Explain(_)
             | Statement::Move { .. }
             | Statement::Rebalance { .. }

@@ -95,6 +95,25 @@ impl<S: Store> Coordinator<S> {
         }
     }
 
+    /// The answer of a `create_reference_table`: the table is a reference table, or all is as it was but for the order of spare stores.
+    pub fn reference(&mut self, alloc: Global, who: Who, table: &Text) -> Answer
+        requires sound { IsSound S.state self.old.cluster }
+        ensures answered { (entry : List (Worker S)) → AreWorkers S.state self.old.cluster.nodes entry self.old.cluster.groups.items self.old.cluster.workers.items → IsAnswered rules (run_of self.old.cluster.nodes entry) (environment self.old) (environment self.new) who (journals self.old) (journals self.new) (Some (statement.Reference table.now)) result }
+        ensures sound { IsSound S.state self.new.cluster }
+        ensures stores { KeepsStores S.state self.old.cluster self.new.cluster }
+    {
+        let Ok(told) = notice_of(alloc, "create_reference_table") else {
+            return Answer::Failed(Fault::Memory);
+        };
+        match self.cluster.reference(alloc, table) {
+            Ok(()) => Answer::Table {
+                names: told.names,
+                rows: told.rows,
+            },
+            Err(fault) => Answer::Failed(fault),
+        }
+    }
+
     /// The answer of a SET: 0 is `citus.enable_repartition_joins`, 1 `citus.shard_count`, 2 `citus.max_adaptive_executor_pool_size`.
     pub fn set(&mut self, who: Who, which: u32, value: u64) -> Answer
         requires sound { IsSound S.state self.old.cluster }

@@ -23,6 +23,7 @@ is_alone (Query' cs ctes ss subs from filter_ grouped keys aggs having items sho
 abbrev pub is_built : Contents → Statement → Bool
 is_built c (statement.CreateTable name columns key) = true
 is_built c (statement.Distribute table column count beside) = true
+is_built c (statement.Reference table) = true
 is_built c (statement.Setting which value) = true
 is_built c (statement.Select q) = is_alone q && fits_router c q
 is_built c (statement.Write op) = is_distributed_place (place_at c (table_of op))

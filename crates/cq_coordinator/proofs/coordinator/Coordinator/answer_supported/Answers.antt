@@ -1,6 +1,4 @@
-use Rattle.std.proofs.Common.{ℕ, refl, sym, ap, ◌∙◌, inl, inr, ◌≡◌, Bool, false}
-use Rattle.cq_tree.specs.declared.statement.Statement.{Statement}
-use Rattle.cq_tree.specs.declared.statement.Statement.TheVariants as statement
+use Rattle.std.proofs.Common.{sym, ap, ◌∙◌, inl, inr, ◌≡◌, false}
 use Rattle.cq_answer.specs.declared.fault.Fault.TheVariants as fault
 use Rattle.cq_catalog.specs.Contents.{Contents}
 use Rattle.cq_history.specs.Refusals.{rules, is_built}
@@ -16,21 +14,18 @@ returns-else-is_distributed-clause-answered g c = λ entry are.
     c.args.statement.now (not_built c.args.self.now.cluster.catalog c.args.statement.now c.requires.supported
     (ap (is_built c.args.self.now.cluster.catalog) c.in-Write.is ∙ (sym c.is_distributed.ensures ∙ c.if-is_distributed.false)))
 
-pub returns-in-Reference-clause-answered : goal.returns-in-Reference-clause-answered
-returns-in-Reference-clause-answered g c =
+pub returns-in-Copy-clause-answered : goal.returns-in-Copy-clause-answered
+returns-in-Copy-clause-answered g c =
     let k : Contents = c.args.self.now.cluster.catalog in
-    let unbuilt : is_built k c.args.statement.now ≡ false = elim c.in-Reference.is [
-      | inl x ↦ ap (is_built k) x.1
+    let unbuilt : is_built k c.args.statement.now ≡ false = elim c.in-Copy.is [
+      | inl x ↦ ap (is_built k) x.4
       | inr a ↦ elim a [
-        | inl x ↦ ap (is_built k) x.4
+        | inl x ↦ ap (is_built k) x.1
         | inr a ↦ elim a [
-          | inl x ↦ ap (is_built k) x.1
+          | inl x ↦ ap (is_built k) x.3
           | inr a ↦ elim a [
-            | inl x ↦ ap (is_built k) x.3
-            | inr a ↦ elim a [
-              | inl x ↦ ap (is_built k) x.1
-              | inr x ↦ ap (is_built k) x.1
-            ]
+            | inl x ↦ ap (is_built k) x.1
+            | inr x ↦ ap (is_built k) x.1
           ]
         ]
       ]
