@@ -28,7 +28,6 @@ WITH t AS (SELECT name FROM u) SELECT name FROM t;
 SELECT s.n FROM (SELECT v, count(*) AS n FROM t GROUP BY v) s LEFT JOIN r ON s.n = r.id;
 EXPLAIN SELECT k FROM t;
 COPY u (name, k) FROM STDIN WITH (FORMAT CSV, HEADER);
-SELECT create_reference_table('l');
 SELECT citus_move_shard_placement(102008, 1, 2);
 SELECT rebalance_table_shards();
 SELECT k + v + 1 FROM t GROUP BY k + v;

@@ -1,5 +1,4 @@
 -- Calls that are bound, and that are not built.
-SELECT create_reference_table('a');
 SELECT rebalance_table_shards();
 SELECT citus_move_shard_placement(102008, 1, 2);
 SELECT rebalance_table_shards(rebalance_strategy => 'by_disk_size');

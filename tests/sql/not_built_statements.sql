@@ -10,7 +10,6 @@ CREATE TABLE loose (id bigint, name text);
 -- What is refused.
 COPY shops FROM STDIN;
 EXPLAIN SELECT id FROM sales WHERE tenant = 1;
-SELECT create_reference_table('loose');
 SELECT citus_move_shard_placement(102008, 1, 2);
 SELECT rebalance_table_shards();
 SELECT get_rebalance_table_shards_plan();
