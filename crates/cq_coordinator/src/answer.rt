@@ -1,8 +1,8 @@
-ghost use Rattle.std.specs.Prelude.{◌≡◌, ℕ, List, Some, None};
+ghost use Rattle.std.specs.Prelude.{◌≡◌, ℕ, not, List, Some, None};
 ghost use Rattle.cq_meaning.specs.Effects.{table_of as table_of_op};
+ghost use Rattle.cq_catalog.specs.Contents.{is_local};
 ghost use Rattle.cq_catalog.specs.Placement.{place_at};
 ghost use Rattle.cq_planning.specs.Refusals.{refusal_of as refusal_by_rule};
-ghost use Rattle.cq_planning.specs.Routing.{is_distributed_place};
 ghost use Rattle.cq_history.specs.Computable.{IsComputable};
 ghost use Rattle.cq_history.specs.Journals.{journal_in};
 ghost use Rattle.cq_history.specs.Legality.{IsLegal, IsKeyed};
@@ -32,11 +32,14 @@ fn table_of(op: &ShardOp) -> u32
     }
 }
 
-/// Whether a write is to a distributed table.
-fn is_distributed(catalog: &Catalog, op: &ShardOp) -> bool
-    ensures { result ≡ is_distributed_place (place_at catalog.now (table_of_op op.now)) }
+/// Whether a write is to a distributed table or a reference table, which have shards.
+fn has_shards(catalog: &Catalog, op: &ShardOp) -> bool
+    ensures { result ≡ not (is_local (place_at catalog.now (table_of_op op.now))) }
 {
-    matches!(place_of(catalog, table_of(op)), Place::Distributed { .. })
+    match place_of(catalog, table_of(op)) {
+        Place::Local => false,
+        Place::Distributed { .. } | Place::Reference { .. } => true,
+    }
 }
 
 impl<S: Store> Coordinator<S> {
@@ -65,7 +68,7 @@ impl<S: Store> Coordinator<S> {
             Statement::Setting { which, value } => self.set(who, *which, *value),
             Statement::Select(query) => self.select(alloc, who, query),
             Statement::Write(op) => {
-                if is_distributed(&self.cluster.catalog, op) {
+                if has_shards(&self.cluster.catalog, op) {
                     self.write(alloc, who, op)
                 } else {
                     Answer::Failed(Fault::NotBuilt)

@@ -50,8 +50,8 @@ fn answer_of(op: &ShardOp, outcome: Result<Reply, WriteError>) -> Answer
 }
 
 impl<S: Store> Coordinator<S> {
-    /// The answer of an INSERT, UPDATE or DELETE of a distributed table: its part is entered in each shard group that it touches, or the first part
-    /// that is refused alone, or nothing.
+    /// The answer of an INSERT, UPDATE or DELETE of a distributed table or a reference table: its part is entered in each shard group that it
+    /// touches, or the first part that is refused alone, or nothing.
     pub fn write(&mut self, alloc: Global, who: Who, op: &ShardOp) -> Answer
         requires sound { IsSound S.state self.old.cluster }
         requires legal { (g : ℕ) → IsLegal self.old.cluster.catalog g (journal_in (journals self.old) g) }

@@ -1,6 +1,6 @@
 -- What the binder and planning make sure of, over the groups of a write's table.
 use Rattle.std.proofs.Common.{◌≡◌, inl, inr, ℕ, Bool, true, false, cond, List, [], ◌∷◌, refl, sym, subst, Option, Some, None}
-use Rattle.std.specs.Prelude.{option_map}
+use Rattle.std.specs.Prelude.{not, option_map}
 use Rattle.std.specs.List.{AllByRecursion}
 use Rattle.std.proofs.lemmas.Bool.Decides.{eqb_tells}
 use Rattle.cq_value.specs.declared.schema.Shape.{Shape}
@@ -16,8 +16,8 @@ use Rattle.cq_tree.specs.declared.write.ShardOp.{ShardOp}
 use Rattle.cq_tree.specs.declared.write.ShardOp.TheVariants.{Insert, Update, Remove}
 use Rattle.cq_meaning.specs.Widths.{Within}
 use Rattle.cq_meaning.specs.Effects.{table_of}
-use Rattle.cq_catalog.specs.Contents.{Contents}
-use Rattle.cq_catalog.specs.Placement.{place_at, IsDistributed}
+use Rattle.cq_catalog.specs.Contents.{Contents, is_local}
+use Rattle.cq_catalog.specs.Placement.{place_at}
 use Rattle.cq_catalog.specs.declared.info.Place.{Place}
 use Rattle.cq_catalog.specs.declared.info.Place.TheVariants.{Local, Distributed, Reference}
 use Rattle.cq_answer.specs.declared.fault.Fault.TheVariants as fault
@@ -27,7 +27,6 @@ use Rattle.cq_journal.proofs.Fitting.{replay_within}
 use Rattle.cq_planning.specs.Database.{shape_in, IsRowOf}
 use Rattle.cq_planning.specs.Parts.{part}
 use Rattle.cq_planning.specs.Refusals.{changes_distribution, refusal_of}
-use Rattle.cq_planning.specs.Routing.{is_distributed_place}
 use Rattle.cq_planning.specs.Touched.{touched, among}
 use Rattle.cq_history.specs.Run.{Environment}
 use Rattle.cq_history.specs.Refusals.{rules, refusal_in, is_built, unless_built}
@@ -52,26 +51,18 @@ unless_none true None e = (refl, refl)
 unless_none false None e = cc
 unless_none b (Some why) e = cc
 
-distributed_place : (p : Place) → is_distributed_place p ≡ true → IsDistributed p
-distributed_place Local e = cc
-distributed_place (Distributed at colocation first_shard) e = tt
-distributed_place (Reference group shard) e = cc
-
-not_local : (p : Place) → IsDistributed p → p ≡ Local → ⊥
-not_local Local d e = d
-not_local (Distributed at colocation first_shard) d e = cc
-not_local (Reference group shard) d e = d
+not_local : (p : Place) → not (is_local p) ≡ true → p ≡ Local → ⊥
+not_local Local e q = cc
+not_local (Distributed at colocation first_shard) e q = cc
+not_local (Reference group shard) e q = cc
 
 module _ (c : Contents) (op : ShardOp) (runs : refusal_in c (statement.Write op) ≡ None) where
   allowed : (is_built c (statement.Write op) ≡ true) × (refusal_of c (statement.Write op) ≡ None)
   allowed = unless_none (is_built c (statement.Write op)) (refusal_of c (statement.Write op)) runs
 
-  -- its table is distributed
-  pub its_place : IsDistributed (place_at c (table_of op))
-  its_place = distributed_place (place_at c (table_of op)) allowed.0
-
+  -- its table is a distributed table or a reference table
   pub its_not_local : place_at c (table_of op) ≡ Local → ⊥
-  its_not_local = not_local (place_at c (table_of op)) its_place
+  its_not_local = not_local (place_at c (table_of op)) allowed.0
 
 leaves_each : (at colocation first_shard : ℕ) (sets : List Set) → changes_distribution (Distributed at colocation first_shard) sets ≡ false → AllByRecursion (LeavesColumn (Distributed at colocation first_shard)) sets
 leaves_each at colocation first_shard [] e = tt

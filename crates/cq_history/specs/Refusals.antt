@@ -1,16 +1,16 @@
 -- Why a bound statement doesn't run, and the rules of planning by which answers are judged.
-use Rattle.std.specs.Prelude.{ℕ, ◌+◌, Bool, true, false, ◌&&◌, nat_eq, Option, Some, None, option_map}
+use Rattle.std.specs.Prelude.{ℕ, ◌+◌, Bool, true, false, ◌&&◌, not, nat_eq, Option, Some, None, option_map}
 use Rattle.cq_tree.specs.declared.query.Query.{Query, Query'}
 use Rattle.cq_tree.specs.declared.statement.Statement.{Statement}
 use Rattle.cq_tree.specs.declared.statement.Statement.TheVariants as statement
 use Rattle.cq_meaning.specs.Results.{count_of, ins_in_from, ins_in_all}
 use Rattle.cq_meaning.specs.Effects.{table_of}
-use Rattle.cq_catalog.specs.Contents.{Contents}
+use Rattle.cq_catalog.specs.Contents.{Contents, is_local}
 use Rattle.cq_catalog.specs.Placement.{place_at}
 use Rattle.cq_answer.specs.declared.fault.Fault.{Fault}
 use Rattle.cq_answer.specs.declared.fault.Fault.TheVariants as fault
 use Rattle.cq_planning.specs.Refusals.{refusal_of}
-use Rattle.cq_planning.specs.Routing.{fits_router, is_distributed_place}
+use Rattle.cq_planning.specs.Routing.{fits_router}
 use Rattle.cq_planning.specs.Touched.{touched}
 use Rattle.cq_history.specs.Run.{Rules}
 
@@ -19,14 +19,15 @@ abbrev pub is_alone : Query → Bool
 is_alone (Query' cs ctes ss subs from filter_ grouped keys aggs having items shown distinct order limit offset names) =
     nat_eq (count_of ctes + ins_in_from from + ins_in_all subs) 0
 
--- whether the program runs a statement: of queries those that the router takes, which are of one shard group at most
+-- whether the program runs a statement: of queries those that the router takes, which are of one shard group at most, and of writes those of
+-- a table that isn't local
 abbrev pub is_built : Contents → Statement → Bool
 is_built c (statement.CreateTable name columns key) = true
 is_built c (statement.Distribute table column count beside) = true
 is_built c (statement.Reference table) = true
 is_built c (statement.Setting which value) = true
 is_built c (statement.Select q) = is_alone q && fits_router c q
-is_built c (statement.Write op) = is_distributed_place (place_at c (table_of op))
+is_built c (statement.Write op) = not (is_local (place_at c (table_of op)))
 is_built c s = false
 
 abbrev pub unless_built : Bool → Option Fault → Option Fault

@@ -8,11 +8,11 @@ use Rattle.cq_coordinator.specs.Coordination.{environment, journals}
 use Rattle.cq_coordinator.proofs.RefusalAnswers.{not_built}
 use Rattle.cq_coordinator.proofs.coordinator.Coordinator.answer_supported.Goals as goal
 
-pub returns-else-is_distributed-clause-answered : goal.returns-else-is_distributed-clause-answered
-returns-else-is_distributed-clause-answered g c = λ entry are.
+pub returns-else-has_shards-clause-answered : goal.returns-else-has_shards-clause-answered
+returns-else-has_shards-clause-answered g c = λ entry are.
     (refusal_is_answered rules (run_of c.args.self.now.cluster.nodes entry) (environment c.args.self.now) c.args.who (journals c.args.self.now) fault.NotBuilt).1
     c.args.statement.now (not_built c.args.self.now.cluster.catalog c.args.statement.now c.requires.supported
-    (ap (is_built c.args.self.now.cluster.catalog) c.in-Write.is ∙ (sym c.is_distributed.ensures ∙ c.if-is_distributed.false)))
+    (ap (is_built c.args.self.now.cluster.catalog) c.in-Write.is ∙ (sym c.has_shards.ensures ∙ c.if-has_shards.false)))
 
 pub returns-in-Copy-clause-answered : goal.returns-in-Copy-clause-answered
 returns-in-Copy-clause-answered g c =
