@@ -136,13 +136,13 @@ fn queried(rt: &impl Abort, alloc: Global, catalog: &Catalog, q: &Query) -> Resu
 }
 
 fn said(rt: &impl Abort, alloc: Global, catalog: &Catalog, text: &str) -> Result<String, Fail> {
-    match bound(alloc, catalog, text) {
-        Some(Statement::Select(query)) => queried(rt, alloc, catalog, &query),
-        other => {
-            drop(other);
-            Err(Fail::from("no query"))
-        }
-    }
+    let bound = bound(alloc, catalog, text).expect(rt, "a statement");
+    let shown = match &bound {
+        Statement::Select(query) => queried(rt, alloc, catalog, query),
+        _ => Err(Fail::from("no query")),
+    };
+    drop(bound);
+    shown
 }
 
 #[test]
