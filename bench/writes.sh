@@ -21,14 +21,14 @@ for_each() {
 awk -v tenants="$tenants" -v rows="$rows" 'BEGIN {
     for (i = 1; i <= rows; i++) {
         printf "INSERT INTO orders VALUES "
-        for (t = 1; t <= tenants; t++) printf "%s(%d, %d, %d, %d)", t > 1 ? ", " : "", t, i, (i * 7 + t) % 50, (i * 31 + t) % 1000
+        for (t = 1; t <= tenants; t++) printf "%s(%d, %d, %d, %d)", (t > 1 ? ", " : ""), t, i, (i * 7 + t) % 50, (i * 31 + t) % 1000
         print ";"
     }
 }' >"$work/inserts"
 for_each 20 'UPDATE orders SET amount = amount + 1 WHERE tenant = %d AND id = %d' >"$work/updates"
 for_each 10 'UPDATE orders SET amount = amount + 1 WHERE tenant = %d AND id >= %d' >"$work/wide_updates"
 for_each 20 'DELETE FROM orders WHERE tenant = %d AND id = %d' >"$work/deletes"
-for_each 1 'SELECT count(*) FROM (SELECT a.id AS id FROM orders a JOIN orders b ON b.tenant = a.tenant AND b.id = a.id WHERE a.tenant = %d AND b.id > %d) AS pairs' \
+for_each 5 'SELECT a.amount, b.customer FROM orders a JOIN orders b ON b.tenant = a.tenant AND b.id = a.id WHERE a.tenant = %d AND a.id = %d' \
     >"$work/joins"
 
 prepare
