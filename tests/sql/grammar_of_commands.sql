@@ -2,9 +2,9 @@
 CREATE TABLE t (a BIGINT PRIMARY KEY, b INTEGER, c INT, d TEXT);
 create table t (a bigint, text text, PRIMARY KEY (a, text));
 create table TX (a bigint, text text, PRIMARY KEY (a, text));
-create table T1(A bigint primary key,b INT , c integer,d text);
-select create_distributed_table('t1','a',shard_count=>4,colocate_with=>'none');
-select create_distributed_table('T1','a');
+create table Shops(A bigint primary key,b INT , c integer,d text);
+select create_distributed_table('shops','a',shard_count=>4,colocate_with=>'none');
+select create_distributed_table('Shops','a');
 SET citus.shard_count TO 32;
 set Citus.Shard_Count=7;
 SET citus.enable_repartition_joins = ON;
