@@ -118,6 +118,13 @@ pub enum Fault {
     GroupedJoin {
         at: u64,
     },
+    /// 20: the store of this shard on this node failed in the statement; its count of faults rose from `before` to `after`.
+    Worker {
+        node: u32,
+        shard: u64,
+        before: u64,
+        after: u64,
+    },
     /// 24: want of memory.
     Memory,
     /// 26: the node has so many spare stores, which are too few for those that are needed.

@@ -34,10 +34,10 @@ module _ (who : Who) (old : List Journal) (looked : ℕ → Option Journal) (gro
     none = λ g n. ap (λ b. consecutive who (journal_in old g) (cond b (kind g ∷ []) [])) n;
   }
 
-none_there : (journals : List Journal) → AreThere [] journals
+pub none_there : (journals : List Journal) → AreThere [] journals
 none_there journals g m = cc
 
-sees : (groups : List ℕ) (journals : List Journal) (g : ℕ) → among g groups ≡ true → look_at groups journals g ≡ Some (journal_in journals g)
+pub sees : (groups : List ℕ) (journals : List Journal) (g : ℕ) → among g groups ≡ true → look_at groups journals g ≡ Some (journal_in journals g)
 sees groups journals g m = ap (λ b. cond b (Some (journal_in journals g)) None) m
 
 apart : (g group : ℕ) → g < group → among g (group ∷ []) ≡ false

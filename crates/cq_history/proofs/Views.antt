@@ -16,7 +16,7 @@ use Rattle.cq_answer.specs.declared.fault.Fault.TheVariants as fault
 use Rattle.cq_history.specs.Run.{Run, Rules, Environment}
 use Rattle.cq_journal.specs.Records.{Journal}
 use Rattle.cq_history.specs.Journals.{Kinds, Step, none}
-use Rattle.cq_history.specs.Standing.{View, Enters, reads, AreReady, IsMadeIn, IsRefusedIn, LacksIdsIn, Runs, RunsUnless, StandsIn}
+use Rattle.cq_history.specs.Standing.{View, Enters, reads, AreReady, IsMadeIn, IsRefusedIn, LacksIdsIn, IsFaultIn, IsReadFault, IsWriteFault, Runs, RunsUnless, StandsIn}
 
 module _ (v w : View) (made : (g : ℕ) (P : List Step → Type 0) → v.made g P → w.made g P) (wherever : (P : Tables → Type 0) → v.wherever P → w.wherever P)
     (saw : (g : ℕ) (P : Journal → Type 0) → v.saw g P → w.saw g P) where
@@ -54,6 +54,15 @@ module _ (v w : View) (made : (g : ℕ) (P : List Step → Type 0) → v.made g 
     ready = ready_map c touched op h.group h.ready;
   }
 
+  fault_map : (c : Contents) (touched : List ℕ) (IsOn : Journal → ℕ → Type 0) (group node shard before after : ℕ) → IsFaultIn c touched v IsOn group node shard before after → IsFaultIn c touched w IsOn group node shard before after
+  fault_map c touched IsOn group node shard before after h = record { there = h.there; kept = h.kept; on = saw group _ h.on; rose = h.rose }
+
+  read_fault_map : (run : Run) (c : Contents) (touched : List ℕ) (node shard before after : ℕ) → IsReadFault run c touched v node shard before after → IsReadFault run c touched w node shard before after
+  read_fault_map run c touched node shard before after h = record { group = h.group; entries = enters _ h.entries; fault = fault_map c touched _ h.group node shard before after h.fault }
+
+  write_fault_map : (run : Run) (c : Contents) (touched : List ℕ) (node shard before after : ℕ) → IsWriteFault run c touched v node shard before after → IsWriteFault run c touched w node shard before after
+  write_fault_map run c touched node shard before after h = record { group = h.group; entries = enters none h.entries; fault = fault_map c touched _ h.group node shard before after h.fault }
+
   runs_map : (touched : List ℕ) (run : Run) (e : Environment) (s : Statement) (a : Answer) → Runs touched run e v s a → Runs touched run e w s a
   runs_map touched run e (statement.CreateTable name columns key) a h = (enters none h.0, h.1)
   runs_map touched run e (statement.Distribute table column count beside) a h = (enters none h.0, h.1)
@@ -61,11 +70,13 @@ module _ (v w : View) (made : (g : ℕ) (P : List Step → Type 0) → v.made g 
   runs_map touched run e (statement.Setting which value) a h = (enters none h.0, h.1)
   runs_map touched run e (statement.Select q) (answer.Table names rows) h = (h.0, enters (reads touched) h.1, wherever (λ db. Answers q db rows) h.2)
   runs_map touched run e (statement.Select q) (answer.Failed (fault.Limit what.Rows n)) h = (h.0, enters (reads touched) h.1, λ simple. wherever _ (h.2 simple))
+  runs_map touched run e (statement.Select q) (answer.Failed (fault.Worker node shard before after)) h = read_fault_map run e.catalog touched node shard before after h
   runs_map touched run e (statement.Select q) (answer.Failed fault.Memory) h = (h.0, h.1, enters (reads h.0) h.2)
   runs_map touched run e (statement.Write op) (answer.Tag t) h = (h.0, h.1, made_map e.catalog touched op h.0 h.2)
   runs_map touched run e (statement.Write op) (answer.Failed fault.Duplicate) h = refused_map e.catalog touched op Duplicate h
   runs_map touched run e (statement.Write op) (answer.Failed fault.ValueOutOfRange) h = refused_map e.catalog touched op OutOfRange h
   runs_map touched run e (statement.Write op) (answer.Failed (fault.Limit what.Ids n)) h = (h.0, lacks_map e.catalog touched op h.1)
+  runs_map touched run e (statement.Write op) (answer.Failed (fault.Worker node shard before after)) h = write_fault_map run e.catalog touched node shard before after h
   runs_map touched run e (statement.Write op) (answer.Failed fault.Memory) h = enters none h
   runs_map touched run e s a h = absurd h
 

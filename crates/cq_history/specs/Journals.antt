@@ -5,7 +5,6 @@ use Rattle.cq_value.specs.Tables.{Table, empty_table}
 use Rattle.cq_tree.specs.declared.journal.Who.{Who}
 use Rattle.cq_tree.specs.declared.journal.Entry.{Entry}
 use Rattle.cq_tree.specs.declared.journal.EntryKind.{EntryKind}
-use Rattle.cq_tree.specs.declared.journal.EntryKind.TheVariants.{MoveStart, Cutover, MoveStop}
 use Rattle.cq_catalog.specs.Contents.{Contents}
 use Rattle.cq_journal.specs.Journals.{replay_from}
 use Rattle.cq_journal.specs.Records.{Journal}
@@ -24,29 +23,6 @@ cut place j = record j { entries = take place j.entries }
 -- what a journal's entries leave of a table
 abbrev pub held_in : Contents → Journal → ℕ → Table
 held_in c j table = replay_from table (shape_in c table) (j.base table) j.entries
-
--- ---- where the group is
-
--- the group's node, who is moving it, and where to
-pub record Station : Type 0 where
-  pub node : ℕ
-  pub moving : Option Who
-  pub target : ℕ
-
-abbrev pub moved : Station → Who → EntryKind → Station
-moved s who (MoveStart to) = record { node = s.node; moving = Some who; target = to }
-moved s who Cutover = record { node = s.target; moving = None; target = s.target }
-moved s who MoveStop = record s { moving = None }
-moved s who kind = s
-
-abbrev pub station_of : Journal → Station
-station_of j = fold (λ s (e : Entry). moved s e.who e.kind) (record { node = j.opening; moving = None; target = j.opening }) j.entries
-
-abbrev pub node_of : Journal → ℕ
-node_of j = (station_of j).node
-
-abbrev pub moving_of : Journal → Option Who
-moving_of j = (station_of j).moving
 
 -- ---- the entries of a statement
 

@@ -47,6 +47,8 @@ use Rattle.cq_history.specs.Refusals.{is_alone}
 use Rattle.cq_history.specs.Looks.{tables_in, Agree}
 use Rattle.cq_history.specs.Demands.{demands, rows_with}
 use Rattle.cq_history.specs.Standing.{most_rows, AreAmong, counted, reply_in, HasIds, IsReady, tag_of, StandsIn, Stands}
+use Rattle.cq_store.specs.Stores.{StoreState, Rose}
+use Rattle.cq_history.specs.Faults.{IsShardIn, IsOnNode, near, node_read, below, range_in, AccountsFor, NamesBelow}
 use Rattle.cq_history.specs.Deeds.{Deed, first_seen, in_deed, Does, HasDeed, Grows, GoesOn, Follows, deed_over}
 use Rattle.cq_history.specs.Log.{who_of, AllStandFrom, AllDoneFrom, AllStand, IsWhole, IsLaidOut, IsConsistent, IsAnswered, next_who, answered_by}
 
@@ -347,6 +349,21 @@ ReadLacksMemory = (rules : Rules) (run : Run) (e : Environment) (who : Who) (old
     AreAmong groups (rules.touched e.catalog (statement.Select q)) → Grows who (in_each groups (λ g. entry.Read)) old new → length new ≡ length old →
     IsAnswered rules run e e who old new (Some (statement.Select q)) (answer.Failed fault.Memory)
 
+-- a store of one of the touched groups failed, after those before it were read
+abbrev pub ReadFails : Type 0
+ReadFails = (rules : Rules) (run : Run) (e : Environment) (who : Who) (old new : List Journal) (q : Query) (group node shard before after : ℕ) → rules.refusal e (statement.Select q) ≡ None →
+    let touched = rules.touched e.catalog (statement.Select q) in
+    AreThere touched old → among group touched ≡ true → IsShardIn e.catalog group shard → node ≡ node_read (near e.catalog run.workers touched) (journal_in old group) → Rose before after →
+    Grows who (in_each (below group touched) (λ g. entry.Read)) old new → length new ≡ length old →
+    IsAnswered rules run e e who old new (Some (statement.Select q)) (answer.Failed (fault.Worker node shard before after))
+
+-- a store of one of the touched groups failed before a write was entered
+abbrev pub WriteFails : Type 0
+WriteFails = (rules : Rules) (run : Run) (e : Environment) (who : Who) (journals : List Journal) (op : ShardOp) (group node shard before after : ℕ) → rules.refusal e (statement.Write op) ≡ None →
+    let touched = rules.touched e.catalog (statement.Write op) in
+    AreThere touched journals → among group touched ≡ true → IsShardIn e.catalog group shard → IsOnNode run.workers (journal_in journals group) node → Rose before after →
+    IsAnswered rules run e e who journals journals (Some (statement.Write op)) (answer.Failed (fault.Worker node shard before after))
+
 -- memory ran out before a write was entered
 abbrev pub WriteLacksMemory : Type 0
 WriteLacksMemory = (rules : Rules) (run : Run) (e : Environment) (who : Who) (journals : List Journal) (op : ShardOp) → rules.refusal e (statement.Write op) ≡ None →
@@ -357,3 +374,25 @@ abbrev pub RefusalIsAnswered : Type 0
 RefusalIsAnswered = (rules : Rules) (run : Run) (e : Environment) (who : Who) (journals : List Journal) (f : Fault) →
     IsAnswered rules run e e who journals journals None (answer.Failed f)
     × ((s : Statement) → rules.refusal e s ≡ Some f → IsAnswered rules run e e who journals journals (Some s) (answer.Failed f))
+
+-- ---- counts of faults
+
+-- a store goes on: its node, its shard and whether it is steady stay, and its count doesn't fall
+pub record StoreGoesOn (s t : StoreState) : Type 0 where
+  pub node : t.node ≡ s.node
+  pub shard : t.shard ≡ s.shard
+  pub steady : t.steady ≡ s.steady
+  pub counts : s.faults ≤ t.faults
+
+-- its count accounts for one more answer, which doesn't name it
+abbrev pub OtherAccounts : Type 0
+OtherAccounts = (answers : List Answered) (a : Answered) (s t : StoreState) → StoreGoesOn s t → range_in s.node s.shard a.answer ≡ [] → AccountsFor answers s → AccountsFor (answers ++ a ∷ []) t
+
+-- so it does where the answer names it, and its count rose so meanwhile
+abbrev pub FaultAccounts : Type 0
+FaultAccounts = (answers : List Answered) (a : Answered) (s t : StoreState) (before after : ℕ) → StoreGoesOn s t → s.steady ≡ false → a.answer ≡ answer.Failed (fault.Worker s.node s.shard before after) →
+    s.faults ≤ before → Rose before after → after ≤ t.faults → AccountsFor answers s → AccountsFor (answers ++ a ∷ []) t
+
+-- no answer names the store of a new shard
+abbrev pub NewAccounts : Type 0
+NewAccounts = (answers : List Answered) (s : StoreState) → AllByRecursion (λ (a : Answered). NamesBelow s.shard a.answer) answers → AccountsFor answers s

@@ -18,7 +18,8 @@ use Rattle.cq_catalog.specs.declared.info.Place.TheVariants.{Distributed}
 use Rattle.cq_journal.specs.Fitting.{WriteSetsSorts}
 use Rattle.cq_planning.specs.Database.{shape_in, IsRowOf}
 use Rattle.cq_journal.specs.Records.{Journal}
-use Rattle.cq_history.specs.Journals.{cut, held_in, node_of, moving_of, Step}
+use Rattle.cq_journal.specs.Stations.{node_of, moving_of}
+use Rattle.cq_history.specs.Journals.{cut, held_in, Step}
 
 -- UPDATE leaves the distribution column
 abbrev pub LeavesColumn : Place → Set → Type 0

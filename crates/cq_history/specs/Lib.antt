@@ -2,6 +2,7 @@ pub mod Run
 pub mod Journals
 pub mod Whole
 pub mod Legality
+pub mod Faults
 pub mod Standing
 pub mod Deeds
 pub mod Log

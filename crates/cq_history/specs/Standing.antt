@@ -39,6 +39,8 @@ use Rattle.cq_planning.specs.Touched.{among}
 use Rattle.cq_journal.specs.Records.{Journal}
 use Rattle.cq_history.specs.Journals.{journal_in, cut, held_in, Kinds, none, in_each, TakesPlaces, Step, steps_of, kinds_in, IsLook}
 use Rattle.cq_history.specs.Whole.{held_at}
+use Rattle.cq_history.specs.Faults.{IsShardIn, IsOnNode, near, node_read, below}
+use Rattle.cq_store.specs.Stores.{Rose}
 
 -- a statement as it is judged: what holds of its entries in a group, what holds of the undistributed database wherever that may be taken, and
 -- what holds of the journal of a group as the statement saw it
@@ -120,6 +122,28 @@ pub record LacksIdsIn (c : Contents) (touched : List ℕ) (v : View) (op : Shard
   pub ids : v.saw group (λ j. most_ids < (held_in c j (table_of op)).next + length (inserts (part c op group)))
   pub ready : AreReady c touched v op group
 
+-- ---- stores that fail
+
+-- the store failed that keeps a shard of a touched group, on this node: its count of faults rose. The node is one where the group's journal
+-- allows it
+pub record IsFaultIn (c : Contents) (touched : List ℕ) (v : View) (IsOn : Journal → ℕ → Type 0) (group node shard before after : ℕ) : Type 0 where
+  pub there : among group touched ≡ true
+  pub kept : IsShardIn c group shard
+  pub on : v.saw group (λ j. IsOn j node)
+  pub rose : Rose before after
+
+-- a query found it, after one Read in each touched group before that one
+pub record IsReadFault (run : Run) (c : Contents) (touched : List ℕ) (v : View) (node shard before after : ℕ) : Type 0 where
+  pub group : ℕ
+  pub entries : Enters v (reads (below group touched))
+  pub fault : IsFaultIn c touched v (λ j n. n ≡ node_read (near c run.workers touched) j) group node shard before after
+
+-- a write found it, and has no entry
+pub record IsWriteFault (run : Run) (c : Contents) (touched : List ℕ) (v : View) (node shard before after : ℕ) : Type 0 where
+  pub group : ℕ
+  pub entries : Enters v none
+  pub fault : IsFaultIn c touched v (IsOnNode run.workers) group node shard before after
+
 abbrev pub tag_of : ShardOp → ℕ → Tag
 tag_of (Insert table rows) n = tag.Insert n
 tag_of (Update table filter_ sets) n = tag.Update n
@@ -165,11 +189,13 @@ Runs touched run e v (statement.Setting which value) a = Enters v none × Yields
 Runs touched run e v (statement.Select q) (answer.Table names rows) = (names ≡ (out-Query q).names) × Enters v (reads touched) × v.wherever (λ db. Answers q db rows)
 Runs touched run e v (statement.Select q) (answer.Failed (fault.Limit what.Rows n)) =
     (n ≡ most_rows) × Enters v (reads touched) × (GivesSimply e.catalog q → v.wherever (IsLarge q))
+Runs touched run e v (statement.Select q) (answer.Failed (fault.Worker node shard before after)) = IsReadFault run e.catalog touched v node shard before after
 Runs touched run e v (statement.Select q) (answer.Failed fault.Memory) = (groups : List ℕ) × AreAmong groups touched × Enters v (reads groups)
 Runs touched run e v (statement.Write op) (answer.Tag t) = (n : ℕ) × (t ≡ tag_of op n) × IsMadeIn e.catalog touched v op n
 Runs touched run e v (statement.Write op) (answer.Failed fault.Duplicate) = IsRefusedIn e.catalog touched v op Duplicate
 Runs touched run e v (statement.Write op) (answer.Failed fault.ValueOutOfRange) = IsRefusedIn e.catalog touched v op OutOfRange
 Runs touched run e v (statement.Write op) (answer.Failed (fault.Limit what.Ids n)) = (n ≡ most_ids) × LacksIdsIn e.catalog touched v op
+Runs touched run e v (statement.Write op) (answer.Failed (fault.Worker node shard before after)) = IsWriteFault run e.catalog touched v node shard before after
 Runs touched run e v (statement.Write op) (answer.Failed fault.Memory) = Enters v none
 Runs touched run e v s a = ⊥
 

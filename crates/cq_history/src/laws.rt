@@ -1,8 +1,9 @@
 ghost use Rattle.cq_history.specs.Laws.{PartsAreMade, PartIsRefused, PartsHaveEffect, MadeDoes, RefusedDoes, LacksDoes, ReadDoes, LargeDoes, OneTableNarrows, GrowsOn, GrowsNone, GrowsEach, GrowsInOne, DeedsStay, GrowsByOther, DeedsStand, BlockIsDone, DoneStands};
 ghost use Rattle.cq_history.specs.Demands.{KeptHasDemands};
+ghost use Rattle.cq_history.specs.Laws.{OtherAccounts, FaultAccounts, NewAccounts};
 ghost use Rattle.cq_history.specs.Laws.{TablesSuffice, WantedSuffice};
 ghost use Rattle.cq_history.specs.Laws.{LogBegins, LogGoesOn, AnswersGoOn, IdleIsAnswered, DeedIsAnswered, StaysLaidOut, CatalogGoesOn, LogStands};
-ghost use Rattle.cq_history.specs.Laws.{MadeIsAnswered, RefusedIsAnswered, LacksIsAnswered, ReadIsAnswered, LargeIsAnswered, ReadLacksMemory, WriteLacksMemory, RefusalIsAnswered, OpensLaidOut, CatalogIsAnswered};
+ghost use Rattle.cq_history.specs.Laws.{MadeIsAnswered, RefusedIsAnswered, LacksIsAnswered, ReadIsAnswered, LargeIsAnswered, ReadLacksMemory, ReadFails, WriteFails, WriteLacksMemory, RefusalIsAnswered, OpensLaidOut, CatalogIsAnswered};
 
 /// The reply of a write over the undistributed database, by the replies of its parts in the groups that it touches; and what it
 /// leaves of that database, by what they leave of the groups. Does nothing.
@@ -64,8 +65,17 @@ pub fn answer_laws()
     ensures read { ReadIsAnswered }
     ensures large { LargeIsAnswered }
     ensures read_memory { ReadLacksMemory }
+    ensures read_fails { ReadFails }
+    ensures write_fails { WriteFails }
     ensures write_memory { WriteLacksMemory }
     ensures refusal { RefusalIsAnswered }
     ensures opens { OpensLaidOut }
     ensures catalog { CatalogIsAnswered }
+{}
+
+/// The counts of faults account for the answers that name stores, as statements are answered and shards come. Does nothing.
+pub fn fault_laws()
+    ensures other { OtherAccounts }
+    ensures fault { FaultAccounts }
+    ensures fresh { NewAccounts }
 {}

@@ -3,3 +3,4 @@ pub mod Replies
 pub mod Fitting
 pub mod Laws
 pub mod Records
+pub mod Stations

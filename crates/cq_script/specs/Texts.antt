@@ -83,6 +83,7 @@ fault_text (faults.KeyColumn at) = codes "19 key column at " ++ decimal at
 fault_text (faults.Subquery at) = codes "19 subquery at " ++ decimal at
 fault_text (faults.LocalTable at) = codes "19 local table at " ++ decimal at
 fault_text (faults.GroupedJoin at) = codes "19 grouped join at " ++ decimal at
+fault_text (faults.Worker node shard before after) = codes "20 worker " ++ decimal node ++ codes " shard " ++ decimal shard ++ codes " faults " ++ decimal before ++ codes " to " ++ decimal after
 fault_text faults.Memory = codes "24 out of memory"
 fault_text (faults.NoRoom node free needed) = codes "26 no room on node " ++ decimal node ++ codes ": " ++ decimal free ++ codes " free, " ++ decimal needed ++ codes " needed"
 fault_text (faults.Value row column) = codes "28 value in row " ++ decimal row ++ codes " column " ++ decimal column

@@ -46,6 +46,21 @@ fn push_room(out: &mut Vec<u8>, node: u32, free: u64, needed: u64) -> Result<(),
     push_words(out, b" needed")
 }
 
+fn push_worker(
+    out: &mut Vec<u8>,
+    node: u32,
+    shard: u64,
+    before: u64,
+    after: u64,
+) -> Result<(), AllocError>
+    ensures { OnOk result (out.new.items ≡ out.old.items ++ fault_text (faults.Worker node shard before after)) }
+{
+    push_with(out, b"20 worker ", u64::from(node))?;
+    push_with(out, b" shard ", shard)?;
+    push_with(out, b" faults ", before)?;
+    push_with(out, b" to ", after)
+}
+
 fn push_limit(out: &mut Vec<u8>, what: What, number: u64) -> Result<(), AllocError>
     ensures { OnOk result (out.new.items ≡ out.old.items ++ fault_text (faults.Limit what number)) }
 {
@@ -112,6 +127,12 @@ pub(crate) fn push_fault(out: &mut Vec<u8>, fault: &Fault) -> Result<(), AllocEr
         Fault::Subquery { at } => push_with(out, b"19 subquery at ", *at),
         Fault::LocalTable { at } => push_with(out, b"19 local table at ", *at),
         Fault::GroupedJoin { at } => push_with(out, b"19 grouped join at ", *at),
+        Fault::Worker {
+            node,
+            shard,
+            before,
+            after,
+        } => push_worker(out, *node, *shard, *before, *after),
         Fault::Memory => push_words(out, b"24 out of memory"),
         Fault::NoRoom { node, free, needed } => push_room(out, *node, *free, *needed),
         Fault::Value { row, column } => push_place(out, *row, *column),

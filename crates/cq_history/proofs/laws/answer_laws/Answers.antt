@@ -1,4 +1,5 @@
 use Rattle.cq_history.proofs.Opening.{opens_laid_out, catalog_is_answered}
+use Rattle.cq_history.proofs.Faults.{read_fails, write_fails}
 use Rattle.cq_history.proofs.Answering.{made_is_answered, refused_is_answered, lacks_is_answered, read_is_answered, large_is_answered, read_lacks_memory, write_lacks_memory, refusal_is_answered}
 use Rattle.cq_history.proofs.laws.answer_laws.Goals as goal
 
@@ -31,3 +32,9 @@ returns-clause-opens c = opens_laid_out
 
 pub returns-clause-catalog : goal.returns-clause-catalog
 returns-clause-catalog c = catalog_is_answered
+
+pub returns-clause-read_fails : goal.returns-clause-read_fails
+returns-clause-read_fails c = read_fails
+
+pub returns-clause-write_fails : goal.returns-clause-write_fails
+returns-clause-write_fails c = write_fails
