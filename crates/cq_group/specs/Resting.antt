@@ -1,20 +1,21 @@
 -- Several shard groups between two statements, and after one.
 use Rattle.std.specs.Prelude.{◌≡◌, ℕ, List, map, length, Some, slice_get}
 use Rattle.cq_journal.specs.Records.{Journal}
+use Rattle.cq_journal.specs.Stations.{node_of}
 use Rattle.cq_store.specs.Stores.{StoreState}
 use Rattle.cq_group.specs.declared.group.GroupState.{GroupState}
-use Rattle.cq_group.specs.Groups.{IsKept, IsQuiet, IsSteady, journal_of}
-use Rattle.cq_group.specs.Calls.{GroupGoesOn}
+use Rattle.cq_group.specs.Groups.{IsKept, IsQuiet, journal_of, stores_of}
+use Rattle.cq_group.specs.Calls.{GroupGoesOn, SomeZip, Lifted, Failed}
 
 -- the journals of groups, in their order
 abbrev pub journals_of : {X : Type 0} → List (GroupState X) → List Journal
 journals_of {X} groups = map (λ (g : GroupState X). journal_of g) groups
 
--- what a group keeps between two statements: its stores hold what its journal leaves, nothing is staged, and the stores are steady
+-- what a group keeps between two statements: its stores hold what its journal leaves, nothing is staged, and it is where its journal says
 pub record IsResting {X : Type 0} (state : X → StoreState) (g : GroupState X) : Type 0 where
   pub kept : IsKept state g
   pub quiet : IsQuiet state g
-  pub steady : IsSteady state g
+  pub placed : node_of (journal_of g) ≡ g.node
 
 abbrev pub AreResting : {X : Type 0} → (X → StoreState) → List (GroupState X) → Type 0
 AreResting {X} state groups = (i : ℕ) (g : GroupState X) → slice_get groups i ≡ Some g → IsResting state g
@@ -23,3 +24,15 @@ AreResting {X} state groups = (i : ℕ) (g : GroupState X) → slice_get groups 
 pub record GoOn {X : Type 0} (state : X → StoreState) (old new : List (GroupState X)) : Type 0 where
   pub count : length new ≡ length old
   pub each : (i : ℕ) (g h : GroupState X) → slice_get old i ≡ Some g → slice_get new i ≡ Some h → GroupGoesOn state g h × IsResting state h
+
+-- meanwhile a store of the group at this place failed, which isn't steady: that of this shard on this node
+pub record HasFailedAt {X : Type 0} (state : X → StoreState) (place node shard before after : ℕ) (old new : List (GroupState X)) : Type 0 where
+  pub was : GroupState X
+  pub is : GroupState X
+  pub there : slice_get old place ≡ Some was
+  pub here : slice_get new place ≡ Some is
+  pub failed : SomeZip (Lifted state (Failed node shard before after)) (stores_of was) (stores_of is)
+
+-- of some group
+abbrev pub HasFailed : {X : Type 0} → (X → StoreState) → ℕ → ℕ → ℕ → ℕ → List (GroupState X) → List (GroupState X) → Type 0
+HasFailed state node shard before after old new = (place : ℕ) × HasFailedAt state place node shard before after old new
