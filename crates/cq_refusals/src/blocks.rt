@@ -1,7 +1,7 @@
 ghost use Rattle.std.specs.Prelude.{◌≡◌, ◌++◌, IfOk, OnOk, map};
 ghost use Rattle.std.specs.List.{flat_map};
-ghost use Rattle.cq_planning.specs.Blocks.{blocks_in, blocks_below, blocks_inside};
-ghost use Rattle.cq_refusals.specs.Flaws.{flaws_of as flaws_by_rule};
+ghost use Rattle.cq_planning.specs.Blocks.{blocks_below, blocks_inside};
+ghost use Rattle.cq_refusals.specs.Flaws.{flaws_of as flaws_by_rule, flaws_within};
 
 use crate::flaws::{Flaws, flaws_of, is_taken_whole};
 use cq_catalog::Catalog;
@@ -19,7 +19,7 @@ pub fn put_block(
     repartition: bool,
     found: &mut Items<Flaws>,
 ) -> Result<(), NoMemory>
-    ensures { OnOk result (found.new ≡ found.old ++ map (flaws_by_rule repartition catalog.now) (blocks_in catalog.now q.now)) }
+    ensures { OnOk result (found.new ≡ found.old ++ flaws_within repartition catalog.now q.now) }
 {
     let whole = is_taken_whole(alloc, catalog, q)?;
     found.put(flaws_of(alloc, catalog, q, whole, repartition)?)?;
@@ -37,7 +37,7 @@ fn put_blocks(
     repartition: bool,
     found: &mut Items<Flaws>,
 ) -> Result<(), NoMemory>
-    ensures { OnOk result (found.new ≡ found.old ++ map (flaws_by_rule repartition catalog.now) (flat_map (blocks_in catalog.now) queries.now)) }
+    ensures { OnOk result (found.new ≡ found.old ++ flat_map (flaws_within repartition catalog.now) queries.now) }
 {
     for q in queries {
         put_block(alloc, catalog, q, repartition, found)?;

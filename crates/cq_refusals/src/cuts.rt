@@ -1,7 +1,8 @@
-ghost use Rattle.std.specs.Prelude.{◌≡◌, ◌∷◌, nat_eq};
-ghost use Rattle.std.specs.List.{list_any, flat_map};
+ghost use Rattle.std.specs.Prelude.{◌≡◌, nat_eq};
+ghost use Rattle.std.specs.List.{list_any};
 ghost use Rattle.cq_planning.specs.Blocks.{subqueries_in, subqueries_below};
 ghost use Rattle.cq_planning.specs.Refusals.{orders_all as orders_all_by_rule, is_cut_loosely as is_cut_loosely_by_rule};
+ghost use Rattle.cq_refusals.specs.Cuts.{is_cut_within as is_cut_within_by_rule};
 
 use cq_tree::{FromTree, Key, Query};
 
@@ -13,6 +14,7 @@ fn orders(order: &[Key], output: u32) -> bool
 }
 
 /// Whether an ORDER BY has each of so many outputs.
+#[tactic(auto, using(crate::proofs::NumberLaws::not_all, crate::proofs::NumberLaws::more_of_all, crate::proofs::NumberLaws::all_of_them))]
 fn orders_all(order: &[Key], shown: u32) -> bool
     ensures { result ≡ orders_all_by_rule order.now shown }
 {
@@ -57,7 +59,7 @@ fn has_loose_below(from: &FromTree) -> bool
 /// Whether one of these queries, or a subquery in one, is.
 #[cycle(cuts)]
 fn has_loose_one(queries: &[Query]) -> bool
-    ensures { result ≡ list_any is_cut_loosely_by_rule (flat_map (λ q. q ∷ subqueries_in q) queries.now) }
+    ensures { result ≡ list_any is_cut_within_by_rule queries.now }
 {
     for q in queries {
         if is_cut_loosely(q) || has_loose_cut(q) {

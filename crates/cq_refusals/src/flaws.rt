@@ -1,14 +1,13 @@
 ghost use Rattle.std.specs.Prelude.{◌≡◌, IfOk};
-ghost use Rattle.cq_tree.specs.declared.query.Query.{out-Query};
 ghost use Rattle.cq_planning.specs.Blocks.{is_taken_whole as is_taken_whole_by_rule};
-ghost use Rattle.cq_refusals.specs.Flaws.{flaws_over, flaws_by, flaws_of as flaws_by_rule};
+ghost use Rattle.cq_refusals.specs.Flaws.{flaws_over, flaws_of as flaws_by_rule};
 
 use crate::joins::{are_connected, are_several, is_one_loose};
 use cq_catalog::Catalog;
-use cq_relations::{Relation, plain, put_relations};
+use cq_relations::{Relation, count_columns, plain, put_relations};
 use cq_router::{fast_path, router};
 use cq_shape::{equalities_in, labels_of};
-use cq_tree::{FromTree, Query};
+use cq_tree::Query;
 use cq_value::{Items, NoMemory};
 use std::alloc::Global;
 
@@ -34,12 +33,12 @@ pub fn is_taken_whole(alloc: Global, catalog: &Catalog, q: &Query) -> Result<boo
 /// The flaws of a block that isn't taken whole, by its relations and equalities.
 fn flaws_between(
     alloc: Global,
-    from: &FromTree,
+    width: u64,
     equalities: Items<(u32, u32)>,
     relations: &[Relation],
     repartition: bool,
 ) -> Result<Flaws, NoMemory>
-    ensures { IfOk result (λ f. f ≡ flaws_over repartition from.now equalities relations.now) }
+    ensures { IfOk result (λ f. f ≡ flaws_over repartition width equalities relations.now) }
 {
     let labels = labels_of(alloc, equalities.as_slice())?;
     let plain_ones = plain(alloc, relations)?;
@@ -50,7 +49,7 @@ fn flaws_between(
         plain_ones.as_slice(),
     )?;
     let several = are_several(labels.as_slice(), plain_ones.as_slice());
-    let connected = are_connected(alloc, from, equalities, relations, plain_ones.as_slice())?;
+    let connected = are_connected(alloc, width, equalities, relations, plain_ones.as_slice())?;
     Ok(Flaws {
         needs_repartition: several && (connected && !repartition),
         lacks_equality: several && !connected,
@@ -59,6 +58,7 @@ fn flaws_between(
 }
 
 /// The flaws of a block, which may be taken whole.
+#[tactic(auto, using(crate::proofs::FlawLaws::whole_has_none, crate::proofs::FlawLaws::flaws_found))]
 pub fn flaws_of(
     alloc: Global,
     catalog: &Catalog,
@@ -79,5 +79,6 @@ pub fn flaws_of(
     let mut relations = Items::new(alloc);
     put_relations(alloc, catalog, &mut relations, &q.from, 0, None)?;
     let equalities = equalities_in(alloc, &q.from, &q.filter)?;
-    flaws_between(alloc, &q.from, equalities, relations.as_slice(), repartition)
+    let width = count_columns(&q.from)?;
+    flaws_between(alloc, width, equalities, relations.as_slice(), repartition)
 }

@@ -1,6 +1,5 @@
 ghost use Rattle.std.specs.Prelude.{◌≡◌, ◌++◌, IfOk, not};
 ghost use Rattle.std.specs.List.{list_any};
-ghost use Rattle.cq_meaning.specs.Queries.{columns_in};
 ghost use Rattle.cq_planning.specs.Classes.{first_of_class};
 ghost use Rattle.cq_planning.specs.Components.{is_loose};
 ghost use Rattle.cq_planning.specs.Joins.{are_one_component as are_one_component_by_rule, are_one_class as are_one_class_by_rule, pairs_of_each};
@@ -9,11 +8,10 @@ ghost use Rattle.cq_shape.specs.Labels.{label};
 
 use crate::pairs::{Pairs, put_pairs_of_each};
 use cq_relations::{
-    Block, Distribution, Relation, are_one_component, colocated, count_columns, has_loose,
+    Block, Distribution, Relation, are_one_component, colocated, has_loose,
     is_one_class,
 };
 use cq_shape::labels_of;
-use cq_tree::FromTree;
 use cq_value::NoMemory;
 use std::alloc::Global;
 
@@ -42,19 +40,19 @@ fn are_one_class(labels: &[u32], plain: &[Distribution]) -> bool
     }
 }
 
-/// Whether shared classes connect the components of a FROM, of which these are the equalities, the relations and the distribution columns of those
+/// Whether shared classes connect the components of a FROM of so many columns, of which these are the equalities, the relations and the distribution columns of those
 /// that aren't right sides.
 pub fn are_connected(
     alloc: Global,
-    from: &FromTree,
+    width: u64,
     equalities: Pairs,
     relations: &[Relation],
     plain: &[Distribution],
 ) -> Result<bool, NoMemory>
-    ensures { IfOk result (λ b. b ≡ are_one_class_by_rule (first_of_class (equalities ++ pairs_of_each (columns_in from.now) relations.now)) plain.now) }
+    ensures { IfOk result (λ b. b ≡ are_one_class_by_rule (first_of_class (equalities ++ pairs_of_each width relations.now)) plain.now) }
 {
     let mut pairs = equalities;
-    put_pairs_of_each(&mut pairs, relations, count_columns(from)?)?;
+    put_pairs_of_each(&mut pairs, relations, width)?;
     let labels = labels_of(alloc, pairs.as_slice())?;
     Ok(are_one_class(labels.as_slice(), plain))
 }

@@ -19,6 +19,7 @@ fn few(column: u64) -> Result<u32, NoMemory>
 }
 
 /// Puts a column last with each of those from `start` on and before `end`.
+#[tactic(auto, using(crate::proofs::NumberLaws::one_put, crate::proofs::NumberLaws::all_put))]
 fn put_columns(pairs: &mut Pairs, column: u32, start: u32, end: u32) -> Result<(), NoMemory>
     ensures { OnOk result (pairs.new ≡ pairs.old ++ map (λ x. (column, x)) (numbers start (end - start))) }
 {
