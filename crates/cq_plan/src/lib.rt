@@ -5,7 +5,6 @@
 mod blocks;
 mod class_lists;
 mod groups;
-mod refusals;
 mod sets;
 mod statements;
 mod walk;
@@ -14,7 +13,6 @@ mod writes;
 pub use blocks::{Touched, prune, touches};
 pub use class_lists::{Classes, classes};
 pub use groups::in_order;
-pub use refusals::refusal_of;
 pub use statements::touched;
 pub use walk::{Touch, put_alone};
 pub use writes::{changes_distribution, groups_of_rows, groups_of_where, row_without_value};

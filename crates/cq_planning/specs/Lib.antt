@@ -9,6 +9,8 @@ pub mod Occurrences
 pub mod Touched
 pub mod Parts
 pub mod Routing
+pub mod Blocks
+pub mod Joins
 pub mod Refusals
 pub mod Database
 pub mod Reaching

@@ -1,6 +1,8 @@
--- Which writes planning does not support, by what they say of the distribution column of their table.
-use Rattle.std.specs.Prelude.{ℕ, ◌+◌, List, [], ◌∷◌, Bool, false, nat_eq, not, if◌then◌else◌, Option, None, Some, option_map}
-use Rattle.std.specs.List.{list_any}
+-- Which statements planning does not support: writes by what they say of the distribution column of their table, queries by their blocks.
+use Rattle.std.specs.Prelude.{ℕ, ◌+◌, List, [], ◌∷◌, Bool, false, nat_eq, not, ◌&&◌, ◌||◌, if◌then◌else◌, Option, None, Some, is_some, option_map}
+use Rattle.std.specs.List.{list_any, list_all}
+use Rattle.cq_tree.specs.declared.query.Key.{Key}
+use Rattle.cq_tree.specs.declared.query.Query.{Query, Query'}
 use Rattle.cq_tree.specs.declared.write.Set.{Set}
 use Rattle.cq_tree.specs.declared.write.ShardOp.{ShardOp}
 use Rattle.cq_tree.specs.declared.write.ShardOp.TheVariants.{Insert, Update, Remove}
@@ -14,6 +16,11 @@ use Rattle.cq_catalog.specs.Contents.{Contents}
 use Rattle.cq_catalog.specs.Placement.{place_at}
 use Rattle.cq_catalog.specs.declared.info.Place.{Place}
 use Rattle.cq_catalog.specs.declared.info.Place.TheVariants.{Distributed}
+use Rattle.cq_planning.specs.Touched.{numbers}
+use Rattle.cq_planning.specs.Blocks.{blocks_in, subqueries_in}
+use Rattle.cq_planning.specs.Joins.{needs_repartition, lacks_equality, has_loose_join}
+
+-- ---- writes
 
 -- the first of the rows, counted from n, that has NULL or no value in the column
 abbrev pub first_without : ℕ → ℕ → List Row → Option ℕ
@@ -36,7 +43,31 @@ refusal_of_write c (Insert table rows) = option_map (λ row. unsupported.NoDistr
 refusal_of_write c (Update table filter_ sets) = if changes_distribution (place_at c table) sets then Some unsupported.DistributionColumn else None
 refusal_of_write c (Remove table filter_) = None
 
--- the same of any statement; queries are not judged yet
-abbrev pub refusal_of : Contents → Statement → Option Unsupported
-refusal_of c (statement.Write op) = refusal_of_write c op
-refusal_of c s = None
+-- ---- queries
+
+-- an ORDER BY has each of so many outputs
+abbrev pub orders_all : List Key → ℕ → Bool
+orders_all order shown = list_all (λ at. list_any (λ (k : Key). nat_eq k.item at) order) (numbers 0 shown)
+
+-- a query has LIMIT or OFFSET, and no ORDER BY over all its outputs (U4)
+abbrev pub is_cut_loosely : Query → Bool
+is_cut_loosely (Query' cs ctes ss subs from filter_ grouped keys aggs having items shown distinct order limit offset names) =
+    (is_some limit || not (nat_eq offset 0)) && not (orders_all order shown)
+
+-- why a query isn't supported: the lowest of U1 to U4 that holds. Its blocks are those of which there is no plan, and it may cut a subquery
+abbrev pub refusal_of_query : Bool → Contents → Query → Option Unsupported
+refusal_of_query repartition c q =
+    if list_any (needs_repartition repartition c) (blocks_in c q) then Some unsupported.NeedsRepartition else
+    (if list_any (lacks_equality c) (blocks_in c q) then Some unsupported.NoEquality else
+    (if list_any (has_loose_join c) (blocks_in c q) then Some unsupported.OuterJoin else
+    (if list_any is_cut_loosely (subqueries_in q) then Some unsupported.LimitWithoutOrder else None)))
+
+-- ---- statements
+
+-- why a statement isn't supported, where the first argument says whether `citus.enable_repartition_joins` is on. EXPLAIN is refused as its
+-- query is
+abbrev pub refusal_of : Bool → Contents → Statement → Option Unsupported
+refusal_of repartition c (statement.Select q) = refusal_of_query repartition c q
+refusal_of repartition c (statement.Explain q) = refusal_of_query repartition c q
+refusal_of repartition c (statement.Write op) = refusal_of_write c op
+refusal_of repartition c s = None

@@ -11,7 +11,7 @@ mod value_sets;
 mod whole;
 
 pub use conjuncts::{column_of, put_equalities};
-pub use labels::label_at;
+pub use labels::{label_at, labels_of};
 pub use said::{Said, put_said};
 pub use value_sets::{ValueSet, class_set, copy_set, meet};
-pub use whole::{labels_in, put_all_said};
+pub use whole::{equalities_in, labels_in, put_all_said};

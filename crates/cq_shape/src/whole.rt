@@ -13,7 +13,7 @@ use std::alloc::Global;
 
 /// The equalities of columns among the conjuncts of a FROM and a WHERE.
 #[tactic(auto, using(crate::proofs::Nodes::equalities_whole))]
-fn equalities_in(
+pub fn equalities_in(
     alloc: Global,
     from: &FromTree,
     filter: &Cond,

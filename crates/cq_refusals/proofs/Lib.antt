@@ -1,0 +1,5 @@
+pub mod FlawLaws
+pub mod BlockLaws
+pub mod CutLaws
+pub mod LowestLaws
+pub mod NumberLaws
