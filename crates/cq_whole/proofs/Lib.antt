@@ -1,0 +1,4 @@
+pub mod Nodes
+pub mod StepLaws
+pub mod NumberLaws
+pub mod TableLaws
