@@ -68,6 +68,22 @@ whole_rolled x =
     ∙ (ap (λ (n : ℕ). steps_in_cte_list 0 n x.ctes ++ steps_in (n + ins_in_ctes (hidden-the_row-Query-2 x.ctes)) (roll-Query x)) (count_list x.ctes)
     ∙ ap (λ (n : ℕ). steps_in_cte_list 0 (length x.ctes) x.ctes ++ steps_in (length x.ctes + n) (roll-Query x)) (cte_ins_list x.ctes))
 
+-- how many CTEs and IN subqueries a statement has
+abbrev pub count_in : Query → ℕ
+count_in (Query' cs ctes ss subs from filter_ grouped keys aggs having items shown distinct order limit offset names) =
+    count_of ctes + ins_in_ctes ctes + ins_in_from from + ins_in_all subs
+
+count_rolled : (x : Query-F FromTree Query) → count_in (roll-Query x) ≡ length x.ctes + ins_in_cte_list x.ctes + ins_in (roll-Query x)
+unfolding roll-Query denote.Hole.Carrier.roll
+count_rolled x = sum (count_of (hidden-the_row-Query-2 x.ctes)) (length x.ctes) (ins_in_ctes (hidden-the_row-Query-2 x.ctes)) (ins_in_cte_list x.ctes) (ins_in_from x.from) (ins_in_all (hidden-the_row-Query-2 x.subs)) (count_list x.ctes) (cte_ins_list x.ctes)
+  where
+    sum : (a b c d e f : ℕ) → a ≡ b → c ≡ d → a + c + e + f ≡ b + d + (e + f)
+    sum a b c d e f g h = omega arith
+
+pub count_whole : (q : Query) → count_in q ≡ length (out-Query q).ctes + ins_in_cte_list (out-Query q).ctes + ins_in q
+count_whole q =
+    ap count_in (sym (roll-out-Query q)) ∙ (count_rolled (out-Query q) ∙ ap (λ (v : Query). length (out-Query q).ctes + ins_in_cte_list (out-Query q).ctes + ins_in v) (roll-out-Query q))
+
 pub ins_query : (q : Query) → ins_in q ≡ ins_in_from (out-Query q).from + ins_in_list (out-Query q).subs
 ins_query q = ap ins_in (sym (roll-out-Query q)) ∙ ins_rolled (out-Query q)
 

@@ -3,12 +3,14 @@ use Rattle.std.proofs.Common.{◌≡◌, ℕ, ◌+◌, ◌<◌, ◌≤◌, List,
 use Rattle.std.specs.List.{AllByRecursion}
 use Rattle.std.proofs.lemmas.List.{length-set, length-replicate}
 use Rattle.cq_tree.specs.declared.query.FromTree.{FromTree, Table, Sub', Result, Cross', Inner', Left', more_of-FromTree, end_of-FromTree}
-use Rattle.cq_tree.specs.declared.query.Query.{Query, Query', Row_of-Query, end_of-Query, more_of-Query}
+use Rattle.cq_tree.specs.declared.query.Query.{Query, Query', out-Query, Row_of-Query, end_of-Query, more_of-Query}
 use Rattle.cq_meaning.specs.Values.{Results, Tables}
 use Rattle.cq_meaning.specs.Queries.{meaning}
 use Rattle.cq_meaning.specs.Results.{ins_in, ins_in_from, ins_in_all, ins_in_ctes, count_of, with_ins_from, with_ins_all, with_ctes, results_of}
-use Rattle.cq_meaning_laws.specs.WholeRules.{Step, steps_in, steps_in_from, steps_in_all, steps_in_ctes, steps_of, no_results, with_step, with_steps}
+use Rattle.cq_meaning_laws.specs.WholeRules.{Step, steps_in, steps_in_from, steps_in_all, steps_in_ctes, steps_of, no_results, with_step, with_steps, has_large_step, AreSafeSteps}
 use Rattle.cq_meaning_laws.proofs.WholeLaws.{from_in_steps, all_in_steps, ctes_in_steps, results_in_steps}
+use Rattle.cq_whole.specs.StepLists.{ins_in_cte_list, steps_in_cte_list}
+use Rattle.cq_whole.proofs.Nodes.{count_in, count_whole, steps_whole}
 use Rattle.cq_whole.proofs.StepLaws.{IsPlaced}
 
 placed_both : (n : ℕ) (xs ys : List Step) → AllByRecursion (IsPlaced n) xs → AllByRecursion (IsPlaced n) ys → AllByRecursion (IsPlaced n) (xs ++ ys)
@@ -61,11 +63,6 @@ length_after : (db : Tables) (rs : Results) (steps : List Step) → length (with
 length_after db rs [] = refl
 length_after db rs (s ∷ more) = length_after db (with_step db rs s) more ∙ length-set rs s.number (meaning s.query db rs)
 
--- how many CTEs and IN subqueries a statement has
-abbrev pub count_in : Query → ℕ
-count_in (Query' cs ctes ss subs from filter_ grouped keys aggs having items shown distinct order limit offset names) =
-    count_of ctes + ins_in_ctes ctes + ins_in_from from + ins_in_all subs
-
 length_results : (q : Query) → length (results_of q []) ≡ count_in q
 length_results (Query' cs ctes ss subs from filter_ grouped keys aggs having items shown distinct order limit offset names) =
     let n : ℕ = count_of ctes in
@@ -96,3 +93,32 @@ placed_of q = subst (λ n. AllByRecursion (IsPlaced n) (steps_of q)) (sym (lengt
         let s : m + ins_in_from from + ins_in_all subs ≤ all = omega arith in
         placed_both all (steps_in_ctes 0 n ctes) (steps_in_from m from ++ steps_in_all (m + ins_in_from from) subs) (placed_ctes all 0 n ctes c i)
         (placed_both all (steps_in_from m from) (steps_in_all (m + ins_in_from from) subs) (placed_from all m from f) (placed_all all (m + ins_in_from from) subs s))
+
+-- ---- the agenda of a statement
+
+pub agenda_steps : (q : Query) (s1 s2 : List Step) (n1 n2 : ℕ) → n1 ≡ length (out-Query q).ctes → s1 ≡ steps_in_cte_list 0 n1 (out-Query q).ctes →
+    n2 ≡ n1 + ins_in_cte_list (out-Query q).ctes → s2 ≡ s1 ++ steps_in n2 q → s2 ≡ steps_of q
+agenda_steps q s1 s2 n1 n2 e1 f1 e2 f2 =
+    let n : ℕ = length (out-Query q).ctes in
+    let m2 : n2 ≡ n + ins_in_cte_list (out-Query q).ctes = omega (arith, e1, e2) in
+    f2
+    ∙ (ap (λ (us : List Step). us ++ steps_in n2 q) (f1 ∙ ap (λ k. steps_in_cte_list 0 k (out-Query q).ctes) e1)
+    ∙ (ap (λ k. steps_in_cte_list 0 n (out-Query q).ctes ++ steps_in k q) m2 ∙ sym (steps_whole q)))
+
+pub agenda_count : (q : Query) (n1 n2 n3 : ℕ) → n1 ≡ length (out-Query q).ctes → n2 ≡ n1 + ins_in_cte_list (out-Query q).ctes → n3 ≡ n2 + ins_in q → n3 ≡ length (steps_of q)
+agenda_count q n1 n2 n3 e1 e2 e3 = omega (arith, e1, e2, e3, count_whole q, length_of q)
+
+-- ---- over the agenda of a statement
+
+module _ (db : Tables) (q : Query) (steps : List Step) (places : Results) (e : steps ≡ steps_of q) (f : places ≡ no_results q) where
+  pub agenda_safe : AreSafeSteps db (no_results q) (steps_of q) → AreSafeSteps db places steps
+  agenda_safe h = subst (λ (us : List Step). AreSafeSteps db places us) (sym e) (subst (λ (rs : Results). AreSafeSteps db rs (steps_of q)) (sym f) h)
+
+  pub agenda_placed : AllByRecursion (IsPlaced (length places)) steps
+  agenda_placed = subst (λ (us : List Step). AllByRecursion (IsPlaced (length places)) us) (sym e) (subst (λ (rs : Results). AllByRecursion (IsPlaced (length rs)) (steps_of q)) (sym f) (placed_of q))
+
+  pub agenda_results : (rs : Results) → rs ≡ with_steps db places steps → rs ≡ results_of q db
+  agenda_results rs g = g ∙ ((λ i. with_steps db (f i) (e i)) ∙ sym (results_in_steps db q))
+
+  pub agenda_large : has_large_step db (no_results q) (steps_of q) ≡ has_large_step db places steps
+  agenda_large = sym (λ i. has_large_step db (f i) (e i))
