@@ -1,4 +1,3 @@
 pub mod Nodes
-pub mod StepLaws
 pub mod NumberLaws
 pub mod TableLaws

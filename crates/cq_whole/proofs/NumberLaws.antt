@@ -11,7 +11,10 @@ use Rattle.cq_meaning_laws.specs.WholeRules.{Step, steps_in, steps_in_from, step
 use Rattle.cq_meaning_laws.proofs.WholeLaws.{from_in_steps, all_in_steps, ctes_in_steps, results_in_steps}
 use Rattle.cq_whole.specs.StepLists.{ins_in_cte_list, steps_in_cte_list}
 use Rattle.cq_whole.proofs.Nodes.{count_in, count_whole, steps_whole}
-use Rattle.cq_whole.proofs.StepLaws.{IsPlaced}
+
+-- the number of a step is among so many
+abbrev pub IsPlaced : ℕ → Step → Type 0
+IsPlaced n s = s.number < n
 
 placed_both : (n : ℕ) (xs ys : List Step) → AllByRecursion (IsPlaced n) xs → AllByRecursion (IsPlaced n) ys → AllByRecursion (IsPlaced n) (xs ++ ys)
 placed_both n [] ys p q = q

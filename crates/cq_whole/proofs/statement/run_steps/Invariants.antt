@@ -1,7 +1,7 @@
 use Rattle.std.proofs.Common.{◌≡◌, drop, length}
 use Rattle.std.specs.List.{AllByRecursion}
 use Rattle.cq_meaning_laws.specs.WholeRules.{with_steps, has_large_step, AreSafeSteps}
-use Rattle.cq_whole.proofs.StepLaws.{IsPlaced}
+use Rattle.cq_whole.proofs.NumberLaws.{IsPlaced}
 use Rattle.cq_whole.proofs.statement.run_steps.Given as goal
 
 abbrev pub invariant-loop-step : goal.invariant-loop-step

@@ -1,6 +1,5 @@
 use Rattle.std.proofs.Common.{rules, append_assoc, arith}
 use Rattle.cq_whole.proofs.Nodes.{ins_query, steps_query, ins_sub, steps_sub, ins_cross, steps_cross, ins_inner, steps_inner, ins_left, steps_left}
-use Rattle.cq_whole.proofs.StepLaws.{put_subquery, number_subquery}
 use Rattle.cq_whole.proofs.steps.+steps.Goals as goal
 
 pub put_ins-returns-clause-steps : goal.put_ins-returns-clause-steps
