@@ -1,4 +1,4 @@
--- The numbers of a statement's steps are below their count.
+-- The numbers of a statement's steps are below their count, and what stands in its schedule.
 use Rattle.std.proofs.Common.{◌≡◌, ℕ, ◌+◌, ◌<◌, ◌≤◌, List, [], ◌∷◌, ◌++◌, length, replicate, refl, sym, ap, subst, ◌∙◌, arith}
 use Rattle.std.specs.List.{AllByRecursion}
 use Rattle.std.proofs.lemmas.List.{length-set, length-replicate}
@@ -97,31 +97,31 @@ placed_of q = subst (λ n. AllByRecursion (IsPlaced n) (steps_of q)) (sym (lengt
         placed_both all (steps_in_ctes 0 n ctes) (steps_in_from m from ++ steps_in_all (m + ins_in_from from) subs) (placed_ctes all 0 n ctes c i)
         (placed_both all (steps_in_from m from) (steps_in_all (m + ins_in_from from) subs) (placed_from all m from f) (placed_all all (m + ins_in_from from) subs s))
 
--- ---- the agenda of a statement
+-- ---- what is put into the schedule
 
-pub agenda_steps : (q : Query) (s1 s2 : List Step) (n1 n2 : ℕ) → n1 ≡ length (out-Query q).ctes → s1 ≡ steps_in_cte_list 0 n1 (out-Query q).ctes →
+pub schedule_steps : (q : Query) (s1 s2 : List Step) (n1 n2 : ℕ) → n1 ≡ length (out-Query q).ctes → s1 ≡ steps_in_cte_list 0 n1 (out-Query q).ctes →
     n2 ≡ n1 + ins_in_cte_list (out-Query q).ctes → s2 ≡ s1 ++ steps_in n2 q → s2 ≡ steps_of q
-agenda_steps q s1 s2 n1 n2 e1 f1 e2 f2 =
+schedule_steps q s1 s2 n1 n2 e1 f1 e2 f2 =
     let n : ℕ = length (out-Query q).ctes in
     let m2 : n2 ≡ n + ins_in_cte_list (out-Query q).ctes = omega (arith, e1, e2) in
     f2
     ∙ (ap (λ (us : List Step). us ++ steps_in n2 q) (f1 ∙ ap (λ k. steps_in_cte_list 0 k (out-Query q).ctes) e1)
     ∙ (ap (λ k. steps_in_cte_list 0 n (out-Query q).ctes ++ steps_in k q) m2 ∙ sym (steps_whole q)))
 
-pub agenda_count : (q : Query) (n1 n2 n3 : ℕ) → n1 ≡ length (out-Query q).ctes → n2 ≡ n1 + ins_in_cte_list (out-Query q).ctes → n3 ≡ n2 + ins_in q → n3 ≡ length (steps_of q)
-agenda_count q n1 n2 n3 e1 e2 e3 = omega (arith, e1, e2, e3, count_whole q, length_of q)
+pub schedule_count : (q : Query) (n1 n2 n3 : ℕ) → n1 ≡ length (out-Query q).ctes → n2 ≡ n1 + ins_in_cte_list (out-Query q).ctes → n3 ≡ n2 + ins_in q → n3 ≡ length (steps_of q)
+schedule_count q n1 n2 n3 e1 e2 e3 = omega (arith, e1, e2, e3, count_whole q, length_of q)
 
--- ---- over the agenda of a statement
+-- ---- what is computed over it
 
 module _ (db : Tables) (q : Query) (steps : List Step) (places : Results) (e : steps ≡ steps_of q) (f : places ≡ no_results q) where
-  pub agenda_safe : AreSafeSteps db (no_results q) (steps_of q) → AreSafeSteps db places steps
-  agenda_safe h = subst (λ (us : List Step). AreSafeSteps db places us) (sym e) (subst (λ (rs : Results). AreSafeSteps db rs (steps_of q)) (sym f) h)
+  pub schedule_safe : AreSafeSteps db (no_results q) (steps_of q) → AreSafeSteps db places steps
+  schedule_safe h = subst (λ (us : List Step). AreSafeSteps db places us) (sym e) (subst (λ (rs : Results). AreSafeSteps db rs (steps_of q)) (sym f) h)
 
-  pub agenda_placed : AllByRecursion (IsPlaced (length places)) steps
-  agenda_placed = subst (λ (us : List Step). AllByRecursion (IsPlaced (length places)) us) (sym e) (subst (λ (rs : Results). AllByRecursion (IsPlaced (length rs)) (steps_of q)) (sym f) (placed_of q))
+  pub schedule_placed : AllByRecursion (IsPlaced (length places)) steps
+  schedule_placed = subst (λ (us : List Step). AllByRecursion (IsPlaced (length places)) us) (sym e) (subst (λ (rs : Results). AllByRecursion (IsPlaced (length rs)) (steps_of q)) (sym f) (placed_of q))
 
-  pub agenda_results : (rs : Results) → rs ≡ with_steps db places steps → rs ≡ results_of q db
-  agenda_results rs g = g ∙ ((λ i. with_steps db (f i) (e i)) ∙ sym (results_in_steps db q))
+  pub schedule_results : (rs : Results) → rs ≡ with_steps db places steps → rs ≡ results_of q db
+  schedule_results rs g = g ∙ ((λ i. with_steps db (f i) (e i)) ∙ sym (results_in_steps db q))
 
-  pub agenda_large : has_large_step db (no_results q) (steps_of q) ≡ has_large_step db places steps
-  agenda_large = sym (λ i. has_large_step db (f i) (e i))
+  pub schedule_large : has_large_step db (no_results q) (steps_of q) ≡ has_large_step db places steps
+  schedule_large = sym (λ i. has_large_step db (f i) (e i))

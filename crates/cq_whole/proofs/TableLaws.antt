@@ -1,10 +1,11 @@
 -- A whole statement depends on the rows of its tables alone.
 use Rattle.std.proofs.Common.{◌≡◌, ◌+◌, ℕ, Bool, true, List, [], ◌∷◌, ◌++◌, filter, refl, sym, ◌∙◌, ap, subst}
 use Rattle.std.specs.Prelude.{◌||◌, slice_set}
+use Rattle.std.specs.List.{AllByRecursion}
 use Rattle.std.specs.List.Sorted.{IsPermutation}
 use Rattle.cq_tree.specs.declared.query.FromTree.{FromTree, Table, Sub', Result, Cross', Inner', Left', end_of-FromTree, more_of-FromTree}
 use Rattle.cq_tree.specs.declared.query.Query.{Query, Query', end_of-Query, more_of-Query}
-use Rattle.cq_meaning.specs.Values.{Row, Tables, Results}
+use Rattle.cq_meaning.specs.Values.{Row, Tables, Results, table_rows}
 use Rattle.cq_meaning.specs.Joins.{product, left_join}
 use Rattle.cq_meaning.specs.Groups.{distinct_if}
 use Rattle.cq_meaning.specs.Sorting.{keys_cmp, sorted, cut}
@@ -13,8 +14,12 @@ use Rattle.cq_meaning.specs.Limits.{has_large_group, is_large, is_large_from}
 use Rattle.cq_meaning.specs.Results.{results_of, Answers}
 use Rattle.cq_meaning_laws.specs.WholeRules.{Step, steps_of, no_results, with_step, with_steps, has_large_step}
 use Rattle.cq_meaning_laws.proofs.WholeLaws.{results_in_steps}
-use Rattle.cq_whole.specs.Tables.{tables_from, tables_in, tables_of_steps, tables_of_statement, Agree}
+use Rattle.cq_whole.specs.Tables.{tables_from, tables_in, tables_of_steps, tables_of_statement}
 use Rattle.cq_whole.specs.Laws.{TablesSuffice}
+
+-- these tables have the same rows in both
+abbrev Agree : List ℕ → Tables → Tables → Type 0
+Agree tables db dc = AllByRecursion (λ t. table_rows db t ≡ table_rows dc t) tables
 
 agree_left : (xs ys : List ℕ) (db dc : Tables) → Agree (xs ++ ys) db dc → Agree xs db dc
 agree_left [] ys db dc a = tt

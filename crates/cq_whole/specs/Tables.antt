@@ -1,9 +1,8 @@
 -- The tables that a whole statement's query reads.
-use Rattle.std.specs.Prelude.{◌≡◌, ℕ, List, [], ◌∷◌, ◌++◌}
-use Rattle.std.specs.List.{AllByRecursion, flat_map}
+use Rattle.std.specs.Prelude.{ℕ, List, [], ◌∷◌, ◌++◌}
+use Rattle.std.specs.List.{flat_map}
 use Rattle.cq_tree.specs.declared.query.FromTree.{FromTree, Table, Sub', Result, Cross', Inner', Left', end_of-FromTree, more_of-FromTree, end_of-Query, more_of-Query}
 use Rattle.cq_tree.specs.declared.query.Query.{Query, Query'}
-use Rattle.cq_meaning.specs.Values.{Tables, table_rows}
 use Rattle.cq_meaning_laws.specs.WholeRules.{Step, steps_of}
 
 abbrev mutual
@@ -27,7 +26,3 @@ tables_of_steps = flat_map (λ s. tables_in s.query)
 -- the tables of a statement's CTEs and IN subqueries at any depth, and those of its own FROM
 abbrev pub tables_of_statement : Query → List ℕ
 tables_of_statement q = tables_of_steps (steps_of q) ++ tables_in q
-
--- these tables have the same rows in both
-abbrev pub Agree : List ℕ → Tables → Tables → Type 0
-Agree tables db dc = AllByRecursion (λ t. table_rows db t ≡ table_rows dc t) tables

@@ -4,7 +4,8 @@ use cq_value::{NoMemory, Results, Rows};
 use std::alloc::Global;
 use std::marker::Model;
 
-/// How many results have their numbers, each of which has its place already, without rows. Contracts see it as this number.
+/// How many results have a number. Each has its place, without rows yet, so a number is a place in memory and can't be too large.
+/// Contracts see the count.
 #[derive(Drop)]
 pub struct Numbers {
     alloc: Global,
@@ -22,6 +23,7 @@ impl Model for Numbers {
 }
 
 impl Numbers {
+    /// No number is given yet.
     pub fn new(alloc: Global) -> Numbers
         ensures { result ≡ 0 }
     {

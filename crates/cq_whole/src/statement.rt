@@ -5,7 +5,7 @@ ghost use Rattle.cq_meaning.specs.Limits.{is_large};
 ghost use Rattle.cq_meaning.specs.Safety.{IsSafeQuery};
 ghost use Rattle.cq_meaning_laws.specs.WholeRules.{steps_of as steps_by_rule, no_results, with_steps, has_large_step, AreSafeSteps};
 
-use crate::steps::{Agenda, Step, steps_of};
+use crate::steps::{Schedule, Step, steps_of};
 use cq_queries::{Tables, run_query};
 use cq_tree::{Query, QueryError};
 use cq_value::{NoMemory, Results, Rows};
@@ -52,7 +52,7 @@ pub fn run_statement(alloc: Global, q: &Query, tables: &Tables) -> Result<Rows, 
     ensures fits { IfOk result (λ rows. (has_large_step tables.now (no_results q.now) (steps_by_rule q.now) ≡ false) × (is_large q.now tables.now (results_of q.now tables.now) ≡ false)) }
     ensures err { IfErr result (λ e. e ≡ QueryError.Rows → (has_large_step tables.now (no_results q.now) (steps_by_rule q.now) ≡ true) ⊎ (is_large q.now tables.now (results_of q.now tables.now) ≡ true)) }
 {
-    let Agenda {
+    let Schedule {
         steps,
         results: places,
     } = memory(steps_of(alloc, q))?;

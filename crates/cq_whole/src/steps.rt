@@ -29,18 +29,21 @@ impl<'a> Model for Step<'a> {
 }
 
 impl<'a> Step<'a> {
+    /// The step of a query whose result has this number.
     fn new(number: u64, query: &'a Query) -> Step<'a>
         ensures { result ≡ record { number = number; query = query.now } }
     {
         Step { number, query }
     }
 
+    /// The number of its result.
     pub fn number(&self) -> u64
         ensures { result ≡ self.now.number }
     {
         self.number
     }
 
+    /// Its query.
     pub fn query(&self) -> &'a Query
         ensures { result.now ≡ self.now.query }
     {
@@ -48,6 +51,7 @@ impl<'a> Step<'a> {
     }
 }
 
+/// Steps in the order in which they are computed.
 pub type Steps<'a> = Items<Step<'a>>;
 
 /// Puts the steps of the IN subqueries in a query last.
@@ -111,7 +115,7 @@ fn put_subqueries<'a>(
 }
 
 /// Numbers so many results.
-fn number_all(count: usize, numbers: &mut Numbers) -> Result<(), NoMemory>
+fn number_all(count: u64, numbers: &mut Numbers) -> Result<(), NoMemory>
     ensures { OnOk result (numbers.new ≡ numbers.old + count) }
 {
     for _number in 0..count {
@@ -138,21 +142,22 @@ fn put_ctes<'a>(
 
 /// The CTEs and IN subqueries of a statement in the order in which they are computed, and a place for the result of each.
 #[derive(Drop)]
-pub struct Agenda<'a> {
+pub struct Schedule<'a> {
     pub steps: Steps<'a>,
     pub results: Results,
 }
 
-/// All steps of a statement's query.
-pub fn steps_of(alloc: Global, query: &Query) -> Result<Agenda<'_>, NoMemory>
-    ensures { IfOk result (λ agenda. (agenda.steps ≡ steps_by_rule query.now) × (agenda.results ≡ no_results query.now)) }
+/// The steps of a statement's query. A CTE has its number by its place in WITH; IN subqueries are numbered behind all CTEs, in the order in
+/// which their SELECTs stand in the text.
+pub fn steps_of(alloc: Global, query: &Query) -> Result<Schedule<'_>, NoMemory>
+    ensures { IfOk result (λ schedule. (schedule.steps ≡ steps_by_rule query.now) × (schedule.results ≡ no_results query.now)) }
 {
     let mut steps = Steps::new(alloc);
     let mut numbers = Numbers::new(alloc);
-    number_all(query.ctes.as_slice().len(), &mut numbers)?;
+    number_all(query.ctes.len(), &mut numbers)?;
     put_ctes(query.ctes.as_slice(), &mut steps, &mut numbers)?;
     put_ins(query, &mut steps, &mut numbers)?;
-    Ok(Agenda {
+    Ok(Schedule {
         steps,
         results: numbers.into_results(),
     })

@@ -54,9 +54,9 @@ fn put_tables_of_steps(steps: &[Step<'_>], tables: &mut Positions) -> Result<(),
 pub fn tables_of(alloc: Global, query: &Query) -> Result<Positions, NoMemory>
     ensures { IfOk result (λ tables. tables ≡ tables_of_statement query.now) }
 {
-    let agenda = steps_of(alloc, query)?;
+    let schedule = steps_of(alloc, query)?;
     let mut tables = Positions::new(alloc);
-    put_tables_of_steps(agenda.steps.as_slice(), &mut tables)?;
+    put_tables_of_steps(schedule.steps.as_slice(), &mut tables)?;
     put_tables_in(query, &mut tables)?;
     Ok(tables)
 }
