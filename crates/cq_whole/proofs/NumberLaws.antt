@@ -6,7 +6,7 @@ use Rattle.cq_tree.specs.declared.query.FromTree.{FromTree, Table, Sub', Result,
 use Rattle.cq_tree.specs.declared.query.Query.{Query, Query', out-Query, Row_of-Query, end_of-Query, more_of-Query}
 use Rattle.cq_meaning.specs.Values.{Results, Tables}
 use Rattle.cq_meaning.specs.Queries.{meaning}
-use Rattle.cq_meaning.specs.Results.{ins_in, ins_in_from, ins_in_all, ins_in_ctes, count_of, with_ins_from, with_ins_all, with_ctes, results_of}
+use Rattle.cq_meaning.specs.Results.{ins_in, ins_in_from, ins_in_all, ins_in_ctes, count_of, with_ins_from, with_ctes, results_of}
 use Rattle.cq_meaning_laws.specs.WholeRules.{Step, steps_in, steps_in_from, steps_in_all, steps_in_ctes, steps_of, no_results, with_step, with_steps, has_large_step, AreSafeSteps}
 use Rattle.cq_meaning_laws.proofs.WholeLaws.{from_in_steps, all_in_steps, ctes_in_steps, results_in_steps}
 use Rattle.cq_whole.specs.StepLists.{ins_in_cte_list, steps_in_cte_list}

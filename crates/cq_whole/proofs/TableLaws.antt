@@ -1,5 +1,5 @@
 -- A whole statement depends on the rows of its tables alone.
-use Rattle.std.proofs.Common.{◌≡◌, ◌+◌, ℕ, Bool, true, List, [], ◌∷◌, ◌++◌, filter, refl, sym, ◌∙◌, ap, subst}
+use Rattle.std.proofs.Common.{◌≡◌, ◌+◌, ℕ, List, [], ◌∷◌, ◌++◌, filter, refl, sym, ◌∙◌, ap, subst}
 use Rattle.std.specs.Prelude.{◌||◌, slice_set}
 use Rattle.std.specs.List.{AllByRecursion}
 use Rattle.std.specs.List.Sorted.{IsPermutation}
@@ -91,7 +91,7 @@ module _ (db dc : Tables) where
       let here : Agree (tables_in s.query) db dc = agree_left (tables_in s.query) (tables_of_steps more) db dc h in
       let next : Agree (tables_of_steps more) db dc = agree_right (tables_in s.query) (tables_of_steps more) db dc h in
       let rest : has_large_step db (with_step db rs s) more ≡ has_large_step dc (with_step dc rs s) more =
-          large_steps_alike (with_step db rs s) more next ∙ ap (λ (us : Results). has_large_step dc us more) (step_alike rs s here) in
+      large_steps_alike (with_step db rs s) more next ∙ ap (λ (us : Results). has_large_step dc us more) (step_alike rs s here) in
       λ i. large_alike rs s.query here i || rest i
 
   -- ---- a whole statement

@@ -1,4 +1,4 @@
-use Rattle.std.proofs.Common.{rules, append_assoc, arith}
+use Rattle.std.proofs.Common.{rules, append_assoc}
 use Rattle.cq_whole.proofs.Nodes.{ins_query, steps_query, ins_sub, steps_sub, ins_cross, steps_cross, ins_inner, steps_inner, ins_left, steps_left}
 use Rattle.cq_whole.proofs.steps.+steps.Goals as goal
 
