@@ -39,6 +39,16 @@ fn run_steps(
     Ok(results)
 }
 
+/// The results of a statement's CTEs and IN subqueries, each computed once, in the order in which they are needed.
+fn compute_results(alloc: Global, q: &Query, tables: &Tables) -> Result<Results, QueryError>
+    requires { AreSafeSteps tables.now (no_results q.now) (steps_by_rule q.now) }
+    ensures ok { IfOk result (λ all. (all ≡ results_of q.now tables.now) × (has_large_step tables.now (no_results q.now) (steps_by_rule q.now) ≡ false)) }
+    ensures err { IfErr result (λ e. e ≡ QueryError.Rows → has_large_step tables.now (no_results q.now) (steps_by_rule q.now) ≡ true) }
+{
+    let Schedule { steps, results } = memory(steps_of(alloc, q))?;
+    run_steps(alloc, steps.as_slice(), tables, results)
+}
+
 /// The rows of a statement's query over tables. Its CTEs and IN subqueries are computed first, each once, in the order in which they are
 /// needed.
 ///
@@ -52,10 +62,6 @@ pub fn run_statement(alloc: Global, q: &Query, tables: &Tables) -> Result<Rows, 
     ensures fits { IfOk result (λ rows. (has_large_step tables.now (no_results q.now) (steps_by_rule q.now) ≡ false) × (is_large q.now tables.now (results_of q.now tables.now) ≡ false)) }
     ensures err { IfErr result (λ e. e ≡ QueryError.Rows → (has_large_step tables.now (no_results q.now) (steps_by_rule q.now) ≡ true) ⊎ (is_large q.now tables.now (results_of q.now tables.now) ≡ true)) }
 {
-    let Schedule {
-        steps,
-        results: places,
-    } = memory(steps_of(alloc, q))?;
-    let results = run_steps(alloc, steps.as_slice(), tables, places)?;
+    let results = compute_results(alloc, q, tables)?;
     run_query(alloc, q, tables, &results)
 }
