@@ -14,8 +14,8 @@ use Rattle.cq_meaning.specs.declared.Columns.{Columns}
 use Rattle.cq_meaning.specs.Values.{table_rows}
 use Rattle.cq_meaning.specs.Widths.{bits_of_kind, AllWithin, IsBoundWrite}
 use Rattle.cq_meaning.specs.Effects.{table_of}
-use Rattle.cq_meaning_laws.proofs.SafeLaws.{safe_query, safe_write}
-use Rattle.cq_meaning_laws.proofs.WholeLaws.{holds_at_first}
+use Rattle.cq_meaning_laws.proofs.SafeLaws.{safe_write}
+use Rattle.cq_meaning_laws.proofs.WholeLaws.{statements_fit}
 use Rattle.cq_planning.specs.Database.{shape_in}
 use Rattle.cq_planning_laws.specs.Laid.{IsLaidStatement}
 use Rattle.cq_planning_laws.proofs.Laid.{bound_is_laid}
@@ -28,7 +28,6 @@ use Rattle.cq_written_laws.specs.TextLaws.{Spells}
 use Rattle.cq_written_laws.proofs.Texts.{text_writes_bound, text_statements_bound}
 use Rattle.cq_history.specs.Computable.{column_bits, IsReadable, FitsTable, IsWritable, IsComputable}
 use Rattle.cq_bound_laws.specs.Laws.{UpdatesSetSorts, HasColumns, TextsCompute}
-use Rattle.cq_bound_laws.proofs.Alone.{no_steps}
 use Rattle.cq_bound_laws.proofs.Sorts.{typed_sets_sorts}
 use Rattle.cq_bound_laws.proofs.Statements.{rows_of_insertions_fit, settings_fit}
 use Rattle.cq_bound_laws.proofs.Tables.{bits_from, bits_are, tables_fit, types_from, types_are, tables_typed}
@@ -49,9 +48,9 @@ module _ (c : Contents) (text : List ℕ) (a : Ast) (whole : IsWhole c) (columns
       let cs : Columns = record { tables = bits_from c.tables 0; results = b.0 } in
       let laid : IsLaidStatement c (λ i. length (slice_index_or b.0 i [])) q = bound_is_laid cs c q (λ t. ap length (bits_are c.tables t) ∙ length-map (shape_in c t).kinds bits_of_kind) columns b.1 in
       record {
-        safe = λ alone db within.
-            let none : length b.0 ≡ 0 = b.1.2 ∙ ap length (no_steps q alone) in
-            safe_query cs db [] (holds_at_first cs db (λ t. subst (λ ks. AllWithin ks (table_rows db t)) (sym (bits_are c.tables t)) (within t)) 0 none) q b.1.0;
+        safe = λ db within.
+            let fits = statements_fit cs db q (λ t. subst (λ ks. AllWithin ks (table_rows db t)) (sym (bits_are c.tables t)) (within t)) b.1 in
+            (fits.0, λ small. (fits.1 small).1);
         narrows = queries_narrow c (λ i. length (slice_index_or b.0 i [])) q whole laid;
         large = large_narrow c (λ i. length (slice_index_or b.0 i [])) q whole laid;
       }

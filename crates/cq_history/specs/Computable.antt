@@ -1,5 +1,5 @@
 -- What the binder makes sure of, so that a statement can be computed and planned.
-use Rattle.std.specs.Prelude.{◌≡◌, ◌<◌, ◌^◌, ⊤, ℕ, true, List, [], map}
+use Rattle.std.specs.Prelude.{◌≡◌, ◌<◌, ◌^◌, ⊤, ℕ, false, List, [], map}
 use Rattle.std.specs.List.{AllByRecursion}
 use Rattle.cq_value.specs.Tables.{Pair}
 use Rattle.cq_tree.specs.declared.query.Query.{Query}
@@ -11,7 +11,8 @@ use Rattle.cq_meaning.specs.Values.{Row, Tables, table_rows}
 use Rattle.cq_meaning.specs.Widths.{AllWithin, Within, bits_of_kind}
 use Rattle.cq_meaning.specs.Safety.{IsSafeQuery}
 use Rattle.cq_meaning.specs.Effects.{IsSafeWrite, table_of}
-use Rattle.cq_meaning.specs.Results.{Answers}
+use Rattle.cq_meaning.specs.Results.{Answers, results_of}
+use Rattle.cq_meaning_laws.specs.WholeRules.{steps_of, no_results, has_large_step, AreSafeSteps}
 use Rattle.cq_catalog.specs.Contents.{Contents}
 use Rattle.cq_catalog.specs.Placement.{place_at}
 use Rattle.cq_catalog.specs.declared.info.Place.TheVariants.{Local}
@@ -20,15 +21,19 @@ use Rattle.cq_planning.specs.Database.{shape_in, Narrows, IsLarge}
 use Rattle.cq_planning.specs.Reaching.{IsTouchedBy}
 use Rattle.cq_planning.specs.Simple.{GivesSimply}
 use Rattle.cq_planning.specs.Touched.{touched}
-use Rattle.cq_history.specs.Refusals.{is_alone}
 
 -- the bits of a table's columns
 abbrev pub column_bits : Contents → ℕ → List ℕ
 column_bits c table = map bits_of_kind (shape_in c table).kinds
 
+-- a query's CTEs and IN subqueries are safe, each over the results of those before it, and so is the query, where none of them has a group that
+-- is too large
+abbrev pub IsSafeStatement : Query → Tables → Type 0
+IsSafeStatement q db = AreSafeSteps db (no_results q) (steps_of q) × (has_large_step db (no_results q) (steps_of q) ≡ false → IsSafeQuery q db (results_of q db))
+
 -- a query that is safe over all rows within their columns' widths, and for which the groups that it doesn't touch don't matter
 pub record IsReadable (c : Contents) (q : Query) : Type 0 where
-  pub safe : is_alone q ≡ true → (db : Tables) → ((t : ℕ) → AllWithin (column_bits c t) (table_rows db t)) → IsSafeQuery q db []
+  pub safe : (db : Tables) → ((t : ℕ) → AllWithin (column_bits c t) (table_rows db t)) → IsSafeStatement q db
   pub narrows : (rows : List Row) → Narrows c (touched c (statement.Select q)) (λ db. Answers q db rows)
   pub large : GivesSimply c q → Narrows c (touched c (statement.Select q)) (IsLarge q)
 

@@ -1,5 +1,5 @@
 -- Why a bound statement doesn't run, and the rules of planning by which answers are judged.
-use Rattle.std.specs.Prelude.{ℕ, ◌+◌, Bool, true, false, ◌&&◌, not, nat_eq, Option, Some, None, option_map}
+use Rattle.std.specs.Prelude.{ℕ, ◌+◌, Bool, true, false, not, nat_eq, Option, Some, None, option_map}
 use Rattle.cq_tree.specs.declared.query.Query.{Query, Query'}
 use Rattle.cq_tree.specs.declared.statement.Statement.{Statement}
 use Rattle.cq_tree.specs.declared.statement.Statement.TheVariants as statement
@@ -10,23 +10,21 @@ use Rattle.cq_catalog.specs.Placement.{place_at}
 use Rattle.cq_answer.specs.declared.fault.Fault.{Fault}
 use Rattle.cq_answer.specs.declared.fault.Fault.TheVariants as fault
 use Rattle.cq_planning.specs.Refusals.{refusal_of}
-use Rattle.cq_planning.specs.Routing.{fits_router}
 use Rattle.cq_planning.specs.Touched.{touched}
-use Rattle.cq_history.specs.Run.{Rules}
+use Rattle.cq_history.specs.Run.{Environment, Rules}
 
 -- a query with no CTE, and no IN subquery at any depth of its FROM
 abbrev pub is_alone : Query → Bool
 is_alone (Query' cs ctes ss subs from filter_ grouped keys aggs having items shown distinct order limit offset names) =
     nat_eq (count_of ctes + ins_in_from from + ins_in_all subs) 0
 
--- whether the program runs a statement: of queries those that the router takes, which are of one shard group at most, and of writes those of
--- a table that isn't local
+-- whether the program runs a statement: all queries, and of writes those of a table that isn't local
 abbrev pub is_built : Contents → Statement → Bool
 is_built c (statement.CreateTable name columns key) = true
 is_built c (statement.Distribute table column count beside) = true
 is_built c (statement.Reference table) = true
 is_built c (statement.Setting which value) = true
-is_built c (statement.Select q) = is_alone q && fits_router c q
+is_built c (statement.Select q) = true
 is_built c (statement.Write op) = not (is_local (place_at c (table_of op)))
 is_built c s = false
 
@@ -36,8 +34,8 @@ unless_built true None = None
 unless_built false None = Some fault.NotBuilt
 
 -- what planning doesn't support comes before what isn't built
-abbrev pub refusal_in : Contents → Statement → Option Fault
-refusal_in c s = unless_built (is_built c s) (option_map (λ why. fault.Unsupported why) (refusal_of c s))
+abbrev pub refusal_in : Environment → Statement → Option Fault
+refusal_in e s = unless_built (is_built e.catalog s) (option_map (λ why. fault.Unsupported why) (refusal_of e.settings.repartition e.catalog s))
 
 abbrev pub rules : Rules
-rules = record { touched = touched; refusal = λ e s. refusal_in e.catalog s }
+rules = record { touched = touched; refusal = refusal_in }
