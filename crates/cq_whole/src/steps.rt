@@ -1,4 +1,4 @@
-ghost use Rattle.std.specs.Prelude.{◌≡◌, ◌+◌, ◌++◌, length, IfOk, OnOk};
+ghost use Rattle.std.specs.Prelude.{◌≡◌, ◌+◌, ◌++◌, IfOk, OnOk};
 ghost use Rattle.cq_meaning.specs.Results.{ins_in, ins_in_from};
 ghost use Rattle.cq_meaning_laws.specs.WholeRules.{steps_in, steps_in_from, steps_of as steps_by_rule, no_results};
 ghost use Rattle.cq_whole.specs.StepLists.{ins_in_list, steps_in_list, ins_in_cte_list, steps_in_cte_list};
