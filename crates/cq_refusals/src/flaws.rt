@@ -20,6 +20,7 @@ pub struct Flaws {
 }
 
 /// Whether the fast path or the router takes a query, with all subqueries of its FROM.
+#[tactic(auto, using(crate::proofs::FlawLaws::taken_fast, crate::proofs::FlawLaws::taken_otherwise))]
 pub fn is_taken_whole(alloc: Global, catalog: &Catalog, q: &Query) -> Result<bool, NoMemory>
     ensures { IfOk result (λ b. b ≡ is_taken_whole_by_rule catalog.now q.now) }
 {
