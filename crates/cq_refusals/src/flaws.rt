@@ -43,12 +43,7 @@ fn flaws_between(
 {
     let labels = labels_of(alloc, equalities.as_slice())?;
     let plain_ones = plain(alloc, relations)?;
-    let has_loose_join = is_one_loose(
-        alloc,
-        labels.as_slice(),
-        relations,
-        plain_ones.as_slice(),
-    )?;
+    let has_loose_join = is_one_loose(alloc, labels.as_slice(), relations, plain_ones.as_slice())?;
     let several = are_several(labels.as_slice(), plain_ones.as_slice());
     let connected = are_connected(alloc, width, equalities, relations, plain_ones.as_slice())?;
     Ok(Flaws {
