@@ -71,3 +71,16 @@ module _ (repartition : Bool) (c : Contents) where
     pub below_left : (a b : FromTree) (on : Cond) → flaws (blocks_below c whole (Left a b on)) ≡ flaws (blocks_below c whole a) ++ flaws (blocks_below c whole b)
     unfolding hidden-the_row-FromTree-1 hidden
     below_left a b on = map-append (flaws_of repartition c) (blocks_below c whole a) (blocks_below c whole b)
+
+    -- of a subquery as code finds it, by whether it stays
+    pub inside_is_below : (from : FromTree) (q seen inner : Query) (b : Bool) → from ≡ Sub q → seen ≡ q → inner ≡ q → b ≡ (whole || is_some (pushable c seen)) → b ≡ true →
+        flaws (blocks_inside c whole inner) ≡ flaws (blocks_below c whole from)
+    inside_is_below from q seen inner b is s i e y =
+        ap (λ (r : Query). flaws (blocks_inside c whole r)) i
+        ∙ (sym (below_staying q (ap (λ (r : Query). whole || is_some (pushable c r)) (sym s) ∙ (sym e ∙ y))) ∙ ap (λ (f : FromTree). flaws (blocks_below c whole f)) (sym is))
+
+    pub within_is_below : (from : FromTree) (q seen inner : Query) (b : Bool) → from ≡ Sub q → seen ≡ q → inner ≡ q → b ≡ (whole || is_some (pushable c seen)) → b ≡ false →
+        flaws_within repartition c inner ≡ flaws (blocks_below c whole from)
+    within_is_below from q seen inner b is s i e n =
+        ap (flaws_within repartition c) i
+        ∙ (sym (below_alone q (ap (λ (r : Query). whole || is_some (pushable c r)) (sym s) ∙ (sym e ∙ n))) ∙ ap (λ (f : FromTree). flaws (blocks_below c whole f)) (sym is))

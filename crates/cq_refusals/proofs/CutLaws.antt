@@ -1,5 +1,5 @@
 -- Cuts in a query, as code sees it.
-use Rattle.std.proofs.Common.{◌≡◌, Bool, List, ◌++◌, refl, sym, ap, ◌∙◌, ◌||◌, ◌&&◌, not, is_some, nat_eq}
+use Rattle.std.proofs.Common.{◌≡◌, Bool, true, false, List, ◌++◌, refl, sym, ap, ◌∙◌, ◌||◌, ◌&&◌, not, is_some, nat_eq}
 use Rattle.std.specs.List.{list_any}
 use Rattle.std.proofs.lemmas.List.Folds.{list_any-append}
 use denote.Hole.Carrier.{hidden}
@@ -13,12 +13,19 @@ use Rattle.cq_planning.specs.Refusals.{is_cut_loosely, orders_all}
 use Rattle.cq_refusals.specs.Cuts.{is_cut_within}
 
 -- whether one of them is cut
-abbrev cut : List Query → Bool
+abbrev pub cut : List Query → Bool
 cut = list_any is_cut_loosely
 
+-- an OR by its parts, one after the other
+pub or_first : (r a b whole : Bool) → r ≡ a → r ≡ true → whole ≡ (a || b) → r ≡ whole
+or_first r a b whole e y is = y ∙ (ap (λ (x : Bool). x || b) (sym y ∙ e) ∙ sym is)
+
+pub or_second : (r s a b whole : Bool) → r ≡ a → r ≡ false → s ≡ b → whole ≡ (a || b) → s ≡ whole
+or_second r s a b whole e n f is = f ∙ (ap (λ (x : Bool). x || b) (sym n ∙ e) ∙ sym is)
+
 or_apart : (a b d : Bool) → (a || (b || d)) ≡ ((a || b) || d)
-or_apart Bool.true b d = refl
-or_apart Bool.false b d = refl
+or_apart true b d = refl
+or_apart false b d = refl
 
 all_row : {n : _} (qs : Row_of-Query n) → cut (each_with_subqueries qs) ≡ list_any is_cut_within (items-the_row-Query _ qs)
 all_row end_of-Query = refl

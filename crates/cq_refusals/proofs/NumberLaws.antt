@@ -23,10 +23,10 @@ module _ (column : ℕ) where
 
 module _ (p : ℕ → Bool) where
   pub not_all : (k n : ℕ) (whole : Bool) → k < n → p k ≡ false → list_all p (numbers k (n - k)) ≡ whole → false ≡ whole
-  not_all k n whole h no so = ap (λ (b : Bool). b && list_all p (numbers (k + 1) (n - (k + 1)))) (sym no) ∙ (ap (list_all p) (sym (from_next k n h)) ∙ so)
+  not_all k n whole h fails so = ap (λ (b : Bool). b && list_all p (numbers (k + 1) (n - (k + 1)))) (sym fails) ∙ (ap (list_all p) (sym (from_next k n h)) ∙ so)
 
   pub more_of_all : (k n : ℕ) (whole : Bool) → k < n → p k ≡ true → list_all p (numbers k (n - k)) ≡ whole → list_all p (numbers (k + 1) (n - (k + 1))) ≡ whole
-  more_of_all k n whole h yes so = ap (λ (b : Bool). b && list_all p (numbers (k + 1) (n - (k + 1)))) (sym yes) ∙ (ap (list_all p) (sym (from_next k n h)) ∙ so)
+  more_of_all k n whole h passes so = ap (λ (b : Bool). b && list_all p (numbers (k + 1) (n - (k + 1)))) (sym passes) ∙ (ap (list_all p) (sym (from_next k n h)) ∙ so)
 
   pub all_of_them : (k n : ℕ) (whole : Bool) → n ≤ k → list_all p (numbers k (n - k)) ≡ whole → true ≡ whole
   all_of_them k n whole h so = ap (list_all p) (sym (from_end k n h)) ∙ so

@@ -1,5 +1,6 @@
-ghost use Rattle.std.specs.Prelude.{◌≡◌, ◌++◌, IfOk, OnOk, map};
+ghost use Rattle.std.specs.Prelude.{◌≡◌, ◌++◌, ◌||◌, is_some, IfOk, OnOk, map};
 ghost use Rattle.std.specs.List.{flat_map};
+ghost use Rattle.cq_planning.specs.Pushable.{pushable as pushable_by_rule};
 ghost use Rattle.cq_planning.specs.Blocks.{blocks_below, blocks_inside};
 ghost use Rattle.cq_refusals.specs.Flaws.{flaws_of as flaws_by_rule, flaws_within};
 
@@ -9,6 +10,17 @@ use cq_relations::pushable;
 use cq_tree::{FromTree, Query};
 use cq_value::{Items, NoMemory};
 use std::alloc::Global;
+
+/// Whether a subquery of the FROM of a block, which may be taken whole, stays in it.
+fn stays(alloc: Global, catalog: &Catalog, q: &Query, whole: bool) -> Result<bool, NoMemory>
+    ensures { IfOk result (λ b. b ≡ (whole || is_some (pushable_by_rule catalog.now q.now))) }
+{
+    if whole {
+        Ok(true)
+    } else {
+        Ok(pushable(alloc, catalog, q)?.is_some())
+    }
+}
 
 /// Puts the flaws of a query that is planned by itself last, and of the blocks in it.
 #[cycle(blocks)]
@@ -76,7 +88,7 @@ fn put_below(
     match from {
         FromTree::Table(..) | FromTree::Result(..) => Ok(()),
         FromTree::Sub(q) => {
-            if whole || pushable(alloc, catalog, q.get())?.is_some() {
+            if stays(alloc, catalog, q.get(), whole)? {
                 put_inside(alloc, catalog, q.get(), whole, repartition, found)
             } else {
                 put_block(alloc, catalog, q.get(), repartition, found)

@@ -20,6 +20,7 @@ pub struct Flaws {
 }
 
 /// Whether the fast path or the router takes a query, with all subqueries of its FROM.
+#[tactic(auto, using(crate::proofs::FlawLaws::taken_fast, crate::proofs::FlawLaws::taken_otherwise))]
 pub fn is_taken_whole(alloc: Global, catalog: &Catalog, q: &Query) -> Result<bool, NoMemory>
     ensures { IfOk result (λ b. b ≡ is_taken_whole_by_rule catalog.now q.now) }
 {
@@ -42,12 +43,7 @@ fn flaws_between(
 {
     let labels = labels_of(alloc, equalities.as_slice())?;
     let plain_ones = plain(alloc, relations)?;
-    let has_loose_join = is_one_loose(
-        alloc,
-        labels.as_slice(),
-        relations,
-        plain_ones.as_slice(),
-    )?;
+    let has_loose_join = is_one_loose(alloc, labels.as_slice(), relations, plain_ones.as_slice())?;
     let several = are_several(labels.as_slice(), plain_ones.as_slice());
     let connected = are_connected(alloc, width, equalities, relations, plain_ones.as_slice())?;
     Ok(Flaws {

@@ -1,15 +1,14 @@
 ghost use Rattle.std.specs.Prelude.{◌≡◌, ◌++◌, IfOk, not};
-ghost use Rattle.std.specs.List.{list_any};
+ghost use Rattle.std.specs.List.{list_any, list_all};
 ghost use Rattle.cq_planning.specs.Classes.{first_of_class};
-ghost use Rattle.cq_planning.specs.Components.{is_loose};
+ghost use Rattle.cq_planning.specs.Components.{is_loose, is_one_class as is_one_class_by_rule};
 ghost use Rattle.cq_planning.specs.Joins.{are_one_component as are_one_component_by_rule, are_one_class as are_one_class_by_rule, pairs_of_each};
 ghost use Rattle.cq_planning.specs.Relations.{distributions, is_plain};
 ghost use Rattle.cq_shape.specs.Labels.{label};
 
 use crate::pairs::{Pairs, put_pairs_of_each};
 use cq_relations::{
-    Block, Distribution, Relation, are_one_component, colocated, has_loose,
-    is_one_class,
+    Block, Distribution, Relation, are_one_component, colocated, has_loose, is_one_class,
 };
 use cq_shape::labels_of;
 use cq_value::NoMemory;
@@ -25,17 +24,25 @@ pub fn are_several(labels: &[u32], plain: &[Distribution]) -> bool
     }
 }
 
+/// Whether two distribution columns are of one class.
+fn is_beside(labels: &[u32], a: Distribution, b: Distribution) -> bool
+    ensures { result ≡ is_one_class_by_rule (label labels.now) a.column b.column }
+{
+    is_one_class(labels, a.column, b.column)
+}
+
+fn are_beside(labels: &[u32], first: Distribution, others: &[Distribution]) -> bool
+    ensures { result ≡ list_all (λ e. is_one_class_by_rule (label labels.now) first.column e.column) others.now }
+{
+    others.iter().all(|other| is_beside(labels, first, *other))
+}
+
 /// Whether all these distribution columns are of one class.
 fn are_one_class(labels: &[u32], plain: &[Distribution]) -> bool
     ensures { result ≡ are_one_class_by_rule (label labels.now) plain.now }
 {
     match plain {
-        [first, others @ ..] => {
-            let column = first.column;
-            others
-                .iter()
-                .all(|other| is_one_class(labels, column, other.column))
-        }
+        [first, others @ ..] => are_beside(labels, *first, others),
         [] => true,
     }
 }

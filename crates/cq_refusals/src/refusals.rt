@@ -1,4 +1,5 @@
 ghost use Rattle.std.specs.Prelude.{◌≡◌, IfOk};
+ghost use Rattle.std.specs.List.{list_any};
 ghost use Rattle.cq_planning.specs.Refusals.{refusal_of as refusal_by_rule, refusal_of_write as refusal_of_write_by_rule, refusal_of_query as refusal_of_query_by_rule};
 ghost use Rattle.cq_refusals.specs.Flaws.{lowest as lowest_by_rule};
 
@@ -32,15 +33,33 @@ fn refusal_of_write(catalog: &Catalog, op: &ShardOp) -> Option<Unsupported>
     }
 }
 
+fn one_needs_repartition(flaws: &[Flaws]) -> bool
+    ensures { result ≡ list_any (λ f. f.needs_repartition) flaws.now }
+{
+    flaws.iter().any(|f| f.needs_repartition)
+}
+
+fn one_lacks_equality(flaws: &[Flaws]) -> bool
+    ensures { result ≡ list_any (λ f. f.lacks_equality) flaws.now }
+{
+    flaws.iter().any(|f| f.lacks_equality)
+}
+
+fn one_has_loose_join(flaws: &[Flaws]) -> bool
+    ensures { result ≡ list_any (λ f. f.has_loose_join) flaws.now }
+{
+    flaws.iter().any(|f| f.has_loose_join)
+}
+
 /// The lowest refusal of blocks with these flaws, where a subquery may be cut without a full order.
 fn lowest(flaws: &[Flaws], is_cut: bool) -> Option<Unsupported>
     ensures { result ≡ lowest_by_rule flaws.now is_cut }
 {
-    if flaws.iter().any(|f| f.needs_repartition) {
+    if one_needs_repartition(flaws) {
         Some(Unsupported::NeedsRepartition)
-    } else if flaws.iter().any(|f| f.lacks_equality) {
+    } else if one_lacks_equality(flaws) {
         Some(Unsupported::NoEquality)
-    } else if flaws.iter().any(|f| f.has_loose_join) {
+    } else if one_has_loose_join(flaws) {
         Some(Unsupported::OuterJoin)
     } else if is_cut {
         Some(Unsupported::LimitWithoutOrder)
@@ -49,6 +68,7 @@ fn lowest(flaws: &[Flaws], is_cut: bool) -> Option<Unsupported>
     }
 }
 
+#[tactic(auto, using(crate::proofs::LowestLaws::lowest_is))]
 fn refusal_of_query(
     alloc: Global,
     q: &Query,
