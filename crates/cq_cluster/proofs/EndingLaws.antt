@@ -24,7 +24,7 @@ use Rattle.cq_group.specs.declared.group.GroupTable.{GroupTable}
 use Rattle.cq_group.specs.declared.group.GroupState.{GroupState}
 use Rattle.cq_group.specs.Groups.{Outline, outline, outlines, shape_at, entries_of, journal_of, stores_of, node_at, copies_of, AreReplicasFrom, IsReplica, IsTableKept, IsTableQuiet, IsKept}
 use Rattle.cq_group.specs.Groups.{AreDistinct as HaveNumbers}
-use Rattle.cq_cluster.specs.Cluster.{Either, node_of, IsShardOf, IsGroupOf, IsReferenceGroup, IsCovered, IsReferenced, AreGroups, IsWaiting, held, everywhere, AreWorkers}
+use Rattle.cq_cluster.specs.Cluster.{Either, home_of, IsShardOf, IsGroupOf, IsReferenceGroup, IsCovered, IsReferenced, AreGroups, IsWaiting, held, everywhere, AreWorkers}
 use Rattle.cq_cluster.specs.Closing.{all_stores, stores_at, AreKept, HasRoom, HaveRoom, HaveBack}
 use Rattle.cq_group.specs.Resting.{journals_of}
 use Rattle.cq_cluster.specs.Ending.{record_of, IsShard, IsIn, AreDistinct, AreOfGroup, AreOfReference, BeginWith, AreOnNode, IsFinal}
@@ -178,7 +178,7 @@ module _ {X : Type 0} (state : X → StoreState) (nodes : ℕ) (some : 0 < nodes
   all_used node (x ∷ xs) low high all = ((omega (arith, all.0, low), omega (arith, all.0, high)), all_used node xs low high all.1)
 
   -- a group's node is one of those that the run uses
-  within_nodes : (i : ℕ) (g : GroupState X) → g.node ≡ node_of nodes i → g.node ≤ nodes
+  within_nodes : (i : ℕ) (g : GroupState X) → g.node ≡ home_of nodes i → g.node ≤ nodes
   within_nodes i g at = let low = mod_below i nodes some in omega (arith, at, low)
 
   closed_one : (c : Contents) (colocation i : ℕ) (co : Colocation) (g : GroupState X) → slice_get c.colocations colocation ≡ Some co → i < co.count → IsGroupOf state nodes c colocation co i g → IsClosed c g

@@ -13,7 +13,7 @@ use Rattle.cq_journal.specs.declared.journal.Journal.{Journal}
 use Rattle.cq_group.specs.declared.group.GroupState.{GroupState}
 use Rattle.cq_group.specs.Groups.{IsKept, IsQuiet, Outline, outlines, stores_of, entries_of}
 use Rattle.cq_group.specs.Opening.{AreFresh, AreFreshFrom, first_shard, AreSpareFrom}
-use Rattle.cq_cluster.specs.Steps.{IsSteadyOn, IsAdopted, AllWait, Lacks}
+use Rattle.cq_cluster.specs.Steps.{IsStoreOf, IsAdopted, AllWait, Lacks}
 use Rattle.cq_cluster.specs.References.{AreCopies, AreOnEach, HaveLent, IsNewReference}
 use Rattle.cq_cluster.proofs.ShardLaws.{stores_steady}
 use Rattle.cq_cluster.proofs.ListLaws.{there, got_more}
@@ -145,20 +145,20 @@ module _ {X : Type 0} (state : X → StoreState) where
         only = outlined ∙ ap (λ (v : List Outline). v ++ (table, shape, first_shard state xs, length xs) ∷ []) empty ∙ ap (λ (v : Outline). v ∷ []) o;
       }
 
-  on_from : (from : ℕ) (xs : List X) → AreSpareFrom from 0 (map state xs) → AllByRecursion (λ (x : X). IsTrue (state x).steady) xs → (j : ℕ) (x : X) → slice_get xs j ≡ Some x → IsSteadyOn (from + j + 1) (state x)
+  on_from : (from : ℕ) (xs : List X) → AreSpareFrom from 0 (map state xs) → AllByRecursion (λ (x : X). IsTrue (state x).steady) xs → (j : ℕ) (x : X) → slice_get xs j ≡ Some x → IsStoreOf (from + j + 1) (state x)
   on_from from [] spare steady j x s = cc
   on_from from (y ∷ ys) spare steady zero x s =
       let same : y ≡ x = cc in
       let node : (state y).node ≡ from + 1 = spare.1 in
-      subst (λ (z : X). IsSteadyOn (from + 0 + 1) (state z)) same (record { of_node = omega (arith, node); steady = steady.0 })
-  on_from from (y ∷ ys) spare steady (suc j) x s = subst (λ n. IsSteadyOn n (state x)) (let e : from + 1 + j + 1 ≡ from + suc j + 1 = omega arith in e) (on_from (from + 1) ys spare.2 steady.1 j x s)
+      subst (λ (z : X). IsStoreOf (from + 0 + 1) (state z)) same (record { of_node = omega (arith, node); steady = steady.0 })
+  on_from from (y ∷ ys) spare steady (suc j) x s = subst (λ n. IsStoreOf n (state x)) (let e : from + 1 + j + 1 ≡ from + suc j + 1 = omega arith in e) (on_from (from + 1) ys spare.2 steady.1 j x s)
 
   -- the stores of a table that was taken out of a reference group
   pub on_each : (xs : List X) → AreSpareFrom 0 0 (map state xs) → AllByRecursion (λ (x : X). IsTrue (state x).steady) xs → AreOnEach state xs
-  on_each xs spare steady j x s = subst (λ n. IsSteadyOn n (state x)) (let e : 0 + j + 1 ≡ j + 1 = omega arith in e) (on_from 0 xs spare steady j x s)
+  on_each xs spare steady j x s = subst (λ n. IsStoreOf n (state x)) (let e : 0 + j + 1 ≡ j + 1 = omega arith in e) (on_from 0 xs spare steady j x s)
 
   -- without the last one
-  pub on_fewer : (xs rest : List X) (x : X) → xs ≡ rest ++ x ∷ [] → AreOnEach state xs → AreOnEach state rest × IsSteadyOn (length rest + 1) (state x)
+  pub on_fewer : (xs rest : List X) (x : X) → xs ≡ rest ++ x ∷ [] → AreOnEach state xs → AreOnEach state rest × IsStoreOf (length rest + 1) (state x)
   on_fewer xs rest x same all = (λ j y s. all j y (ap (λ (v : List X). slice_get v j) same ∙ still rest x j y s), all (length rest) x (ap (λ (v : List X). slice_get v (length rest)) same ∙ last rest x))
     where
       still : (ys : List X) (z : X) (j : ℕ) (y : X) → slice_get ys j ≡ Some y → slice_get (ys ++ z ∷ []) j ≡ Some y

@@ -39,7 +39,7 @@ use Rattle.cq_cluster.specs.Room.{shards_on, taken}
 use Rattle.cq_group.specs.declared.group.GroupState.{GroupState}
 use Rattle.cq_group.specs.Groups.{IsKept, IsNamed, IsQuiet, IsSteady, Outline, outlines, shape_at, entries_of, journal_of}
 use Rattle.cq_group.specs.Resting.{journals_of}
-use Rattle.cq_cluster.specs.Cluster.{Either, node_of, IsCovered, IsReferenced, IsWaiting, held, everywhere, AreGroups, whole_at, AreWorkers, run_of, stores_in}
+use Rattle.cq_cluster.specs.Cluster.{Either, home_of, IsCovered, IsReferenced, IsWaiting, held, everywhere, AreGroups, whole_at, AreWorkers, run_of, stores_in}
 use Rattle.cq_cluster.specs.Steps.{Goes, AreGone, more_at, nothing_more, AreSpent, HaveStores, AreOpened, IsUnwritten, shard_outline, Adding, short_of, shortage_from, shortage, shards_of, HasOpened, IsBegun, forgotten, CanBegin, IsOpen, IsUndone}
 use Rattle.cq_cluster.proofs.ListLaws.{there, item_at}
 use Rattle.cq_cluster.proofs.GoneLaws.{goes_same, more_none, gone_journals, held_gone, everywhere_gone}
@@ -139,7 +139,7 @@ module _ {X : Type 0} (state : X → StoreState) (nodes : ℕ) (some : 0 < nodes
             let i = h - co.first_group in
             let index : h ≡ co.first_group + i = omega (arith, first, least) in
             let at = all.each colocation i co g joins (omega (arith, first, count, least, most)) (subst (λ n. slice_get groups n ≡ Some g) index s) in
-            (f.free, at.node ∙ ap (node_of nodes) (let e : i ≡ h - o.first_group = omega (arith, first) in e));
+            (f.free, at.node ∙ ap (home_of nodes) (let e : i ≡ h - o.first_group = omega (arith, first) in e));
         stores = stores;
         gone = gone_free o.table o.first_group (shard_outline (shards_of nodes o) shape) groups free;
         held = λ place h. let zero_more = none_on nodes some place h in omega (arith, zero_more);
@@ -174,7 +174,7 @@ module _ {X : Type 0} (state : X → StoreState) (nodes : ℕ) (some : 0 < nodes
             let f = free h g s in
             elim (behind_opened groups opened h g s) [
               | inl p ↦ absurd (let below = slice_get_within groups h g p in omega (arith, below, first, least, all.count))
-              | inr p ↦ (let at = fresh (h - length groups) g p.1 in (f.free, at.node ∙ ap (node_of nodes) (let e : h - length groups ≡ h - o.first_group = omega (arith, first, all.count) in e)))
+              | inr p ↦ (let at = fresh (h - length groups) g p.1 in (f.free, at.node ∙ ap (home_of nodes) (let e : h - length groups ≡ h - o.first_group = omega (arith, first, all.count) in e)))
             ];
         stores = stores;
         gone = gone_free o.table o.first_group (shard_outline (shards_of nodes o) shape) (groups ++ opened) free;
