@@ -13,14 +13,14 @@ use Rattle.cq_store.specs.Workers.{room}
 use Rattle.cq_store.specs.declared.worker.Worker.{Worker}
 use Rattle.cq_cluster.specs.Room.{shards_on}
 use Rattle.cq_group.specs.declared.group.GroupState.{GroupState}
-use Rattle.cq_group.specs.Groups.{IsKept, IsQuiet, IsSteady, Outline, outlines, entries_of, stores_of, shape_at}
+use Rattle.cq_group.specs.Groups.{IsKept, IsQuiet, Outline, outlines, entries_of, stores_of, shape_at}
 use Rattle.cq_group.specs.Opening.{EndsUnwritten}
 use Rattle.cq_cluster.specs.declared.shards.Shards.{Shards}
 use Rattle.cq_cluster.specs.Cluster.{held, home_of}
 use Rattle.cq_cluster.specs.Steps.{AllWait, Lacks, Goes, Loses, more_at, AreSpent, IsUnwritten, shard_outline, Adding}
 use Rattle.cq_cluster.proofs.ListLaws.{got_after, got_other, there}
 use Rattle.cq_cluster.proofs.RoomLaws.{next_here, next_elsewhere, none_on, fewer_on}
-use Rattle.cq_cluster.proofs.GoneLaws.{goes_on, goes_back, gone_set, held_set}
+use Rattle.cq_cluster.proofs.GoneLaws.{goes_count, loses_count, goes_on, goes_back, gone_set, held_set}
 
 -- ---- which groups have the table
 
@@ -149,7 +149,6 @@ module _ {X : Type 0} (state : X → StoreState) where
     pub there : slice_get groups (shards.first_group + n) ≡ Some g
     pub kept : IsKept state g
     pub quiet : IsQuiet state g
-    pub steady : IsSteady state g
     pub new : shape_at (outlines g) shards.table ≡ None
     pub node : g.node ≡ home_of shards.nodes n
 
@@ -169,7 +168,6 @@ module _ {X : Type 0} (state : X → StoreState) where
         there = here;
         kept = goes.kept;
         quiet = goes.quiet;
-        steady = goes.steady;
         new = ap (λ (v : List Outline). shape_at v shards.table) same ∙ ready.0;
         node = goes.node ∙ ready.1 ∙ ap (home_of shards.nodes) offset;
       }
@@ -179,7 +177,6 @@ module _ {X : Type 0} (state : X → StoreState) where
     pub there : slice_get groups (shards.first_group + n) ≡ Some g
     pub kept : IsKept state g
     pub quiet : IsQuiet state g
-    pub steady : IsSteady state g
     pub unwritten : EndsUnwritten g
     pub node : g.node ≡ home_of shards.nodes n
 
@@ -198,7 +195,6 @@ module _ {X : Type 0} (state : X → StoreState) where
         there = here;
         kept = goes.kept;
         quiet = goes.quiet;
-        steady = goes.steady;
         unwritten = record { others = outlines was.0; last = o n; tables = goes.outlined; unwritten = unwritten_at shards.table groups (first + n) g a.unwritten here };
         node = goes.node ∙ ready.1 ∙ ap (home_of shards.nodes) offset;
       }
@@ -242,7 +238,7 @@ module _ {X : Type 0} (state : X → StoreState) where
           gone = gone_set state (more_at first o n) (more_at first o (n + 1)) old groups k g new a.gone s
               (λ was q. subst (λ (v : List Outline). Goes state v was new) (here_again o) (goes_on state [] (o n ∷ []) was g new (subst (λ (v : List Outline). Goes state v was g) (here_none o) q) goes))
               (λ h ne. more_other first o n h (λ d. ne (d ∙ sym e)));
-          held = λ j h. let c = counted 0 1 s goes.node node (omega (arith, goes.count)) j h in omega (arith, c, a.held j h, on_node a.some j h, zero_either (nat_eq (home_of shards.nodes n) (j + 1)));
+          held = λ j h. let c = counted 0 1 s goes.node node (omega (arith, goes_count state (shard_outline shards shape n ∷ []) g new goes)) j h in omega (arith, c, a.held j h, on_node a.some j h, zero_either (nat_eq (home_of shards.nodes n) (j + 1)));
           unwritten = unwritten_set shards.table groups k new a.unwritten (subst (IsUnwritten shards.table) (sym (same_entries goes.journal)) (unwritten_at shards.table groups k g a.unwritten s));
           spent = one_spent state shards.nodes a.some full workers n place w after p a.spent t lacks wait;
         }
@@ -271,7 +267,7 @@ module _ {X : Type 0} (state : X → StoreState) where
           gone = gone_set state (more_at first o n) (more_at first o n) old groups k g new a.gone s
               (λ was q. subst (λ (v : List Outline). Goes state v was new) (append-nil (more_at first o n k)) (goes_on state (more_at first o n k) [] was g new q goes))
               (λ h ne. refl);
-          held = λ j h. let c = counted 0 0 s goes.node node (omega (arith, goes.count)) j h in omega (arith, c, a.held j h);
+          held = λ j h. let c = counted 0 0 s goes.node node (omega (arith, goes_count state [] g new goes)) j h in omega (arith, c, a.held j h);
           unwritten = unwritten_set shards.table groups k new a.unwritten (subst (IsUnwritten shards.table) (sym (same_entries goes.journal)) (unwritten_at shards.table groups k g a.unwritten s));
           spent = none_spent state shards.nodes a.some full workers n place w after (low state shards.nodes a.some n place p) a.spent t lacks wait;
         }
@@ -294,7 +290,7 @@ module _ {X : Type 0} (state : X → StoreState) where
           gone = gone_set state (more_at first o (n + 1)) (more_at first o n) old groups k g new a.gone s
               (λ was q. subst (λ (v : List Outline). Goes state v was new) (here_none o) (goes_back state (o n) was g new (subst (λ (v : List Outline). Goes state v was g) (here_again o) q) lost))
               (λ h ne. sym (more_other first o n h (λ d. ne (d ∙ sym e))));
-          held = λ j h. let c = counted 1 0 s lost.node node (omega (arith, lost.count)) j h in omega (arith, c, a.held j h, on_node a.some j h, zero_either (nat_eq (home_of shards.nodes n) (j + 1)));
+          held = λ j h. let c = counted 1 0 s lost.node node (omega (arith, loses_count state g new lost)) j h in omega (arith, c, a.held j h, on_node a.some j h, zero_either (nat_eq (home_of shards.nodes n) (j + 1)));
           unwritten = unwritten_set shards.table groups k new a.unwritten (subst (IsUnwritten shards.table) (sym (same_entries lost.journal)) (unwritten_at shards.table groups k g a.unwritten s));
           spent = one_back state shards.nodes a.some full workers n place w after p a.spent t lacks wait;
         }

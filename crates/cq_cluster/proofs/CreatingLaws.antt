@@ -134,7 +134,7 @@ module _ (c : Contents) (name : List â„•) (columns : List Column) (key : List â„
           record {
             kept = at.kept;
             quiet = at.quiet;
-            steady = at.steady;
+            placed = at.placed;
             number = at.number;
             opening = at.opening;
             node = at.node;
@@ -148,7 +148,7 @@ module _ (c : Contents) (name : List â„•) (columns : List Column) (key : List â„
           record {
             kept = at.kept;
             quiet = at.quiet;
-            steady = at.steady;
+            placed = at.placed;
             number = at.number;
             opening = at.opening;
             node = at.node;

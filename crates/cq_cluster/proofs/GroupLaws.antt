@@ -106,8 +106,8 @@ module _ {X : Type 0} (state : X → StoreState) where
   -- the groups rest
   pub rests : (cl : Cluster X) → IsSound state cl → AreResting state cl.groups.items
   rests cl s group g at = elim (one_of cl group g s at) [
-    | inl one ↦ record { kept = one.of.kept; quiet = one.of.quiet; steady = one.of.steady }
-    | inr one ↦ record { kept = one.of.kept; quiet = one.of.quiet; steady = one.of.steady }
+    | inl one ↦ record { kept = one.of.kept; quiet = one.of.quiet; placed = one.of.placed }
+    | inr one ↦ record { kept = one.of.kept; quiet = one.of.quiet; placed = one.of.placed }
   ]
 
   -- each group of the catalogue is there
@@ -197,7 +197,7 @@ module _ {X : Type 0} (state : X → StoreState) where
   group_again nodes c colocation i co g h of on rest = record {
     kept = rest.kept;
     quiet = rest.quiet;
-    steady = rest.steady;
+    placed = rest.placed;
     number = on.same.number ∙ of.number;
     opening = on.same.opening ∙ of.opening;
     node = on.same.node ∙ of.node;
@@ -238,7 +238,7 @@ module _ {X : Type 0} (state : X → StoreState) where
         let g = get_or old group h in
         let on = go.each group g h before at in
         let rest = on.1 in
-        reference_still state nodes c c table group shard g h (are.references table group shard g placed before) rest.kept rest.quiet rest.steady on.0.same.number on.0.same.opening on.0.same.node on.0.same.tables refl;
+        reference_still state nodes c c table group shard g h (are.references table group shard g placed before) rest.kept rest.quiet rest.placed on.0.same.number on.0.same.opening on.0.same.node on.0.same.tables refl;
     covered = are.covered;
     apart = are.apart;
     held = λ place below. let own = held_after place old new go in let all_nodes = everywhere_after old new go in omega (arith, own, all_nodes, are.held place below);

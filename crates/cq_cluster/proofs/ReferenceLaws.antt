@@ -25,10 +25,11 @@ use Rattle.cq_history.specs.Laws.{OpensGroups}
 use Rattle.cq_history.specs.Run.{room_fault}
 use Rattle.cq_history.specs.Run as history
 use Rattle.cq_history.specs.Standing.{reference_fault}
+use Rattle.cq_journal.specs.Stations.{node_of}
 use Rattle.cq_store.specs.Stores.{StoreState}
 use Rattle.cq_store.specs.declared.worker.Worker.{Worker}
 use Rattle.cq_group.specs.declared.group.GroupState.{GroupState}
-use Rattle.cq_group.specs.Groups.{IsKept, IsQuiet, IsSteady, Outline, entries_of, outlines, stores_of, journal_of}
+use Rattle.cq_group.specs.Groups.{IsKept, IsQuiet, Outline, entries_of, outlines, stores_of, journal_of}
 use Rattle.cq_group.specs.Resting.{journals_of}
 use Rattle.cq_cluster.specs.declared.cluster.Cluster.{Cluster}
 use Rattle.cq_cluster.specs.Cluster.{IsShardOf, held, everywhere, AreGroups, AreWorkers, journals, run_of, IsSound, KeepsStores}
@@ -36,6 +37,7 @@ use Rattle.cq_cluster.specs.Room.{taken, taken_in}
 use Rattle.cq_cluster.specs.Steps.{shortage, IsUndone}
 use Rattle.cq_cluster.specs.References.{HaveLent, IsNewReference, IsReferencePlanned}
 use Rattle.cq_cluster.proofs.RoomLaws.{one_on}
+use Rattle.cq_cluster.proofs.GoneLaws.{placed_empty}
 use Rattle.cq_cluster.proofs.AddingLaws.{spent_none}
 use Rattle.cq_cluster.proofs.CatalogLaws.{before_more, last_there, all_weaker, covered_again, reference_still, other_place, own_place, same_shape, taken_placed, placed_group}
 use Rattle.cq_cluster.proofs.JournalLaws.{AreNew, opened_grow, opens_referenced}
@@ -74,7 +76,7 @@ module _ {X : Type 0} (state : X → StoreState) (nodes : ℕ) where
             record {
               kept = is.kept;
               quiet = is.quiet;
-              steady = is.steady;
+              placed = is.placed;
               number = is.number;
               opening = is.opening;
               node = is.node;
@@ -88,7 +90,7 @@ module _ {X : Type 0} (state : X → StoreState) (nodes : ℕ) where
               record {
                 kept = subst (IsKept state) (sym here) new.kept;
                 quiet = subst (IsQuiet state) (sym here) new.quiet;
-                steady = subst (IsSteady state) (sym here) new.steady;
+                placed = subst (λ (v : GroupState X). node_of (journal_of v) ≡ v.node) (sym here) (placed_empty g new.entries (new.opening ∙ sym new.node));
                 number = ap (λ (v : GroupState X). v.journal.group) here ∙ new.group ∙ same.0;
                 opening = ap (λ (v : GroupState X). v.journal.opening) here ∙ new.opening;
                 node = ap (λ (v : GroupState X). v.node) here ∙ new.node;
@@ -98,7 +100,7 @@ module _ {X : Type 0} (state : X → StoreState) (nodes : ℕ) where
               let before : place_at c t ≡ Reference group shard = sym (kept_place t z.1) ∙ placed in
               let low = placed_group c t group shard whole before in
               let is = all.references t group shard f before (sym (before_more old (g ∷ []) group (omega (arith, low, all.count))) ∙ s) in
-              reference_still state nodes c next t group shard f f is is.kept is.quiet is.steady refl refl refl refl (kept_shape t)
+              reference_still state nodes c next t group shard f f is is.kept is.quiet is.placed refl refl refl refl (kept_shape t)
         ];
         covered = λ group h. elim (cases_lt group c.groups) [
           | inl l ↦ covered_again c next group (λ k co there. there) (λ t shard p. kept_place t (λ e. not_here group shard (sym p ∙ ap (place_at c) e ∙ was_local)) ∙ p) (all.covered group l)

@@ -37,7 +37,7 @@ use Rattle.cq_history.specs.Run as history
 use Rattle.cq_cluster.specs.declared.shards.Shards.{Shards}
 use Rattle.cq_cluster.specs.Room.{shards_on, taken}
 use Rattle.cq_group.specs.declared.group.GroupState.{GroupState}
-use Rattle.cq_group.specs.Groups.{IsKept, IsNamed, IsQuiet, IsSteady, Outline, outlines, shape_at, entries_of, journal_of}
+use Rattle.cq_group.specs.Groups.{IsKept, IsNamed, IsQuiet, Outline, outlines, shape_at, entries_of, journal_of}
 use Rattle.cq_group.specs.Resting.{journals_of}
 use Rattle.cq_cluster.specs.Cluster.{Either, home_of, IsCovered, IsReferenced, IsWaiting, held, everywhere, AreGroups, whole_at, AreWorkers, run_of, stores_in}
 use Rattle.cq_cluster.specs.Steps.{Goes, AreGone, more_at, nothing_more, AreSpent, HaveStores, AreOpened, IsUnwritten, shard_outline, Adding, short_of, shortage_from, shortage, shards_of, HasOpened, IsBegun, forgotten, CanBegin, IsOpen, IsUndone}
@@ -71,7 +71,6 @@ module _ {X : Type 0} (state : X → StoreState) (nodes : ℕ) (some : 0 < nodes
   record IsFree (table : ℕ) (g : GroupState X) : Type 0 where
     kept : IsKept state g
     quiet : IsQuiet state g
-    steady : IsSteady state g
     free : shape_at (outlines g) table ≡ None
 
   free_group : (c : Contents) (table : ℕ) (groups : List (GroupState X)) → AreGroups state nodes c groups → place_at c table ≡ Local → (h : ℕ) (g : GroupState X) → slice_get groups h ≡ Some g → IsFree table g
@@ -86,20 +85,19 @@ module _ {X : Type 0} (state : X → StoreState) (nodes : ℕ) (some : 0 < nodes
       by_cover : IsCovered c h ⊎ IsReferenced c h → IsFree table g
       by_cover (inl was) =
           let at = all.each was.colocation was.i was.co g was.there was.within (subst (λ n. slice_get groups n ≡ Some g) was.is s) in
-          record { kept = at.kept; quiet = at.quiet; steady = at.steady; free = no_shard c was.colocation was.i table (outlines g) at.shards local }
+          record { kept = at.kept; quiet = at.quiet; free = no_shard c was.colocation was.i table (outlines g) at.shards local }
       by_cover (inr was) =
           let at = all.references was.table h was.shard g was.placed s in
           record {
             kept = at.kept;
             quiet = at.quiet;
-            steady = at.steady;
             free = ap (λ (os : List Outline). shape_at os table) at.only ∙ other was.table was.shard (shape_in c was.table) (λ e. not_local h was.shard (sym was.placed ∙ ap (place_at c) e ∙ local));
           }
 
   gone_free : (table first : ℕ) (o : ℕ → Outline) (groups : List (GroupState X)) → ((h : ℕ) (g : GroupState X) → slice_get groups h ≡ Some g → IsFree table g) → AreGone state (more_at first o 0) groups groups
   gone_free table first o groups free = record {
     count = refl;
-    each = λ h g s. let f = free h g s in (g, s, subst (λ (v : List Outline). Goes state v g g) (sym (more_none state first o h)) (goes_same state g f.kept f.quiet f.steady));
+    each = λ h g s. let f = free h g s in (g, s, subst (λ (v : List Outline). Goes state v g g) (sym (more_none state first o h)) (goes_same state g f.kept f.quiet));
   }
 
   unwritten_free : (table : ℕ) (groups : List (GroupState X)) → ((h : ℕ) (g : GroupState X) → slice_get groups h ≡ Some g → IsFree table g) → AllByRecursion (λ (g : GroupState X). IsUnwritten table (entries_of g)) groups
@@ -160,7 +158,7 @@ module _ {X : Type 0} (state : X → StoreState) (nodes : ℕ) (some : 0 < nodes
       let free : (h : ℕ) (g : GroupState X) → slice_get (groups ++ opened) h ≡ Some g → IsFree o.table g =
       λ h g s. elim (behind_opened groups opened h g s) [
         | inl p ↦ free_group c o.table groups all local h g p
-        | inr p ↦ (let at = fresh (h - length groups) g p.1 in record { kept = at.kept; quiet = at.quiet; steady = rw at.tables tt; free = rw at.tables refl })
+        | inr p ↦ (let at = fresh (h - length groups) g p.1 in record { kept = at.kept; quiet = at.quiet; free = rw at.tables refl })
       ] in
       record {
         few = omega arith;
