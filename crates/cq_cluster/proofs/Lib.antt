@@ -8,6 +8,7 @@ pub mod TargetLaws
 pub mod CatalogLaws
 pub mod JournalLaws
 pub mod RoomLaws
+pub mod AccountLaws
 pub mod SoundLaws
 pub mod MakingLaws
 pub mod ClosingLaws
@@ -17,5 +18,6 @@ pub mod PlanLaws
 pub mod DoneLaws
 pub mod CreatingLaws
 pub mod GroupLaws
+pub mod AnswerLaws
 pub mod LendingLaws
 pub mod ReferenceLaws

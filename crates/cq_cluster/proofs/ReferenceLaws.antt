@@ -6,6 +6,7 @@ use Rattle.std.proofs.lemmas.Bool.Decides.{eqb_tells}
 use Rattle.std.proofs.lemmas.List.{map-append}
 use Rattle.cq_value.specs.declared.schema.Shape.{Shape}
 use Rattle.cq_tree.specs.declared.journal.Who.{Who}
+use Rattle.cq_answer.specs.declared.answered.Answered.{Answered}
 use Rattle.cq_answer.specs.declared.fault.Fault.{Fault}
 use Rattle.cq_answer.specs.declared.fault.Fault.TheVariants as fault
 use Rattle.cq_answer.specs.Faults.{fault_of_catalog}
@@ -33,6 +34,7 @@ use Rattle.cq_group.specs.Groups.{IsKept, IsQuiet, Outline, entries_of, outlines
 use Rattle.cq_group.specs.Resting.{journals_of}
 use Rattle.cq_cluster.specs.declared.cluster.Cluster.{Cluster}
 use Rattle.cq_cluster.specs.Cluster.{IsShardOf, held, everywhere, AreGroups, AreWorkers, journals, run_of, IsSound, KeepsStores}
+use Rattle.cq_cluster.specs.Accounts.{AreAccounted}
 use Rattle.cq_cluster.specs.Room.{taken, taken_in}
 use Rattle.cq_cluster.specs.Steps.{shortage, IsUndone}
 use Rattle.cq_cluster.specs.References.{HaveLent, IsNewReference, IsReferencePlanned}
@@ -41,6 +43,7 @@ use Rattle.cq_cluster.proofs.GoneLaws.{placed_empty}
 use Rattle.cq_cluster.proofs.AddingLaws.{spent_none}
 use Rattle.cq_cluster.proofs.CatalogLaws.{before_more, last_there, all_weaker, covered_again, reference_still, other_place, own_place, same_shape, taken_placed, placed_group}
 use Rattle.cq_cluster.proofs.JournalLaws.{AreNew, opened_grow, opens_referenced}
+use Rattle.cq_cluster.proofs.AccountLaws.{AreFrom, put_accounted}
 use Rattle.cq_cluster.proofs.SoundLaws.{keeps_all, have_stores, room_same}
 use Rattle.cq_cluster.proofs.DistributeLaws.{sound_of, memory_is, memory_alone}
 use Rattle.cq_cluster.proofs.PlanLaws.{still_sound, all_wait}
@@ -199,6 +202,7 @@ module _ {X : Type 0} (state : X → StoreState) (old new : Cluster X) where
     pub grows : (who : Who) → Grows who none (journals old) (journals new)
     pub opens : (entry : List (Worker X)) → OpensGroups (run_of old.nodes entry) old.catalog new.catalog (journals new)
     pub stores : KeepsStores state old new
+    pub accounted : (answers : List Answered) → AreAccounted state old.catalog answers old.groups.items → AreAccounted state new.catalog answers new.groups.items
 
   whole_referenced : (c : Contents) (number : ℕ) → IsWhole c → c.groups + 1 ≤ 512 → IsLocalAt c number → IsWhole (spread (with_group c) number (Reference c.groups c.next_shard) 1)
   whole_referenced c number whole few local = whole_spread (with_group c) number (Reference c.groups c.next_shard) 1 (whole_grouped c whole few) local (omega arith, refl, refl)
@@ -234,4 +238,7 @@ module _ {X : Type 0} (state : X → StoreState) (old new : Cluster X) where
         opens = λ entry. subst (λ (v : Contents). OpensGroups (run_of old.nodes entry) c v (journals new)) (sym made)
             (subst (λ (gs : List (GroupState X)). OpensGroups (run_of old.nodes entry) c (with_reference c table) (journals_of gs)) (sym groups) (opens_referenced state old.nodes entry c table (old.groups.items ++ g ∷ []) after whole));
         stores = keeps_stores state old new nodes stores;
+        accounted = λ answers was. subst (λ (v : Contents). AreAccounted state v answers new.groups.items) (sym made)
+            (subst (λ (gs : List (GroupState X)). AreAccounted state (with_reference c table) answers gs) (sym groups)
+            (put_accounted state c (with_reference c table) answers old.groups.items g (omega arith) exact.kept (subst (AreFrom c.next_shard) (sym exact.only) (omega arith, tt)) was));
       }

@@ -14,6 +14,7 @@ use Rattle.cq_tree.specs.declared.journal.EntryKind.{EntryKind}
 use Rattle.cq_tree.specs.declared.journal.EntryKind.TheVariants.{Read, Write, MoveStart, CatchUp, Cutover, MoveStop}
 use Rattle.cq_meaning.specs.Effects.{table_of}
 use Rattle.cq_journal.specs.Laws.{IsNoWriteOf}
+use Rattle.cq_answer.specs.declared.answered.Answered.{Answered}
 use Rattle.cq_answer.specs.declared.fault.Fault.{Fault}
 use Rattle.cq_catalog.specs.Contents.{Contents, count_in, first_group_in}
 use Rattle.cq_catalog.specs.Distribution.{with_colocation, opened_at, distributed_at}
@@ -40,11 +41,13 @@ use Rattle.cq_group.specs.declared.group.GroupState.{GroupState}
 use Rattle.cq_group.specs.Groups.{IsKept, IsNamed, IsQuiet, Outline, outlines, shape_at, entries_of, journal_of}
 use Rattle.cq_group.specs.Resting.{journals_of}
 use Rattle.cq_cluster.specs.Cluster.{Either, home_of, IsCovered, IsReferenced, IsWaiting, held, everywhere, AreGroups, whole_at, AreWorkers, run_of, stores_in}
+use Rattle.cq_cluster.specs.Accounts.{AreAccounted}
 use Rattle.cq_cluster.specs.Steps.{Goes, AreGone, more_at, nothing_more, AreSpent, HaveStores, AreOpened, IsUnwritten, shard_outline, Adding, short_of, shortage_from, shortage, shards_of, HasOpened, IsBegun, forgotten, CanBegin, IsOpen, IsUndone}
 use Rattle.cq_cluster.proofs.ListLaws.{there, item_at}
 use Rattle.cq_cluster.proofs.GoneLaws.{goes_same, more_none, gone_journals, held_gone, everywhere_gone}
 use Rattle.cq_cluster.proofs.JournalLaws.{same_grows, opened_grow}
 use Rattle.cq_cluster.proofs.AddingLaws.{spent_none}
+use Rattle.cq_cluster.proofs.AccountLaws.{from_at, gone_accounted, opened_accounted}
 use Rattle.cq_cluster.proofs.RoomLaws.{none_on, same_taken}
 use Rattle.cq_cluster.proofs.CatalogLaws.{no_shard, more_outside, groups_opened, groups_spread, held_empty, everywhere_empty, before_more, behind_more, last_there}
 
@@ -229,6 +232,7 @@ module _ {X : Type 0} (state : X → StoreState) (nodes : ℕ) (some : 0 < nodes
     pub grows : (who : Who) → Grows who nothing_made (journals_of old) (journals_of groups)
     pub stores : (entry : List (Worker X)) → AreWorkers state nodes entry old full → AreWorkers state nodes entry groups workers
     pub same_length : length workers ≡ length full
+    pub accounted : (answers : List Answered) → AreAccounted state c answers old → AreAccounted state next answers groups
 
   -- the groups on all nodes get no table of a distribution
   adding_everywhere : (shards : Shards) (shape : Shape) (old groups : List (GroupState X)) (full workers : List (Worker X)) (n : ℕ) → Adding state shards shape old full n groups workers → everywhere groups ≡ everywhere old
@@ -277,6 +281,10 @@ module _ {X : Type 0} (state : X → StoreState) (nodes : ℕ) (some : 0 < nodes
         grows = λ who. same_grows who (journals_of old) (journals_of groups) (gone_journals state _ old groups gone);
         stores = keeps old groups full workers o.count a.enough a.spent number (adding_everywhere (shards_of nodes o) shape done.begun groups full workers o.count a ∙ ap (λ (gs : List (GroupState X)). everywhere gs) same);
         same_length = a.spent.same_length;
+        accounted = λ answers was.
+            let next = distributed_at c table column kind (Joins colocation) in
+            gone_accounted state c next (more_at o.first_group (shard_outline (shards_of nodes o) shape) o.count) answers old groups (omega arith)
+            (λ h. from_at c.next_shard o.first_group (shard_outline (shards_of nodes o) shape) o.count h (λ j. omega arith)) gone was;
       }
     where
       got : {A : Type 0} (xs : List A) (n : ℕ) → n < length xs → (x : A) × (slice_get xs n ≡ Some x)
@@ -300,6 +308,10 @@ module _ {X : Type 0} (state : X → StoreState) (nodes : ℕ) (some : 0 < nodes
         stores = keeps old groups full workers count a.enough a.spent (λ place h. a.held place h ∙ ap (λ n. n + shards_on nodes count place) (empty place))
             (adding_everywhere (shards_of nodes o) shape done.begun groups full workers count a ∙ ap (λ (gs : List (GroupState X)). everywhere gs) done.begins.1 ∙ everywhere_empty state nodes c.groups old opened done.begins.3);
         same_length = a.spent.same_length;
+        accounted = λ answers was.
+            gone_accounted state c (distributed_at c table column kind (Opens count joinable)) (more_at o.first_group (shard_outline (shards_of nodes o) shape) count) answers done.begun groups (omega arith)
+            (λ h. from_at c.next_shard o.first_group (shard_outline (shards_of nodes o) shape) count h (λ j. omega arith)) a.gone
+            (subst (AreAccounted state c answers) (sym done.begins.1) (opened_accounted state c answers nodes c.groups old opened done.begins.3 was));
       }
 
   -- ---- nothing happened
