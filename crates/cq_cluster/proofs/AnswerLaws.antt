@@ -3,6 +3,7 @@ use Rattle.std.proofs.Common.{◌≡◌, ◌≢◌, ◌⊎◌, inl, inr, ℕ, �
 use Rattle.std.specs.Prelude.{nat_eq, ⊤}
 use Rattle.std.specs.List.{AllByRecursion, AllZip, flat_map}
 use Rattle.std.proofs.lemmas.Bool.Decides.{eqb_tells}
+use Rattle.std.proofs.lemmas.List.Elements.{recursion_from_All}
 use Rattle.cq_value.specs.declared.schema.Shape.{Shape}
 use Rattle.cq_tree.specs.declared.journal.Entry.{Entry}
 use Rattle.cq_answer.specs.declared.answer.Answer.{Answer}
@@ -16,23 +17,26 @@ use Rattle.cq_catalog.specs.declared.info.Colocation.{Colocation}
 use Rattle.cq_catalog.specs.declared.info.Place.{Place}
 use Rattle.cq_catalog.specs.declared.info.Place.TheVariants.{Local, Distributed, Reference}
 use Rattle.cq_catalog.specs.declared.info.TableInfo.{TableInfo}
-use Rattle.cq_planning.specs.Database.{shape_in}
-use Rattle.cq_history.specs.Faults.{IsShardIn, range_in, AccountsFor, NamesBelow}
+use Rattle.cq_journal.specs.Records.{Journal}
+use Rattle.cq_journal.specs.Stations.{node_of}
+use Rattle.cq_history.specs.Faults.{IsShardIn, IsOnNode, range_in, AccountsFor, NamesBelow}
 use Rattle.cq_history.specs.Laws.{StoreGoesOn}
 use Rattle.cq_history.proofs.Faults.{other_accounts, fault_accounts}
 use Rattle.cq_store.specs.Stores.{StoreState}
 use Rattle.cq_group.specs.declared.group.GroupTable.{GroupTable}
 use Rattle.cq_group.specs.declared.group.GroupState.{GroupState}
-use Rattle.cq_group.specs.Groups.{Outline, outline, outlines, entries_of, copies_of, stores_of, shape_at, AreReplicasFrom, IsTableKept, AreDistinct}
+use Rattle.cq_group.specs.Groups.{Outline, outline, outlines, entries_of, journal_of, copies_of, stores_of, shape_at, AreReplicasFrom, IsTableKept, AreDistinct}
 use Rattle.cq_group.specs.Calls.{GoesOn, Lifted, SomeZip, Failed}
 use Rattle.cq_group.specs.Resting.{GoOn, HasFailedAt}
 use Rattle.cq_cluster.specs.declared.cluster.Cluster.{Cluster}
 use Rattle.cq_cluster.specs.Cluster.{IsShardOf, IsSound}
-use Rattle.cq_cluster.specs.Accounts.{AreAccounted, NamesNone, NamesFailed, AnswerIsAccounted, OtherIsAccounted}
+use Rattle.cq_cluster.specs.Accounts.{AreAccounted, NamesNone, NamesFailed, AnswerIsAccounted, OtherIsAccounted, FailedIsThere}
 use Rattle.cq_cluster.proofs.ListLaws.{there, only_item}
 use Rattle.cq_cluster.proofs.CatalogLaws.{all_append, all_weaker}
 use Rattle.cq_cluster.proofs.AccountLaws.{Account, table_shards}
-use Rattle.cq_cluster.proofs.GroupLaws.{one_of}
+use Rattle.cq_cluster.proofs.GroupLaws.{one_of, rests}
+use Rattle.cq_cluster.proofs.JournalLaws.{journal_at}
+use Rattle.cq_cluster.proofs.EndingLaws.{stores_on_node, stores_used}
 
 -- ---- which table and which group a shard id is of
 
@@ -178,6 +182,17 @@ module _ {X : Type 0} (state : X → StoreState) where
         (all_weaker (λ (x : X). (state x).shard ≡ t.shard) (λ (x : X). IsShardIn c group (state x).shard) (λ x e. record { table = t.table; there = of.0.has; is = e ∙ of.0.is }) t.stores.items (table_shards state node copies es t kept.0))
         (stores_of_tables ts kept.1 of.1)
 
+  -- what is true of the shard ids, or of the nodes, of all stores is true of those of one that failed
+  failed_shard : (node shard before after : ℕ) (P : ℕ → Type 0) (xs ys : List X) → SomeZip (Lifted state (Failed node shard before after)) xs ys → AllByRecursion (λ (x : X). P (state x).shard) xs → P shard
+  failed_shard node shard before after P [] ys some all = absurd some
+  failed_shard node shard before after P (x ∷ xs) [] some all = absurd some
+  failed_shard node shard before after P (x ∷ xs) (y ∷ ys) some all = elim some [ inl f ↦ subst P f.of_shard all.0 | inr more ↦ failed_shard node shard before after P xs ys more all.1 ]
+
+  failed_node : (node shard before after : ℕ) (P : ℕ → Type 0) (xs ys : List X) → SomeZip (Lifted state (Failed node shard before after)) xs ys → AllByRecursion (λ (x : X). P (state x).node) xs → P node
+  failed_node node shard before after P [] ys some all = absurd some
+  failed_node node shard before after P (x ∷ xs) [] some all = absurd some
+  failed_node node shard before after P (x ∷ xs) (y ∷ ys) some all = elim some [ inl f ↦ subst P f.of_node all.0 | inr more ↦ failed_node node shard before after P xs ys more all.1 ]
+
   one_copy : (g : GroupState X) → nat_eq g.node 0 ≡ false → copies_of g ≡ 1
   one_copy g off = ap (λ b. cond b g.nodes 1) off
 
@@ -195,6 +210,28 @@ module _ {X : Type 0} (state : X → StoreState) where
   shards_in_group cl group g s at =
       let kept = kept_of cl group g s at in
       stores_of_tables cl.catalog group g.node (copies_of g) (entries_of g) s.whole (one_copy g) g.tables.items kept.0 (shards_of_group cl group g s at)
+
+  -- a group's stores are on its nodes
+  on_nodes : (nodes : ℕ) (j : Journal) (at : ℕ) (xs : List X) → node_of j ≡ at → (0 < at → AllByRecursion (λ (x : X). (state x).node ≡ at) xs) → AllByRecursion (λ (x : X). (0 < (state x).node) × ((state x).node ≤ nodes)) xs →
+      AllByRecursion (λ (x : X). IsOnNode nodes j (state x).node) xs
+  on_nodes nodes j at [] is one all = tt
+  on_nodes nodes j at (x ∷ xs) is one all = (record { some = omega (arith, all.0.0); few = λ e. all.0.1; there = λ low. (one (omega (arith, is, low))).0 ∙ sym is }, on_nodes nodes j at xs is (λ low. (one low).1) all.1)
+
+  nodes_of_group : (cl : Cluster X) (group : ℕ) (g : GroupState X) → IsSound state cl → slice_get cl.groups.items group ≡ Some g → AllByRecursion (λ (x : X). IsOnNode cl.nodes (journal_of g) (state x).node) (stores_of g)
+  nodes_of_group cl group g s at =
+      let rest = rests state cl s group g at in
+      on_nodes cl.nodes (journal_of g) g.node (stores_of g) rest.placed
+      (λ low. recursion_from_All (λ (x : X). (state x).node ≡ g.node) (stores_of g) (stores_on_node state g rest.kept low))
+      (stores_used state cl.nodes s.some cl.catalog cl.groups.items group g s.groups at)
+
+  -- a store that failed
+  pub failed_is_there : FailedIsThere state
+  failed_is_there cl new group node shard before after s failed =
+      let was = failed.was in (
+        failed_shard node shard before after (IsShardIn cl.catalog group) (stores_of was) (stores_of failed.is) failed.failed (shards_in_group cl group was s failed.there),
+        subst (λ (j : Journal). IsOnNode cl.nodes j node) (sym (journal_at cl.groups.items group was failed.there))
+            (failed_node node shard before after (IsOnNode cl.nodes (journal_of was)) (stores_of was) (stores_of failed.is) failed.failed (nodes_of_group cl group was s failed.there)),
+      )
 
 -- ---- one answer more
 
@@ -226,7 +263,6 @@ store_goes_on s t on = record {
 }
 
 module _ {X : Type 0} (state : X → StoreState) (answers : List Answered) (a : Answered) where
-
   others_account : (xs ys : List X) → AllZip (Lifted state GoesOn) xs ys → AllByRecursion (λ (x : X). range_in (state x).node (state x).shard a.answer ≡ []) xs → Account state answers xs → Account state (answers ++ a ∷ []) ys
   others_account [] [] on none all = tt
   others_account [] (y ∷ ys) on none all = absurd on
@@ -242,11 +278,6 @@ module _ {X : Type 0} (state : X → StoreState) (answers : List Answered) (a : 
     failed_apart x [] ys other some p q = some
     failed_apart x (z ∷ zs) [] other some p q = some
     failed_apart x (z ∷ zs) (y ∷ ys) other some p q = elim some [ inl f ↦ other.0 (sym p ∙ sym f.of_node) (sym q ∙ sym f.of_shard) | inr more ↦ failed_apart x zs ys other.1 more p q ]
-
-    failed_shard : (P : ℕ → Type 0) (xs ys : List X) → SomeZip (Lifted state (Failed node shard before after)) xs ys → AllByRecursion (λ (x : X). P (state x).shard) xs → P shard
-    failed_shard P [] ys some all = absurd some
-    failed_shard P (x ∷ xs) [] some all = absurd some
-    failed_shard P (x ∷ xs) (y ∷ ys) some all = elim some [ inl f ↦ subst P f.of_shard all.0 | inr more ↦ failed_shard P xs ys more all.1 ]
 
     fails : (s t : StoreState) → GoesOn s t → Failed node shard before after s t → AccountsFor answers s → AccountsFor (answers ++ a ∷ []) t
     fails s t on f all =
@@ -276,7 +307,7 @@ module _ {X : Type 0} (state : X → StoreState) (answers : List Answered) (a : 
 
     module _ (node shard before after : ℕ) (is : a.answer ≡ answer.Failed (fault.Worker node shard before after)) (place : ℕ) (failed : HasFailedAt state place node shard before after cl.groups.items new) where
       pub named_in : IsShardIn cl.catalog place shard
-      named_in = failed_shard node shard before after is (IsShardIn cl.catalog place) (stores_of failed.was) (stores_of failed.is) failed.failed (shards_in_group state cl place failed.was s failed.there)
+      named_in = failed_shard state node shard before after (IsShardIn cl.catalog place) (stores_of failed.was) (stores_of failed.is) failed.failed (shards_in_group state cl place failed.was s failed.there)
 
       group_accounts : (group : ℕ) (g h : GroupState X) → slice_get cl.groups.items group ≡ Some g → slice_get new group ≡ Some h → Account state (answers ++ a ∷ []) (stores_of h)
       group_accounts group g h at now = elim (eqb_tells group place) [

@@ -16,37 +16,7 @@ use Rattle.cq_group.specs.Resting.{journals_of}
 use Rattle.cq_cluster.specs.Cluster.{held, everywhere}
 use Rattle.cq_cluster.specs.Ending.{record_of}
 use Rattle.cq_cluster.specs.Steps.{KeepShards, Goes, Loses, AreGone, more_at, nothing_more}
-use Rattle.cq_cluster.proofs.ListLaws.{got_after}
-
--- ---- lists
-
-zip_length : {A B : Type 0} (R : A → B → Type 0) (xs : List A) (ys : List B) → AllZip R xs ys → length ys ≡ length xs
-zip_length R [] [] h = refl
-zip_length R [] (y ∷ ys) h = absurd h
-zip_length R (x ∷ xs) [] h = absurd h
-zip_length R (x ∷ xs) (y ∷ ys) h = ap suc (zip_length R xs ys h.1)
-
-zip_both : {A B : Type 0} (R : A → B → Type 0) (xs us : List A) (ys vs : List B) → AllZip R xs ys → AllZip R us vs → AllZip R (xs ++ us) (ys ++ vs)
-zip_both R [] us [] vs p q = q
-zip_both R [] us (y ∷ ys) vs p q = absurd p
-zip_both R (x ∷ xs) us [] vs p q = absurd p
-zip_both R (x ∷ xs) us (y ∷ ys) vs p q = (p.0, zip_both R xs us ys vs p.1 q)
-
-zip_one : {A B : Type 0} (R : A → B → Type 0) (x : A) (ys : List B) → AllZip R (x ∷ []) ys → (y : B) × (ys ≡ y ∷ [])
-zip_one R x [] h = absurd h
-zip_one R x (y ∷ []) h = (y, refl)
-zip_one R x (y ∷ z ∷ ys) h = absurd h.1
-
-snoc_same : {A : Type 0} (xs ys : List A) (x y : A) → xs ++ x ∷ [] ≡ ys ++ y ∷ [] → xs ≡ ys
-snoc_same [] [] x y e = refl
-snoc_same [] (b ∷ []) x y e = cc
-snoc_same [] (b ∷ d ∷ ys) x y e = cc
-snoc_same (a ∷ []) [] x y e = cc
-snoc_same (a ∷ c ∷ xs) [] x y e = cc
-snoc_same {A} (a ∷ xs) (b ∷ ys) x y e =
-    let head : a ≡ b = cc in
-    let tail : xs ++ x ∷ [] ≡ ys ++ y ∷ [] = cc in
-    ap (λ (o : A). o ∷ xs) head ∙ ap (λ (v : List A). b ∷ v) (snoc_same xs ys x y tail)
+use Rattle.cq_cluster.proofs.ListLaws.{got_after, zip_length, zip_both, zip_one, snoc_same}
 
 -- ---- one group
 
@@ -93,18 +63,18 @@ module _ {X : Type 0} (state : X → StoreState) where
   -- a table is added and taken out again
   pub goes_back : (o : Outline) (f g h : GroupState X) → Goes state (o ∷ []) f g → Loses state g h → Goes state [] f h
   goes_back o f g h p q =
-    let x = zip_one (λ (v : Outline) (x : X). (state x).shard ≡ v.2) o p.added p.shards in
-    let back : stores_of h ≡ stores_of f = snoc_same (stores_of h) (stores_of f) q.store x.0 (sym q.stores ∙ p.stores ∙ ap (λ (v : List X). stores_of f ++ v) x.1) in
-    record {
-    journal = q.journal ∙ p.journal;
-    node = q.node ∙ p.node;
-    outlined = sym (snoc_same (outlines f) (outlines h) o q.last (sym p.outlined ∙ q.outlined)) ∙ sym (append-nil (outlines f));
-    added = [];
-    stores = back ∙ sym (append-nil (stores_of f));
-    shards = tt;
-    kept = q.kept;
-    quiet = q.quiet;
-  }
+      let x = zip_one (λ (v : Outline) (x : X). (state x).shard ≡ v.2) o p.added p.shards in
+      let back : stores_of h ≡ stores_of f = snoc_same (stores_of h) (stores_of f) q.store x.0 (sym q.stores ∙ p.stores ∙ ap (λ (v : List X). stores_of f ++ v) x.1) in
+      record {
+        journal = q.journal ∙ p.journal;
+        node = q.node ∙ p.node;
+        outlined = sym (snoc_same (outlines f) (outlines h) o q.last (sym p.outlined ∙ q.outlined)) ∙ sym (append-nil (outlines f));
+        added = [];
+        stores = back ∙ sym (append-nil (stores_of f));
+        shards = tt;
+        kept = q.kept;
+        quiet = q.quiet;
+      }
 
   -- ---- all groups
 

@@ -22,7 +22,7 @@ use Rattle.cq_group.specs.Calls.{GroupGoesOn, Lifted, GoesOn}
 use Rattle.cq_group.specs.Resting.{IsResting, AreResting, GoOn}
 use Rattle.cq_cluster.specs.Cluster.{IsShardOf, IsGroupOf, IsReferenceGroup, IsCovered, IsReferenced, AreGroups, AreWorkers, IsWorkerAt, IsSound, KeepsStores, held, everywhere, whole_at, journals}
 use Rattle.cq_cluster.specs.declared.cluster.Cluster.{Cluster}
-use Rattle.cq_cluster.proofs.ListLaws.{there, item_at}
+use Rattle.cq_cluster.proofs.ListLaws.{there, item_at, zip_length}
 use Rattle.cq_cluster.proofs.CatalogLaws.{placed_table, reference_still}
 
 -- ---- a table's shard in a group
@@ -61,12 +61,6 @@ member c table group = by_place (place_at c table) refl
     by_place Local e d has = absurd d
     by_place (Reference own shard) e d has = absurd d
     by_place (Distributed at colocation first_shard) e d has = by_item at colocation first_shard (slice_get c.colocations colocation) e refl has
-
-zip_length : {X Y : Type 0} (R : X → Y → Type 0) (xs : List X) (ys : List Y) → AllZip R xs ys → length ys ≡ length xs
-zip_length R [] [] h = refl
-zip_length R [] (y ∷ ys) h = absurd h
-zip_length R (x ∷ xs) [] h = absurd h
-zip_length R (x ∷ xs) (y ∷ ys) h = ap suc (zip_length R xs ys h.1)
 
 module _ {X : Type 0} (state : X → StoreState) where
   -- ---- one group

@@ -13,11 +13,11 @@ pub mod SoundLaws
 pub mod MakingLaws
 pub mod ClosingLaws
 pub mod EndingLaws
+pub mod AnswerLaws
 pub mod DistributeLaws
 pub mod PlanLaws
 pub mod DoneLaws
 pub mod CreatingLaws
 pub mod GroupLaws
-pub mod AnswerLaws
 pub mod LendingLaws
 pub mod ReferenceLaws

@@ -11,7 +11,7 @@ use Rattle.cq_group.specs.Groups.{Outline, outline, outlines, stores_of, copies_
 use Rattle.cq_group.specs.Calls.{Lifted, Releases}
 use Rattle.cq_group.specs.Opening.{AreFresh, AreFreshFrom, first_shard, LosesLast}
 use Rattle.cq_cluster.specs.Steps.{IsAdopted, KeepShards, Goes, Loses}
-use Rattle.cq_cluster.proofs.ListLaws.{only_item}
+use Rattle.cq_cluster.proofs.ListLaws.{only_item, zip_length}
 
 -- a list of one adopted store is that of a new table, in a group on its node
 pub fresh_store : {X : Type 0} (state : X → StoreState) (g : GroupState X) (node shard : ℕ) (xs : List X)
@@ -89,9 +89,3 @@ module _ {X : Type 0} (state : X → StoreState) where
         kept = kept;
         quiet = still quiet;
       }
-    where
-      zip_length : (R : X → X → Type 0) (xs ys : List X) → AllZip R xs ys → length ys ≡ length xs
-      zip_length R [] [] z = refl
-      zip_length R [] (y ∷ ys) z = absurd z
-      zip_length R (x ∷ xs) [] z = absurd z
-      zip_length R (x ∷ xs) (y ∷ ys) z = ap suc (zip_length R xs ys z.1)
