@@ -1,7 +1,6 @@
 -- Groups that go on one by one with a table more.
 use Rattle.std.proofs.Common.{◌≡◌, ◌≢◌, ◌⊎◌, inl, inr, ℕ, zero, suc, ◌+◌, Bool, true, false, cond, List, [], ◌∷◌, ◌++◌, length, refl, sym, ap, subst, ◌∙◌, arith, Some, slice_get, length-set, length-append, append_assoc, append-nil}
 use Rattle.std.specs.Prelude.{nat_eq, nat_le, nat_lt}
-use Rattle.std.specs.List.{AllZip}
 use Rattle.std.proofs.Math.ListN.{set}
 use Rattle.std.proofs.lemmas.Bool.Decides.{nat_tests, eqb_tells}
 use Rattle.cq_value.specs.Tables.{empty_table}
@@ -15,7 +14,7 @@ use Rattle.cq_group.specs.Groups.{IsKept, IsQuiet, Outline, outlines, journal_of
 use Rattle.cq_group.specs.Resting.{journals_of}
 use Rattle.cq_cluster.specs.Cluster.{held, everywhere}
 use Rattle.cq_cluster.specs.Ending.{record_of}
-use Rattle.cq_cluster.specs.Steps.{KeepShards, Goes, Loses, AreGone, more_at, nothing_more}
+use Rattle.cq_cluster.specs.Steps.{Goes, Loses, AreGone, more_at, nothing_more}
 use Rattle.cq_cluster.proofs.ListLaws.{got_after, zip_length, zip_both, zip_one, snoc_same}
 
 -- ---- one group

@@ -1,6 +1,6 @@
 -- The shard groups of a sound cluster between two statements: they rest, and a table is in those of its shards. And a cluster whose groups went on.
 use Rattle.std.proofs.Common.{◌≡◌, ◌⊎◌, inl, inr, ℕ, suc, ◌+◌, ◌-◌, ◌<◌, ◌≤◌, List, map, [], ◌∷◌, length, refl, sym, ap, ◌∙◌, subst, arith, cond, Some, None, Option, IsSome, slice_get, get_or}
-use Rattle.std.specs.List.{AllByRecursion, AllZip}
+use Rattle.std.specs.List.{AllByRecursion}
 use Rattle.std.specs.Prelude.{nat_eq}
 use Rattle.std.proofs.lemmas.Bool.Decides.{eqb_tells}
 use Rattle.std.proofs.lemmas.List.{length-map}

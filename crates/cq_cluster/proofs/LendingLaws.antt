@@ -9,7 +9,7 @@ use Rattle.cq_store.specs.declared.worker.Worker.{Worker}
 use Rattle.cq_value.specs.declared.schema.Shape.{Shape}
 use Rattle.cq_journal.specs.declared.journal.Journal.{Journal}
 use Rattle.cq_group.specs.declared.group.GroupState.{GroupState}
-use Rattle.cq_group.specs.Groups.{IsKept, IsQuiet, Outline, outlines, stores_of, entries_of}
+use Rattle.cq_group.specs.Groups.{IsKept, IsQuiet, Outline, outlines, entries_of}
 use Rattle.cq_group.specs.Opening.{AreFresh, AreFreshFrom, first_shard, AreSpareFrom}
 use Rattle.cq_cluster.specs.Steps.{IsStoreOf, IsAdopted, AllWait, Lacks}
 use Rattle.cq_cluster.specs.References.{AreCopies, AreOnEach, HaveLent, IsNewReference}
