@@ -1,11 +1,11 @@
 //! Scripts through `run`, with what they write and leave worked out by hand: the answers, the journals' entries and the rows of the
-//! stores. Sources and sinks fail, there are words, too few workers, and one too many.
+//! stores. Sources, sinks and stores fail, there are words, too few workers, and one too many.
 
 ghost use Rattle.std.specs.Prelude.{IfOk, ◌<◌, ◌^◌};
 ghost use Rattle.cq_cluster.specs.Cluster.{AreIdle, IsWaiting};
 
 use cq_script::{MemSink, MemSource};
-use cq_store::{BoxedStore, MemStore, Store, Worker};
+use cq_store::{BoxedStore, FaultStore, Store, Worker};
 use cq_top::{IdleGate, RunLog, Status, make_workers, run};
 use cq_tree::{Entry, EntryKind, Reply};
 use cq_value::Value;
@@ -30,13 +30,15 @@ type Noted = (u32, u64, Did);
 /// A row of a store: the node, the shard, and the row's key and other value.
 type Held = (u32, u64, i128, i128);
 
-/// A script, the numbers of the calls of its source and its sink that fail, the number of workers, and how many words there are.
+/// A script, the numbers of the calls of its source and its sink that fail, a node and the numbers of the calls that fail of each of its
+/// stores, the number of workers, and how many words there are.
 /// And what the run must leave: the status, what is written, the number of answers, the entries, and the rows of two numbers.
 #[derive(Clone, Copy)]
 struct Script<'a> {
     script: &'a [u8],
     take_fails: &'a [u64],
     put_fails: &'a [u64],
+    store_fails: (u32, &'a [u64]),
     workers: u16,
     words: u8,
     status: Status,
@@ -57,6 +59,7 @@ INSERT INTO a VALUES (3, 1);INSERT INTO b VALUES (3, 2);INSERT INTO c (k, v) VAL
 INSERT INTO c VALUES (9, 7);INSERT INTO a VALUES (3, 4);EXPLAIN SELECT v FROM a;DROP TABLE a;SELECT v FROM b WHERE k = 3",
     take_fails: &[],
     put_fails: &[],
+    store_fails: (0, &[]),
     workers: 2,
     words: 0,
     status: Status::Done,
@@ -110,6 +113,41 @@ ERROR 31 value out of range\nk\n2\n(1 row)\nv\n(0 rows)\n",
     ..BESIDE
 };
 
+/// A statement whose store fails is answered so, with the store's count, and leaves all groups as they were; the next one runs. The store of
+/// group 0 fails at its first and its sixth call, and so does that of group 2, which is called less often.
+const FAILING: Script = Script {
+    script: b"CREATE TABLE t (k bigint, v bigint, PRIMARY KEY (k));SELECT create_distributed_table('t', 'k', shard_count => 4);
+INSERT INTO t VALUES (1,10);INSERT INTO t VALUES (1,10);UPDATE t SET v = v + 1 WHERE k = 1;SELECT v FROM t WHERE k = 1;
+SELECT v FROM t WHERE k = 1;UPDATE t SET v = v + 1;UPDATE t SET v = v + 1",
+    store_fails: (1, &[1, 6]),
+    written: b"CREATE TABLE\ncreate_distributed_table\n\n(1 row)\nERROR 20 worker 1 shard 102008 faults 0 to 1\nINSERT 0 1\nUPDATE 1
+ERROR 20 worker 1 shard 102008 faults 1 to 2\nv\n11\n(1 row)\nERROR 20 worker 1 shard 102010 faults 0 to 1\nUPDATE 1\n",
+    answers: 9,
+    entries: &[
+        (0, 4, Did::Counted(1)),
+        (0, 5, Did::Counted(1)),
+        (0, 7, Did::Read),
+        (0, 9, Did::Counted(1)),
+        (1, 9, Did::Counted(0)),
+        (2, 9, Did::Counted(0)),
+        (3, 9, Did::Counted(0)),
+    ],
+    rows: &[(1, 102008, 1, 12)],
+    ..BESIDE
+};
+
+/// A reference table's write is staged on every node, and its read asks the node behind the least group that is touched.
+const COPIES: Script = Script {
+    script: b"CREATE TABLE r (id bigint, n bigint, PRIMARY KEY (id));SELECT create_reference_table('r');
+INSERT INTO r VALUES (1,10);INSERT INTO r VALUES (1,10);SELECT n FROM r",
+    store_fails: (2, &[1]),
+    written: b"CREATE TABLE\ncreate_reference_table\n\n(1 row)\nERROR 20 worker 2 shard 102008 faults 0 to 1\nINSERT 0 1\nn\n10\n(1 row)\n",
+    answers: 5,
+    entries: &[(0, 4, Did::Counted(1)), (0, 5, Did::Read)],
+    rows: &[(1, 102008, 1, 10), (2, 102008, 1, 10)],
+    ..BESIDE
+};
+
 /// What a run left.
 #[derive(Drop)]
 struct Outcome {
@@ -124,6 +162,16 @@ fn workers_of(want: Script) -> u32
     ensures { result < 2 ^ 16 }
 {
     u32::from(want.workers)
+}
+
+/// The numbers of the calls that fail of each store of a node.
+fn fails_of(alloc: Global, want: Script, node: u32) -> Result<Vec<u64>, AllocError> {
+    let (failing, calls) = want.store_fails;
+    if node == failing {
+        calls.to_vec(alloc)
+    } else {
+        Ok(Vec::new(alloc))
+    }
 }
 
 /// Runs the script over the workers.
@@ -218,9 +266,6 @@ fn expect<R: Abort>(rt: &R, alloc: Global, ran: Outcome, want: Script) -> Result
 #[test]
 fn scripts_are_answered(rt: HostRuntime) -> Result<(), Fail> {
     let alloc = rt.alloc();
-    let make = |node: u32| -> Result<BoxedStore, AllocError>
-        ensures { IfOk result (λ b. IsWaiting node (state b)) }
-    { Ok(Box::new(alloc, MemStore::new(alloc, node))?) };
     let word = Script {
         script: b"CREATE TABLE t (k bigint);SELECT 1;SELECT 2",
         words: 1,
@@ -234,6 +279,8 @@ fn scripts_are_answered(rt: HostRuntime) -> Result<(), Fail> {
     let cases = [
         BESIDE,
         OVER,
+        FAILING,
+        COPIES,
         // a third worker takes no part
         Script {
             workers: 3,
@@ -267,6 +314,12 @@ fn scripts_are_answered(rt: HostRuntime) -> Result<(), Fail> {
         },
     ];
     for case in cases {
+        let make = |node: u32| -> Result<BoxedStore, AllocError>
+            ensures { IfOk result (λ b. IsWaiting node (state b)) }
+        {
+            let fails = fails_of(alloc, case, node)?;
+            Ok(Box::new(alloc, FaultStore::new(alloc, node, fails))?)
+        };
         let workers = make_workers(alloc, workers_of(case), 128, &make)?;
         let ran = run_with(&rt, alloc, workers, case)?;
         expect(&rt, alloc, ran, case)?;

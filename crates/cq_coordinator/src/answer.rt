@@ -1,4 +1,4 @@
-ghost use Rattle.std.specs.Prelude.{◌≡◌, ℕ, not, List, Some, None};
+ghost use Rattle.std.specs.Prelude.{◌≡◌, ℕ, not, List, Some, None, [], ◌∷◌, ◌++◌};
 ghost use Rattle.cq_meaning.specs.Effects.{table_of as table_of_op};
 ghost use Rattle.cq_catalog.specs.Contents.{is_local};
 ghost use Rattle.cq_catalog.specs.Placement.{place_at};
@@ -10,6 +10,8 @@ ghost use Rattle.cq_history.specs.Refusals.{rules};
 ghost use Rattle.cq_history.specs.Log.{IsAnswered};
 ghost use Rattle.cq_store.specs.declared.worker.Worker.{Worker};
 ghost use Rattle.cq_cluster.specs.Cluster.{IsSound, KeepsStores, AreWorkers, run_of};
+ghost use Rattle.cq_answer.specs.declared.answered.Answered.{Answered};
+ghost use Rattle.cq_cluster.specs.Accounts.{AreAccounted};
 ghost use Rattle.cq_coordinator.specs.Coordination.{environment, journals};
 
 use crate::coordinator::Coordinator;
@@ -53,6 +55,7 @@ impl<S: Store> Coordinator<S> {
         ensures answered { (entry : List (Worker S)) → AreWorkers S.state self.old.cluster.nodes entry self.old.cluster.groups.items self.old.cluster.workers.items → IsAnswered rules (run_of self.old.cluster.nodes entry) (environment self.old) (environment self.new) who (journals self.old) (journals self.new) (Some statement.now) result }
         ensures sound { IsSound S.state self.new.cluster }
         ensures stores { KeepsStores S.state self.old.cluster self.new.cluster }
+        ensures accounted { (answers : List Answered) (a : Answered) → a.answer ≡ result → AreAccounted S.state self.old.cluster.catalog answers self.old.cluster.groups.items → AreAccounted S.state self.new.cluster.catalog (answers ++ a ∷ []) self.new.cluster.groups.items }
     {
         match statement {
             Statement::CreateTable { name, columns, key } => {
@@ -95,6 +98,7 @@ impl<S: Store> Coordinator<S> {
         ensures answered { (entry : List (Worker S)) → AreWorkers S.state self.old.cluster.nodes entry self.old.cluster.groups.items self.old.cluster.workers.items → IsAnswered rules (run_of self.old.cluster.nodes entry) (environment self.old) (environment self.new) who (journals self.old) (journals self.new) (Some statement.now) result }
         ensures sound { IsSound S.state self.new.cluster }
         ensures stores { KeepsStores S.state self.old.cluster self.new.cluster }
+        ensures accounted { (answers : List Answered) (a : Answered) → a.answer ≡ result → AreAccounted S.state self.old.cluster.catalog answers self.old.cluster.groups.items → AreAccounted S.state self.new.cluster.catalog (answers ++ a ∷ []) self.new.cluster.groups.items }
     {
         if let Some(why) = refusal_of(statement, &self.cluster.catalog) {
             return Answer::Failed(Fault::Unsupported(why));

@@ -1,10 +1,12 @@
-ghost use Rattle.std.specs.Prelude.{◌≡◌, ◌<◌, ◌^◌, List, Some};
+ghost use Rattle.std.specs.Prelude.{◌≡◌, ◌<◌, ◌^◌, List, Some, [], ◌∷◌, ◌++◌};
 ghost use Rattle.cq_tree.specs.declared.statement.Statement.TheVariants as statement;
 ghost use Rattle.cq_history.specs.Run.{with_setting as settings_with};
 ghost use Rattle.cq_history.specs.Refusals.{rules};
 ghost use Rattle.cq_history.specs.Log.{IsAnswered};
 ghost use Rattle.cq_store.specs.declared.worker.Worker.{Worker};
 ghost use Rattle.cq_cluster.specs.Cluster.{IsSound, KeepsStores, AreWorkers, run_of};
+ghost use Rattle.cq_answer.specs.declared.answered.Answered.{Answered};
+ghost use Rattle.cq_cluster.specs.Accounts.{AreAccounted};
 ghost use Rattle.cq_coordinator.specs.Coordination.{environment, journals};
 
 use crate::coordinator::Coordinator;
@@ -51,6 +53,7 @@ impl<S: Store> Coordinator<S> {
         ensures answered { (entry : List (Worker S)) → IsAnswered rules (run_of self.old.cluster.nodes entry) (environment self.old) (environment self.new) who (journals self.old) (journals self.new) (Some (statement.CreateTable name.now columns.now key.now)) result }
         ensures sound { IsSound S.state self.new.cluster }
         ensures stores { KeepsStores S.state self.old.cluster self.new.cluster }
+        ensures accounted { (answers : List Answered) (a : Answered) → a.answer ≡ result → AreAccounted S.state self.old.cluster.catalog answers self.old.cluster.groups.items → AreAccounted S.state self.new.cluster.catalog (answers ++ a ∷ []) self.new.cluster.groups.items }
     {
         let Ok(columns) = columns.copy(alloc) else {
             return Answer::Failed(Fault::Memory);
@@ -78,6 +81,7 @@ impl<S: Store> Coordinator<S> {
         ensures answered { (entry : List (Worker S)) → AreWorkers S.state self.old.cluster.nodes entry self.old.cluster.groups.items self.old.cluster.workers.items → IsAnswered rules (run_of self.old.cluster.nodes entry) (environment self.old) (environment self.new) who (journals self.old) (journals self.new) (Some (statement.Distribute table.now column.now count with.now)) result }
         ensures sound { IsSound S.state self.new.cluster }
         ensures stores { KeepsStores S.state self.old.cluster self.new.cluster }
+        ensures accounted { (answers : List Answered) (a : Answered) → a.answer ≡ result → AreAccounted S.state self.old.cluster.catalog answers self.old.cluster.groups.items → AreAccounted S.state self.new.cluster.catalog (answers ++ a ∷ []) self.new.cluster.groups.items }
     {
         let Ok(told) = notice_of(alloc, "create_distributed_table") else {
             return Answer::Failed(Fault::Memory);
@@ -101,6 +105,7 @@ impl<S: Store> Coordinator<S> {
         ensures answered { (entry : List (Worker S)) → AreWorkers S.state self.old.cluster.nodes entry self.old.cluster.groups.items self.old.cluster.workers.items → IsAnswered rules (run_of self.old.cluster.nodes entry) (environment self.old) (environment self.new) who (journals self.old) (journals self.new) (Some (statement.Reference table.now)) result }
         ensures sound { IsSound S.state self.new.cluster }
         ensures stores { KeepsStores S.state self.old.cluster self.new.cluster }
+        ensures accounted { (answers : List Answered) (a : Answered) → a.answer ≡ result → AreAccounted S.state self.old.cluster.catalog answers self.old.cluster.groups.items → AreAccounted S.state self.new.cluster.catalog (answers ++ a ∷ []) self.new.cluster.groups.items }
     {
         let Ok(told) = notice_of(alloc, "create_reference_table") else {
             return Answer::Failed(Fault::Memory);
@@ -121,6 +126,7 @@ impl<S: Store> Coordinator<S> {
         ensures answered { (entry : List (Worker S)) → IsAnswered rules (run_of self.old.cluster.nodes entry) (environment self.old) (environment self.new) who (journals self.old) (journals self.new) (Some (statement.Setting which value)) result }
         ensures sound { IsSound S.state self.new.cluster }
         ensures stores { KeepsStores S.state self.old.cluster self.new.cluster }
+        ensures accounted { (answers : List Answered) (a : Answered) → a.answer ≡ result → AreAccounted S.state self.old.cluster.catalog answers self.old.cluster.groups.items → AreAccounted S.state self.new.cluster.catalog (answers ++ a ∷ []) self.new.cluster.groups.items }
     {
         self.settings = with_setting(self.settings, which, value);
         Answer::Tag(Tag::Setting)

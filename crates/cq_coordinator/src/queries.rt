@@ -1,4 +1,4 @@
-ghost use Rattle.std.specs.Prelude.{◌≡◌, ℕ, List, Some};
+ghost use Rattle.std.specs.Prelude.{◌≡◌, ℕ, List, Some, [], ◌∷◌, ◌++◌};
 ghost use Rattle.cq_tree.specs.declared.statement.Statement.TheVariants as statement;
 ghost use Rattle.cq_history.specs.Computable.{IsComputable};
 ghost use Rattle.cq_history.specs.Journals.{journal_in};
@@ -7,6 +7,8 @@ ghost use Rattle.cq_history.specs.Refusals.{rules};
 ghost use Rattle.cq_history.specs.Log.{IsAnswered};
 ghost use Rattle.cq_store.specs.declared.worker.Worker.{Worker};
 ghost use Rattle.cq_cluster.specs.Cluster.{IsSound, KeepsStores, run_of};
+ghost use Rattle.cq_answer.specs.declared.answered.Answered.{Answered};
+ghost use Rattle.cq_cluster.specs.Accounts.{AreAccounted};
 ghost use Rattle.cq_coordinator.specs.Coordination.{environment, journals};
 
 use crate::coordinator::Coordinator;
@@ -25,10 +27,12 @@ impl<S: Store> Coordinator<S> {
         ensures answered { (entry : List (Worker S)) → IsAnswered rules (run_of self.old.cluster.nodes entry) (environment self.old) (environment self.new) who (journals self.old) (journals self.new) (Some (statement.Select query.now)) result }
         ensures sound { IsSound S.state self.new.cluster }
         ensures stores { KeepsStores S.state self.old.cluster self.new.cluster }
+        ensures accounted { (answers : List Answered) (a : Answered) → a.answer ≡ result → AreAccounted S.state self.old.cluster.catalog answers self.old.cluster.groups.items → AreAccounted S.state self.new.cluster.catalog (answers ++ a ∷ []) self.new.cluster.groups.items }
     {
         answer_query(
             alloc,
             &self.cluster.catalog,
+            self.cluster.nodes,
             &mut self.cluster.groups,
             who,
             query,

@@ -1,4 +1,4 @@
-ghost use Rattle.std.specs.Prelude.{◌≡◌, ℕ, List, Some, None};
+ghost use Rattle.std.specs.Prelude.{◌≡◌, ℕ, List, Some, None, [], ◌∷◌, ◌++◌};
 ghost use Rattle.cq_tree.specs.declared.statement.Statement.TheVariants as statement;
 ghost use Rattle.cq_history.specs.Refusals.{rules, refusal_in};
 ghost use Rattle.cq_history.specs.Journals.{journal_in};
@@ -9,6 +9,8 @@ ghost use Rattle.cq_history.specs.Log.{IsAnswered};
 ghost use Rattle.cq_store.specs.declared.worker.Worker.{Worker};
 ghost use Rattle.cq_groups.specs.Answers.{answer_by};
 ghost use Rattle.cq_cluster.specs.Cluster.{IsSound, KeepsStores, AreWorkers, run_of};
+ghost use Rattle.cq_answer.specs.declared.answered.Answered.{Answered};
+ghost use Rattle.cq_cluster.specs.Accounts.{AreAccounted};
 ghost use Rattle.cq_coordinator.specs.Coordination.{environment, journals};
 
 use crate::coordinator::Coordinator;
@@ -45,6 +47,17 @@ fn answer_of(op: &ShardOp, outcome: Result<Reply, WriteError>) -> Answer
             what: What::Ids,
             number: MOST_IDS,
         }),
+        Err(WriteError::Worker {
+            node,
+            shard,
+            before,
+            after,
+        }) => Answer::Failed(Fault::Worker {
+            node,
+            shard,
+            before,
+            after,
+        }),
         Err(WriteError::Memory) => Answer::Failed(Fault::Memory),
     }
 }
@@ -61,6 +74,7 @@ impl<S: Store> Coordinator<S> {
         ensures answered { (entry : List (Worker S)) → AreWorkers S.state self.old.cluster.nodes entry self.old.cluster.groups.items self.old.cluster.workers.items → IsAnswered rules (run_of self.old.cluster.nodes entry) (environment self.old) (environment self.new) who (journals self.old) (journals self.new) (Some (statement.Write op.now)) result }
         ensures sound { IsSound S.state self.new.cluster }
         ensures stores { KeepsStores S.state self.old.cluster self.new.cluster }
+        ensures accounted { (answers : List Answered) (a : Answered) → a.answer ≡ result → AreAccounted S.state self.old.cluster.catalog answers self.old.cluster.groups.items → AreAccounted S.state self.new.cluster.catalog (answers ++ a ∷ []) self.new.cluster.groups.items }
     {
         let Ok(divided) = parts(alloc, op, &self.cluster.catalog) else {
             return Answer::Failed(Fault::Memory);

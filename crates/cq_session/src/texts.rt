@@ -1,4 +1,5 @@
-ghost use Rattle.std.specs.Prelude.{◌≡◌, ℕ, List};
+ghost use Rattle.std.specs.Prelude.{◌≡◌, ℕ, List, [], ◌∷◌, ◌++◌};
+ghost use Rattle.cq_answer.specs.declared.answered.Answered.{Answered};
 ghost use Rattle.cq_bound_laws.specs.Laws.{HasColumns};
 ghost use Rattle.cq_history.specs.Journals.{journal_in};
 ghost use Rattle.cq_history.specs.Legality.{IsLegal, IsKeyed};
@@ -6,6 +7,7 @@ ghost use Rattle.cq_history.specs.Log.{IsAnswered};
 ghost use Rattle.cq_history.specs.Refusals.{rules};
 ghost use Rattle.cq_store.specs.declared.worker.Worker.{Worker};
 ghost use Rattle.cq_cluster.specs.Cluster.{IsSound, KeepsStores, AreWorkers, run_of};
+ghost use Rattle.cq_cluster.specs.Accounts.{AreAccounted};
 ghost use Rattle.cq_coordinator.specs.Coordination.{environment, journals};
 ghost use Rattle.cq_statement.specs.Meanings.{Means};
 ghost use Rattle.cq_statement.specs.Reading.{reading_of};
@@ -46,6 +48,7 @@ pub fn respond<S: Store>(
     ensures means { Means text.now coordinator.old.cluster.catalog.tables (reading_of text.now coordinator.old.cluster.catalog.tables) }
     ensures sound { IsSound S.state coordinator.new.cluster }
     ensures stores { KeepsStores S.state coordinator.old.cluster coordinator.new.cluster }
+    ensures accounted { (answers : List Answered) (a : Answered) → a.answer ≡ result.answer → AreAccounted S.state coordinator.old.cluster.catalog answers coordinator.old.cluster.groups.items → AreAccounted S.state coordinator.new.cluster.catalog (answers ++ a ∷ []) coordinator.new.cluster.groups.items }
 {
     match read_statement(alloc, text, &coordinator.cluster.catalog) {
         Ok(statement) => {

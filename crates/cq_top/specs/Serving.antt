@@ -8,6 +8,7 @@ use Rattle.cq_history.specs.Refusals.{rules}
 use Rattle.cq_store.specs.Stores.{StoreState}
 use Rattle.cq_store.specs.declared.worker.Worker.{Worker}
 use Rattle.cq_cluster.specs.Cluster.{IsSound, AreWorkers, run_of}
+use Rattle.cq_cluster.specs.Accounts.{AreAccounted}
 use Rattle.cq_script.specs.Scripts.{Cut, Cutting}
 use Rattle.cq_script.specs.Streams.{SourceState, SinkState, Rose}
 use Rattle.cq_script.specs.declared.fatal.Fatal.{Fatal}
@@ -26,6 +27,7 @@ pub record IsServingOver {X : Type 0} (state : X → StoreState) (entry : List (
   pub consistent : IsConsistent rules (run_of node_count entry) (environment s.coordinator) s.answers (journals s.coordinator)
   pub sound : IsSound state s.coordinator.cluster
   pub workers : AreWorkers state node_count entry s.coordinator.cluster.groups.items s.coordinator.cluster.workers.items
+  pub accounted : AreAccounted state s.coordinator.cluster.catalog s.answers s.coordinator.cluster.groups.items
 
 -- the same, over some workers
 abbrev pub IsServing : {X : Type 0} → (X → StoreState) → Serving X → Type 0

@@ -1,6 +1,7 @@
 ghost use Rattle.std.specs.Prelude.{◌≡◌, ◌<◌, ◌≤◌, ◌↔◌, ℕ, List, [], length, Some, map};
 ghost use Rattle.cq_store.specs.declared.worker.Worker.{Worker};
 ghost use Rattle.cq_cluster.specs.Cluster.{AreIdle};
+ghost use Rattle.cq_cluster.specs.Accounts.{AllAccounted};
 ghost use Rattle.cq_cluster.specs.Ending.{IsFinal};
 ghost use Rattle.cq_top.specs.Scripts.{node_count, Serves};
 ghost use Rattle.cq_top.specs.Serving.{IsServing, IsServingOver, IsShownBy, IsReadingEnd, IsRunEnd, BlamesSink, BlamesSource};
@@ -33,6 +34,7 @@ fn close<S: Store>(serving: Serving<S>, workers: &mut Vec<Worker<S>>, log: &mut 
     ensures whole { (entry : List (Worker S)) → IsServingOver S.state entry serving → IsWhole entry log.new }
     ensures stand { (entry : List (Worker S)) → IsServingOver S.state entry serving → Stand entry log.new }
     ensures last { (entry : List (Worker S)) → IsServingOver S.state entry serving → IsFinal S.state node_count entry log.new.catalog log.new.journals.list workers.new.items }
+    ensures accounts { AllAccounted S.state node_count log.new.answers workers.new.items }
 {
     let Serving {
         coordinator,
@@ -68,6 +70,7 @@ fn run_script<S: Store, I: Source, K: Sink, G: Gate>(
     ensures source { BlamesSource result (I.told source.old) (I.told source.new) }
     ensures sink { BlamesSink result (K.shown sink.old) (K.shown sink.new) }
     ensures last { IsFinal S.state node_count workers.old.items log.new.catalog log.new.journals.list workers.new.items }
+    ensures accounts { AllAccounted S.state node_count log.new.answers workers.new.items }
 {
     if log.journals.reserve(MOST_GROUPS).is_err() {
         return Status::Memory;
@@ -99,6 +102,7 @@ fn run_words<S: Store, I: Source, K: Sink, G: Gate>(
     ensures source { BlamesSource result (I.told source.old) (I.told source.new) }
     ensures sink { BlamesSink result (K.shown sink.old) (K.shown sink.new) }
     ensures last { IsFinal S.state node_count workers.old.items log.new.catalog log.new.journals.list workers.new.items }
+    ensures accounts { AllAccounted S.state node_count log.new.answers workers.new.items }
 {
     if !words.is_empty() || workers.len() < 2 {
         return Status::Usage;
@@ -124,6 +128,7 @@ pub fn run_over<R: Threads + Wait + Sync, S: Store, I: Source, K: Sink, G: Gate>
     ensures serves { (bytes : List ℕ) → (I.told source.old).left ≡ Some bytes → Serves result bytes (I.told source.new).left log.new.answers }
     ensures writes { (before : List ℕ) → (K.shown sink.old).written ≡ Some before → Writes (MayEnd (length words.now) (length workers.old.items) (I.told source.old) (I.told source.new)) result log.new.answers before (K.shown sink.new).written }
     ensures last { IsFinal S.state node_count workers.old.items log.new.catalog log.new.journals.list workers.new.items }
+    ensures accounts { AllAccounted S.state node_count log.new.answers workers.new.items }
     ensures cause { HasCause result (length words.now) (length workers.old.items) (I.told source.old) (I.told source.new) (K.shown sink.old) (K.shown sink.new) }
 {
     let status = run_words(alloc, words, source, sink, gate, workers, log);
@@ -132,8 +137,9 @@ pub fn run_over<R: Threads + Wait + Sync, S: Store, I: Source, K: Sink, G: Gate>
 
 /// Runs the script of the source over the first two workers, and writes the answers to the sink.
 ///
-/// Takes no words. Each worker holds spare, steady stores of its own node: 1, 2 and so on; the shards of distributed tables take them. The log is new, and
-/// keeps the answers, the catalog and each group's journal. Gives the status that the process ends with.
+/// Takes no words. Each worker holds spare stores of its own node: 1, 2 and so on; the shards of distributed tables and the copies of reference
+/// tables take them. A call of a store may fail: its statement is answered so then, with the store's count of faults before and after, and leaves
+/// all as it was. The log is new, and keeps the answers, the catalog and each group's journal. Gives the status that the process ends with.
 pub fn run<R: Threads + Wait + Sync, S: Source, K: Sink, G: Gate>(
     rt: &R,
     alloc: Global,
@@ -151,6 +157,7 @@ pub fn run<R: Threads + Wait + Sync, S: Source, K: Sink, G: Gate>(
     ensures serves { (bytes : List ℕ) → (S.told source.old).left ≡ Some bytes → Serves result bytes (S.told source.new).left log.new.answers }
     ensures writes { (before : List ℕ) → (K.shown sink.old).written ≡ Some before → Writes (MayEnd (length words.now) (length workers.old.items) (S.told source.old) (S.told source.new)) result log.new.answers before (K.shown sink.new).written }
     ensures last { IsFinal ⟦<Box<dyn Store + Send> as Store>⟧.state node_count workers.old.items log.new.catalog log.new.journals.list workers.new.items }
+    ensures accounts { AllAccounted ⟦<Box<dyn Store + Send> as Store>⟧.state node_count log.new.answers workers.new.items }
     ensures cause { HasCause result (length words.now) (length workers.old.items) (S.told source.old) (S.told source.new) (K.shown sink.old) (K.shown sink.new) }
 {
     run_over(rt, alloc, words, source, sink, gate, workers, log)
