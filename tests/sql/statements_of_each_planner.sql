@@ -1,4 +1,4 @@
--- Statements that bind and aren't built, whatever stands in their tables.
+-- Statements of each planner, over empty tables, and those that aren't built.
 
 -- Two distributed tables, and one that is not.
 CREATE TABLE sales (tenant bigint, id bigint, price bigint, quantity integer, note text, PRIMARY KEY (tenant, id));
@@ -7,7 +7,7 @@ CREATE TABLE shops (id bigint PRIMARY KEY, name text);
 SELECT create_distributed_table('shops', 'id');
 CREATE TABLE loose (id bigint, name text);
 
--- What is refused.
+-- What is refused, and what isn't.
 COPY shops FROM STDIN;
 EXPLAIN SELECT id FROM sales WHERE tenant = 1;
 SELECT citus_move_shard_placement(102008, 1, 2);

@@ -1,4 +1,4 @@
--- Joins, subqueries and CTEs that are bound, and that are not built.
+-- Joins, subqueries and CTEs of every form, over empty tables, and those that no plan takes.
 CREATE TABLE t (k bigint, v integer, s text, PRIMARY KEY (k));
 CREATE TABLE u (k bigint, w bigint, name text);
 CREATE TABLE r (id bigint, name text, PRIMARY KEY (id));

@@ -1,4 +1,4 @@
--- Statements that are bound, and that are not built.
+-- Statements of every form, over empty tables; of those that move or copy rows, or explain a plan, none is built.
 -- t, u, i and r are distributed, l is a local table.
 CREATE TABLE t (k bigint PRIMARY KEY, v bigint);
 CREATE TABLE u (k bigint, w bigint, name text, PRIMARY KEY (k, w));

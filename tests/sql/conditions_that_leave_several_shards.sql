@@ -7,7 +7,7 @@ CREATE TABLE shops (id bigint PRIMARY KEY, name text);
 SELECT create_distributed_table('shops', 'id');
 CREATE TABLE loose (id bigint, name text);
 
--- What is refused.
+-- Each reads more than one shard, or would.
 SELECT id FROM sales;
 SELECT count(*) FROM sales WHERE id = 1;
 SELECT id FROM sales WHERE tenant > 1;
