@@ -18,7 +18,7 @@ SELECT a.code FROM countries a JOIN countries b ON a.code = b.code;
 SELECT s.name, c.name AS country FROM stores s LEFT JOIN countries c ON s.country = c.code WHERE s.id = 1;
 SELECT s.name, c.name AS country FROM stores s JOIN countries c ON s.country = c.code WHERE s.id = 1;
 SELECT s.name, u.label FROM stores s LEFT JOIN units u ON u.id = s.id WHERE s.id = 2;
-SELECT s.name FROM stores s LEFT JOIN countries c ON s.country = c.code; -- over several shards
+SELECT s.name FROM stores s LEFT JOIN countries c ON s.country = c.code ORDER BY s.name; -- over several shards
 INSERT INTO countries VALUES ('de', 'Germany'), ('dk', 'Denmark'), ('nl', NULL);
 INSERT INTO countries VALUES ('se', 'Sweden'), ('dk', 'Danmark'); -- one key is taken, so neither row is there
 INSERT INTO units VALUES (2, 'two'), (2, NULL), (NULL, 'none'), (1 + 2, 'three');
