@@ -105,7 +105,7 @@ groups_of_looks c tables (g ∷ touched) = ap (λ v. g ∷ v) (groups_of_looks c
 pub groups_looked : (c : Contents) (tables touched : List ℕ) → groups_in (looks_by c tables touched) ≡ touched
 groups_looked c tables touched = groups_of_looks c tables touched
 
-module _ {X : Type 0} (c : Contents) (groups : List (GroupState X)) (shaped : AreShaped c groups) (tables : List ℕ) where
+module _ {X : Type 0} (c : Contents) (groups : List (GroupState X)) {nodes : ℕ} (shaped : AreShaped c nodes groups) (tables : List ℕ) where
   its_group : (g : ℕ) → g < c.groups → (h : GroupState X) × (slice_get groups g ≡ Some h)
   its_group g below = let n : length groups ≡ c.groups = shaped.count in got groups g (omega (arith, n, below))
 

@@ -13,12 +13,17 @@ use Rattle.cq_answer.specs.declared.fault.Fault.TheVariants as fault
 use Rattle.cq_planning.specs.Database.{shape_in}
 use Rattle.cq_planning.specs.Parts.{parts}
 use Rattle.cq_history.specs.Standing.{tag_of}
+use Rattle.cq_history.specs.Journals.{journal_in}
+use Rattle.cq_history.specs.Faults.{IsShardIn, IsOnNode}
+use Rattle.cq_store.specs.Stores.{StoreState, Rose}
+use Rattle.cq_group.specs.Resting.{IsResting, HasFailedAt, journals_of}
 use Rattle.cq_group.specs.declared.group.GroupState.{GroupState}
 use Rattle.cq_group.specs.Groups.{HasTable, shapes}
 use Rattle.cq_router.specs.declared.insertion.Part.{Part}
 use Rattle.cq_router.specs.Piles.{as_part}
 use Rattle.cq_groups.specs.declared.error.WriteError.{WriteError}
-use Rattle.cq_groups.specs.declared.error.WriteError.TheVariants.{Ids, Memory}
+use Rattle.cq_groups.specs.declared.error.WriteError.TheVariants.{Ids, Worker, Memory}
+use Rattle.cq_groups.specs.Reads.{IsShaped}
 
 -- a table is in the group of this number, with its shape
 pub record IsTableIn {X : Type 0} (c : Contents) (groups : List (GroupState X)) (table place : ℕ) : Type 0 where
@@ -41,4 +46,10 @@ answer_by op (Ok (Count n)) = answer.Tag (tag_of op n)
 answer_by op (Ok Duplicate) = answer.Failed fault.Duplicate
 answer_by op (Ok OutOfRange) = answer.Failed fault.ValueOutOfRange
 answer_by op (Err Ids) = answer.Failed (fault.Limit what.Ids most_ids)
+answer_by op (Err (Worker node shard before after)) = answer.Failed (fault.Worker node shard before after)
 answer_by op (Err Memory) = answer.Failed fault.Memory
+
+-- the store that failed in a group is that of a shard of it, on a node where it is
+abbrev pub FaultIsPlaced : Type 1
+FaultIsPlaced = {X : Type 0} (state : X → StoreState) (c : Contents) (nodes place node shard before after : ℕ) (old new : List (GroupState X)) → HasFailedAt state place node shard before after old new →
+    ((g : GroupState X) → slice_get old place ≡ Some g → IsResting state g × IsShaped c nodes place g) → IsShardIn c place shard × IsOnNode nodes (journal_in (journals_of old) place) node × Rose before after

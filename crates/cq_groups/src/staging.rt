@@ -35,13 +35,24 @@ fn outcome_of(staged: Result<Staged, GroupError>) -> Result<Reply, WriteError>
     match staged {
         Ok(Staged::Ready(reply) | Staged::Refused(reply)) => Ok(reply),
         Ok(Staged::NoIds) => Err(WriteError::Ids),
-        Err(_) => Err(WriteError::Memory),
+        Err(GroupError::Worker {
+            node,
+            shard,
+            before,
+            after,
+        }) => Err(WriteError::Worker {
+            node,
+            shard,
+            before,
+            after,
+        }),
+        Err(GroupError::Memory) => Err(WriteError::Memory),
     }
 }
 
 /// Stages a part in its group, which rests, and gives its reply. Nothing is staged where that is a refusal.
 ///
-/// Errors: too few row ids, or want of memory; nothing is staged.
+/// Errors: too few row ids, a store that failed, or want of memory; nothing is staged.
 fn stage_part<S: Store>(
     alloc: Global,
     groups: &mut Vec<GroupState<S>>,
