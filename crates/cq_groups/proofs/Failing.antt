@@ -1,9 +1,13 @@
 -- Stores that fail, and where they are.
-use Rattle.std.proofs.Common.{◌≡◌, inl, inr, ℕ, zero, suc, ◌+◌, ◌<◌, ◌≤◌, List, [], ◌∷◌, length, map, refl, sym, ◌∙◌, ap, subst, arith, Some, slice_get}
+use Rattle.std.proofs.Common.{◌≡◌, inl, inr,  ℕ, zero, suc, ◌+◌, ◌<◌, ◌≤◌, List, [], ◌∷◌, length, map, refl, sym, ◌∙◌, ap, subst, arith, Some, slice_get}
 use Rattle.std.specs.Prelude.{nat_eq, if◌then◌else◌}
+use Rattle.std.proofs.lemmas.Bool.Decides.{eqb_tells}
 use Rattle.std.specs.List.{AllZip, AllByRecursion, flat_map}
 use Rattle.cq_value.specs.declared.schema.Shape.{Shape}
 use Rattle.cq_tree.specs.declared.journal.Entry.{Entry}
+use Rattle.cq_answer.specs.declared.answer.Answer.{Answer}
+use Rattle.cq_answer.specs.declared.answer.Answer.TheVariants as answer
+use Rattle.cq_answer.specs.declared.fault.Fault.TheVariants as fault
 use Rattle.cq_catalog.specs.Contents.{Contents}
 use Rattle.cq_journal.specs.Records.{Journal}
 use Rattle.cq_journal.specs.Stations.{node_of}
@@ -21,6 +25,11 @@ use Rattle.cq_groups.specs.Answers.{FaultIsPlaced}
 use Rattle.cq_groups.proofs.Growth.{got, got_below, journal_at}
 
 -- ---- the store that failed
+
+-- what an answer says of it
+abbrev pub named : Answer → ℕ × ℕ × ℕ × ℕ
+named (answer.Failed (fault.Worker node shard before after)) = (node, shard, before, after)
+named a = (0, 0, 0, 0)
 
 module _ {X : Type 0} (state : X → StoreState) (node shard before after : ℕ) where
   abbrev Fails : X → X → Type 0
@@ -65,6 +74,9 @@ module _ {X : Type 0} (state : X → StoreState) (node shard before after : ℕ)
 
 -- ---- where stores are
 
+node_other : (n at : ℕ) → node_at (suc n) at ≡ suc n
+node_other n at = elim (eqb_tells (suc n) 0) [ inl y ↦ absurd (let e = y.1 in omega (arith, e)) | inr z ↦ rw z.0 refl ]
+
 -- the node of a store at a place among its table's
 on_node : (nodes node all at : ℕ) (j : Journal) → node_of j ≡ node → (node ≡ 0 → (1 ≤ all) × (all ≡ nodes)) → at < (if nat_eq node 0 then all else 1) → IsOnNode nodes j (node_at node at)
 on_node nodes zero all at j placed near l = record {
@@ -72,11 +84,11 @@ on_node nodes zero all at j placed near l = record {
   few = λ e. let n = (near refl).1 in omega (arith, l, n);
   there = λ p. absurd (omega (arith, p, placed));
 }
-on_node nodes (suc n) all at j placed near l = record {
+on_node nodes (suc n) all at j placed near l = subst (IsOnNode nodes j) (sym (node_other n at)) (record {
   some = omega arith;
   few = λ e. absurd (omega (arith, e, placed));
   there = λ p. sym placed;
-}
+})
 
 module _ {X : Type 0} (state : X → StoreState) (c : Contents) (nodes place : ℕ) (j : Journal) where
   -- a store of a shard in the group, on a node where the group is
@@ -103,8 +115,8 @@ module _ {X : Type 0} (state : X → StoreState) (c : Contents) (nodes place : �
         (replicas_there 0 t.table t.shape t.shard t.stores.items kept.0.replicas (omega (arith, full)) shards.0)
         (tables_there ts kept.1 shards.1)
 
-pub fault_is_placed : FaultIsPlaced
-fault_is_placed {X} state c nodes place node shard before after old new f its =
+pub fault_is_placed : {X : Type 0} (state : X → StoreState) → FaultIsPlaced state
+fault_is_placed state c nodes place node shard before after old new f its =
     let g = f.was in
     let both = its g f.there in
     let j = journal_in (journals_of old) place in

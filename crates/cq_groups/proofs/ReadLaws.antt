@@ -160,6 +160,12 @@ none_below low g (l ∷ looks) asc h =
     let here : nat_lt l.0 g ≡ false = let a = asc.0 in let far : g ≤ l.0 = omega (arith, a, h) in grind (arith, nat_tests, far) in
     rw here (none_below (l.0 + 1) g looks asc.1 (let a = asc.0 in omega (arith, a, h)))
 
+pub among_one : (g : ℕ) → among g (g ∷ []) ≡ true
+among_one g = among_at ((g, []) ∷ []) 0 (g, []) (omega arith)
+
+pub below_one : (g : ℕ) → below g (g ∷ []) ≡ []
+below_one g = none_below g g ((g, []) ∷ []) (omega arith, tt) (omega arith)
+
 -- those before a look are those of the looks before it
 pub front_below : (low : ℕ) (looks : List Look) (n : ℕ) (d : Look) → IsAscendingFrom low (groups_in looks) → n < length looks → below (get_or looks n d).0 (groups_in looks) ≡ groups_in (take n looks)
 front_below low [] n d asc h = absurd (omega (arith, h))

@@ -37,8 +37,10 @@ fn read_group<S: Store>(
     ensures goes_on { GoOn S.state groups.old.items groups.new.items }
 {
     let group = &mut groups[look.0 as usize];
-    let seen = group.read(alloc, who, near, &look.1)?;
-    Ok(seen.tables)
+    match group.read(alloc, who, near, &look.1) {
+        Ok(seen) => Ok(seen.tables),
+        Err(error) => Err(error),
+    }
 }
 
 /// The rows of these tables of several shard groups, each of which has one Read in its journal then. The groups are in ascending order.
@@ -92,5 +94,8 @@ pub fn pick_group<S: Store>(
     ensures goes_on { GoOn S.state groups.old.items groups.new.items }
 {
     let shard_group = &mut groups[group as usize];
-    shard_group.pick(who, near, table, wanted)
+    match shard_group.pick(who, near, table, wanted) {
+        Ok(rows) => Ok(rows),
+        Err(error) => Err(error),
+    }
 }

@@ -14,8 +14,8 @@ read_group-requires-clause-resting g c = rest_again g.S.Store.state c.args.group
 pub read_group-requires-clause-there : goal.read_group-requires-clause-there
 read_group-requires-clause-there g c =
     let before = c.args.groups.now.items in
-    can_again g.S.Store.state before c.loop-look.groups.items c.look-item.result c.loop-look.invariant.goes_on
-    (subst (λ (l : Look). CanLook before l) (sym c.look-item.is) (all_get (CanLook before) c.args.looks.now c.loop-look.look-index c.look-item.result c.requires.there c.loop-look-test.true))
+    can_again g.S.Store.state c.args.near before c.loop-look.groups.items c.look-item.result c.loop-look.invariant.goes_on
+    (subst (λ (l : Look). CanLook c.args.near before l) (sym c.look-item.is) (all_get (CanLook c.args.near before) c.args.looks.now c.loop-look.look-index c.look-item.result c.requires.there c.loop-look-test.true))
 
 pub returns-in_err-tables-clause-err : goal.returns-in_err-tables-clause-err
 returns-in_err-tables-clause-err g c =
