@@ -257,7 +257,7 @@ module _ {X : Type 0} (state : X → StoreState) (who : Who) (old : List (GroupS
         let apart : among next.0 (groups_in (take n looks)) ≡ false = apart_from 0 looks n d asc within in
         let none : in_each (groups_in (take n looks)) (λ g. Read) next.0 ≡ [] = rw apart refl in
         let stays : journal_in (journals_of mid) next.0 ≡ journal_in (journals_of old) next.0 =
-            so.grows.kept next.0 (omega (arith, long, count, low)) ∙ ap (λ (ks : List EntryKind). with_entries who ks (journal_in (journals_of old) next.0)) none ∙ with_none who (journal_in (journals_of old) next.0) in
+        so.grows.kept next.0 (omega (arith, long, count, low)) ∙ ap (λ (ks : List EntryKind). with_entries who ks (journal_in (journals_of old) next.0)) none ∙ with_none who (journal_in (journals_of old) next.0) in
         record {
           group = next.0;
           there = among_at looks n d within;

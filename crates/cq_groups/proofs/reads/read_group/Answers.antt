@@ -29,7 +29,7 @@ pub returns-in-Ok-clause-entry : goal.returns-in-Ok-clause-entry
 returns-in-Ok-clause-entry g c = grows_in c.args.groups.now.items c.args.look.now.0 c.index_mut-group.result.now c.read.new.self c.args.who (λ n. Read) (group_at c.args.near c.args.groups.now.items c.args.look.now c.requires.there c.index_mut-group.result.now c.index_mut-group.ensures.value) c.read.ensures.goes_on.same c.in-Ok.ensures.entry
 
 pub returns-in-Ok-clause-goes_on : goal.returns-in-Ok-clause-goes_on
-returns-in-Ok-clause-goes_on g c = 
+returns-in-Ok-clause-goes_on g c =
     go_on_set g.S.Store.state c.args.groups.now.items c.args.look.now.0 c.index_mut-group.result.now c.read.new.self c.requires.resting (group_at c.args.near c.args.groups.now.items c.args.look.now c.requires.there c.index_mut-group.result.now c.index_mut-group.ensures.value) c.read.ensures.goes_on
     (rest_more g.S.Store.state c.index_mut-group.result.now c.read.new.self c.args.who Read (λ s. refl) (c.requires.resting c.args.look.now.0 c.index_mut-group.result.now (group_at c.args.near c.args.groups.now.items c.args.look.now c.requires.there c.index_mut-group.result.now c.index_mut-group.ensures.value)) c.read.ensures.kept c.read.ensures.quiet c.read.ensures.goes_on.same c.in-Ok.ensures.entry)
 
@@ -40,6 +40,6 @@ pub returns-in-Err-clause-failed : goal.returns-in-Err-clause-failed
 returns-in-Err-clause-failed g c = read_error c.args.near c.args.groups.now.items c.args.look.now c.requires.there c.index_mut-group.result.now c.index_mut-group.ensures.value g.S.Store.state c.read.new.self c.in-Err.error (c.requires.resting c.args.look.now.0 c.index_mut-group.result.now (group_at c.args.near c.args.groups.now.items c.args.look.now c.requires.there c.index_mut-group.result.now c.index_mut-group.ensures.value)) c.in-Err.ensures.blame c.in-Err.ensures.near
 
 pub returns-in-Err-clause-goes_on : goal.returns-in-Err-clause-goes_on
-returns-in-Err-clause-goes_on g c = 
+returns-in-Err-clause-goes_on g c =
     go_on_set g.S.Store.state c.args.groups.now.items c.args.look.now.0 c.index_mut-group.result.now c.read.new.self c.requires.resting (group_at c.args.near c.args.groups.now.items c.args.look.now c.requires.there c.index_mut-group.result.now c.index_mut-group.ensures.value) c.read.ensures.goes_on
     (rest_still g.S.Store.state c.index_mut-group.result.now c.read.new.self (c.requires.resting c.args.look.now.0 c.index_mut-group.result.now (group_at c.args.near c.args.groups.now.items c.args.look.now c.requires.there c.index_mut-group.result.now c.index_mut-group.ensures.value)) c.read.ensures.kept c.read.ensures.quiet c.read.ensures.goes_on.same c.in-Err.ensures.err)

@@ -1,6 +1,6 @@
 use Rattle.std.proofs.Common.{◌≡◌, rules, [], ◌∷◌, sym, subst, slice_get}
 use Rattle.cq_group.proofs.PlaceLaws.{all_get}
-use Rattle.cq_groups.specs.Reads.{Look, CanLook, AreRead, captured_of}
+use Rattle.cq_groups.specs.Reads.{Look, CanLook, AreRead, IsReadError, captured_of}
 use Rattle.cq_groups.proofs.Growth.{rest_again, go_on_twice}
 use Rattle.cq_groups.proofs.ReadLaws.{can_again, read_none, read_more, stopped_before, stopped_after, failed_at}
 use Rattle.cq_groups.proofs.reads.read_groups.Goals as goal
@@ -25,9 +25,13 @@ returns-in_err-tables-clause-err g c =
 
 pub returns-in_err-tables-clause-failed : goal.returns-in_err-tables-clause-failed
 returns-in_err-tables-clause-failed g c =
-    let fails = failed_at g.S.Store.state c.args.who c.args.groups.now.items c.args.looks.now c.loop-look.look-index c.look-item.result c.loop-look-test.true
-    c.args.near c.loop-look.groups.items c.read_group.new.groups.items c.loop-look.seen ? c.requires.ascending c.loop-look.invariant c.in_err-tables.ensures.err ? in
-    ?
+    let before = c.loop-look.groups.items in
+    let after = c.read_group.new.groups.items in
+    let error = c.in_err-tables.field-0.0 in
+    let failed = failed_at g.S.Store.state c.args.who c.args.groups.now.items c.args.looks.now c.loop-look.look-index c.look-item.result c.loop-look-test.true
+    c.args.near before after c.loop-look.seen error c.requires.ascending c.loop-look.invariant c.in_err-tables.ensures.err
+    (subst (λ (l : Look). IsReadError g.S.Store.state c.args.near l.0 before after error) c.look-item.is c.in_err-tables.ensures.failed) in
+    search rules
 
 pub returns-in_err-tables-clause-goes_on : goal.returns-in_err-tables-clause-goes_on
 returns-in_err-tables-clause-goes_on g c = go_on_twice g.S.Store.state c.args.groups.now.items c.loop-look.groups.items c.read_group.new.groups.items c.loop-look.invariant.goes_on c.read_group.ensures.goes_on
