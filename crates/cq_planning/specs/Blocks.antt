@@ -1,5 +1,5 @@
 -- The blocks of a query: the queries that are planned by themselves. And all queries that stand in it.
-use Rattle.std.specs.Prelude.{List, [], ◌∷◌, ◌++◌, Bool, not, ◌||◌, if◌then◌else◌, is_some}
+use Rattle.std.specs.Prelude.{List, [], ◌∷◌, ◌++◌, Bool, ◌||◌, if◌then◌else◌, is_some}
 use Rattle.cq_tree.specs.declared.query.FromTree.{FromTree, Table, Sub', Result, Cross', Inner', Left', end_of-FromTree, more_of-FromTree}
 use Rattle.cq_tree.specs.declared.query.Query.{Query, Query', Row_of-Query, end_of-Query, more_of-Query}
 use Rattle.cq_catalog.specs.Contents.{Contents}

@@ -1,5 +1,5 @@
 -- The lowest refusal of a query by the flaws of its blocks.
-use Rattle.std.proofs.Common.{◌≡◌, Bool, List, [], ◌∷◌, map, Option, None, Some, refl, ap, ◌∙◌, ◌||◌, if◌then◌else◌}
+use Rattle.std.proofs.Common.{◌≡◌, Bool, List, [], ◌∷◌, map, Option, None, Some, refl, ap, ◌||◌, if◌then◌else◌}
 use Rattle.std.specs.List.{list_any}
 use Rattle.cq_tree.specs.declared.query.Query.{Query}
 use Rattle.cq_tree.specs.declared.unsupported.Unsupported.{Unsupported}

@@ -1,4 +1,4 @@
-use Rattle.std.proofs.Common.{rules, ◌≡◌, ap, ◌∙◌, ◌||◌}
+use Rattle.std.proofs.Common.{rules, ap, ◌∙◌, ◌||◌}
 use Rattle.std.specs.List.{list_any}
 use Rattle.cq_tree.specs.declared.query.Query.{out-Query}
 use Rattle.cq_planning.specs.Blocks.{subqueries_in, subqueries_below}
