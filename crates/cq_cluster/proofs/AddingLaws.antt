@@ -13,14 +13,14 @@ use Rattle.cq_store.specs.Workers.{room}
 use Rattle.cq_store.specs.declared.worker.Worker.{Worker}
 use Rattle.cq_cluster.specs.Room.{shards_on}
 use Rattle.cq_group.specs.declared.group.GroupState.{GroupState}
-use Rattle.cq_group.specs.Groups.{IsKept, IsQuiet, IsSteady, Outline, outlines, entries_of, stores_of, shape_at}
+use Rattle.cq_group.specs.Groups.{IsKept, IsQuiet, Outline, outlines, entries_of, stores_of, shape_at}
 use Rattle.cq_group.specs.Opening.{EndsUnwritten}
 use Rattle.cq_cluster.specs.declared.shards.Shards.{Shards}
-use Rattle.cq_cluster.specs.Cluster.{held, node_of}
+use Rattle.cq_cluster.specs.Cluster.{held, home_of}
 use Rattle.cq_cluster.specs.Steps.{AllWait, Lacks, Goes, Loses, more_at, AreSpent, IsUnwritten, shard_outline, Adding}
 use Rattle.cq_cluster.proofs.ListLaws.{got_after, got_other, there}
 use Rattle.cq_cluster.proofs.RoomLaws.{next_here, next_elsewhere, none_on, fewer_on}
-use Rattle.cq_cluster.proofs.GoneLaws.{goes_on, goes_back, gone_set, held_set}
+use Rattle.cq_cluster.proofs.GoneLaws.{goes_count, loses_count, goes_on, goes_back, gone_set, held_set}
 
 -- ---- which groups have the table
 
@@ -109,7 +109,7 @@ module _ {X : Type 0} (state : X → StoreState) (nodes : ℕ) (some : 0 < nodes
 module _ {X : Type 0} (state : X → StoreState) where
   -- the worker of the next shard: its stores wait, and it has one for it
   pub worker_of : (shards : Shards) (shape : Shape) (old groups : List (GroupState X)) (full workers : List (Worker X)) (n place : ℕ) (w : Worker X) → Adding state shards shape old full n groups workers → n < shards.count →
-      place ≡ n % shards.nodes → w ≡ get_or workers place w → (slice_get workers place ≡ Some w) × AllWait state w × (w.node ≡ node_of shards.nodes n) × (0 < length w.stores.items)
+      place ≡ n % shards.nodes → w ≡ get_or workers place w → (slice_get workers place ≡ Some w) × AllWait state w × (w.node ≡ home_of shards.nodes n) × (0 < length w.stores.items)
   worker_of shards shape old groups full workers n place w a less e is =
       let within = low state shards.nodes a.some n place e in
       let fewer = fewer_on shards.nodes a.some n shards.count place less e in
@@ -121,7 +121,7 @@ module _ {X : Type 0} (state : X → StoreState) where
 
   -- the worker of the last shard has room for its store
   pub worker_back : (shards : Shards) (shape : Shape) (old groups : List (GroupState X)) (full workers : List (Worker X)) (n place : ℕ) (w : Worker X) → Adding state shards shape old full (n + 1) groups workers →
-      place ≡ n % shards.nodes → w ≡ get_or workers place w → (slice_get workers place ≡ Some w) × AllWait state w × (w.node ≡ node_of shards.nodes n) × (0 < room w.stores)
+      place ≡ n % shards.nodes → w ≡ get_or workers place w → (slice_get workers place ≡ Some w) × AllWait state w × (w.node ≡ home_of shards.nodes n) × (0 < room w.stores)
   worker_back shards shape old groups full workers n place w a e is =
       let within = low state shards.nodes a.some n place e in
       let more = next_here shards.nodes a.some n place e in
@@ -149,9 +149,8 @@ module _ {X : Type 0} (state : X → StoreState) where
     pub there : slice_get groups (shards.first_group + n) ≡ Some g
     pub kept : IsKept state g
     pub quiet : IsQuiet state g
-    pub steady : IsSteady state g
     pub new : shape_at (outlines g) shards.table ≡ None
-    pub node : g.node ≡ node_of shards.nodes n
+    pub node : g.node ≡ home_of shards.nodes n
 
   pub next_group : (shards : Shards) (shape : Shape) (old groups : List (GroupState X)) (full workers : List (Worker X)) (n k : ℕ) (g : GroupState X) → Adding state shards shape old full n groups workers → n < shards.count →
       k ≡ shards.first_group + n → g ≡ get_or groups k g → NextGroup shards n groups g
@@ -169,9 +168,8 @@ module _ {X : Type 0} (state : X → StoreState) where
         there = here;
         kept = goes.kept;
         quiet = goes.quiet;
-        steady = goes.steady;
         new = ap (λ (v : List Outline). shape_at v shards.table) same ∙ ready.0;
-        node = goes.node ∙ ready.1 ∙ ap (node_of shards.nodes) offset;
+        node = goes.node ∙ ready.1 ∙ ap (home_of shards.nodes) offset;
       }
 
   -- the group whose table was added last
@@ -179,9 +177,8 @@ module _ {X : Type 0} (state : X → StoreState) where
     pub there : slice_get groups (shards.first_group + n) ≡ Some g
     pub kept : IsKept state g
     pub quiet : IsQuiet state g
-    pub steady : IsSteady state g
     pub unwritten : EndsUnwritten g
-    pub node : g.node ≡ node_of shards.nodes n
+    pub node : g.node ≡ home_of shards.nodes n
 
   pub last_group : (shards : Shards) (shape : Shape) (old groups : List (GroupState X)) (full workers : List (Worker X)) (n k : ℕ) (g : GroupState X) → Adding state shards shape old full (n + 1) groups workers →
       k ≡ shards.first_group + n → g ≡ get_or groups k g → LastGroup shards n groups g
@@ -198,25 +195,24 @@ module _ {X : Type 0} (state : X → StoreState) where
         there = here;
         kept = goes.kept;
         quiet = goes.quiet;
-        steady = goes.steady;
         unwritten = record { others = outlines was.0; last = o n; tables = goes.outlined; unwritten = unwritten_at shards.table groups (first + n) g a.unwritten here };
-        node = goes.node ∙ ready.1 ∙ ap (node_of shards.nodes) offset;
+        node = goes.node ∙ ready.1 ∙ ap (home_of shards.nodes) offset;
       }
 
   -- ---- one step
 
   module _ (shards : Shards) (shape : Shape) (old groups : List (GroupState X)) (full workers : List (Worker X)) (n k place : ℕ) (g new : GroupState X) (w after : Worker X) (e : k ≡ shards.first_group + n) (p : place ≡ n % shards.nodes) where
-    counted : (q m : ℕ) → slice_get groups k ≡ Some g → new.node ≡ g.node → g.node ≡ node_of shards.nodes n → length (stores_of new) + q ≡ length (stores_of g) + m → (j : ℕ) → j < shards.nodes →
-        held j (set groups k new) + cond (nat_eq (node_of shards.nodes n) (j + 1)) q 0 ≡ held j groups + cond (nat_eq (node_of shards.nodes n) (j + 1)) m 0
+    counted : (q m : ℕ) → slice_get groups k ≡ Some g → new.node ≡ g.node → g.node ≡ home_of shards.nodes n → length (stores_of new) + q ≡ length (stores_of g) + m → (j : ℕ) → j < shards.nodes →
+        held j (set groups k new) + cond (nat_eq (home_of shards.nodes n) (j + 1)) q 0 ≡ held j groups + cond (nat_eq (home_of shards.nodes n) (j + 1)) m 0
     counted q m s same node count j h =
         let further = rw node at (held_set state j groups k g new s same) in
-        elim (eqb_tells (node_of shards.nodes n) (j + 1)) [
+        elim (eqb_tells (home_of shards.nodes n) (j + 1)) [
           | inl y ↦ (let f = rw y.0 at further in rw y.0 (omega (arith, f, count)))
           | inr z ↦ (let f = rw z.0 at further in rw z.0 (omega (arith, f)))
         ]
 
-    on_node : 0 < shards.nodes → (j : ℕ) → j < shards.nodes → shards_on shards.nodes (n + 1) j ≡ shards_on shards.nodes n j + cond (nat_eq (node_of shards.nodes n) (j + 1)) 1 0
-    on_node some j h = elim (eqb_tells (node_of shards.nodes n) (j + 1)) [
+    on_node : 0 < shards.nodes → (j : ℕ) → j < shards.nodes → shards_on shards.nodes (n + 1) j ≡ shards_on shards.nodes n j + cond (nat_eq (home_of shards.nodes n) (j + 1)) 1 0
+    on_node some j h = elim (eqb_tells (home_of shards.nodes n) (j + 1)) [
       | inl y ↦ (let here : j ≡ n % shards.nodes = omega (arith, y.1) in rw y.0 (next_here shards.nodes some n j here))
       | inr z ↦ rw z.0 (let same = next_elsewhere shards.nodes some n j h (λ f. z.1 (omega (arith, f))) in omega (arith, same))
     ]
@@ -224,7 +220,7 @@ module _ {X : Type 0} (state : X → StoreState) where
     same_entries : new.journal ≡ g.journal → entries_of new ≡ entries_of g
     same_entries j = ap (λ (v : Journal). v.entries.list) j
 
-    pub adding_more : n < shards.count → Adding state shards shape old full n groups workers → slice_get groups k ≡ Some g → slice_get workers place ≡ Some w → g.node ≡ node_of shards.nodes n → Goes state (shard_outline shards shape n ∷ []) g new →
+    pub adding_more : n < shards.count → Adding state shards shape old full n groups workers → slice_get groups k ≡ Some g → slice_get workers place ≡ Some w → g.node ≡ home_of shards.nodes n → Goes state (shard_outline shards shape n ∷ []) g new →
         Lacks 1 w after → AllWait state after → Adding state shards shape old full (n + 1) (set groups k new) (set workers place after)
     adding_more less a s t node goes lacks wait =
         let first = shards.first_group in
@@ -242,7 +238,7 @@ module _ {X : Type 0} (state : X → StoreState) where
           gone = gone_set state (more_at first o n) (more_at first o (n + 1)) old groups k g new a.gone s
               (λ was q. subst (λ (v : List Outline). Goes state v was new) (here_again o) (goes_on state [] (o n ∷ []) was g new (subst (λ (v : List Outline). Goes state v was g) (here_none o) q) goes))
               (λ h ne. more_other first o n h (λ d. ne (d ∙ sym e)));
-          held = λ j h. let c = counted 0 1 s goes.node node (omega (arith, goes.count)) j h in omega (arith, c, a.held j h, on_node a.some j h, zero_either (nat_eq (node_of shards.nodes n) (j + 1)));
+          held = λ j h. let c = counted 0 1 s goes.node node (omega (arith, goes_count state (shard_outline shards shape n ∷ []) g new goes)) j h in omega (arith, c, a.held j h, on_node a.some j h, zero_either (nat_eq (home_of shards.nodes n) (j + 1)));
           unwritten = unwritten_set shards.table groups k new a.unwritten (subst (IsUnwritten shards.table) (sym (same_entries goes.journal)) (unwritten_at shards.table groups k g a.unwritten s));
           spent = one_spent state shards.nodes a.some full workers n place w after p a.spent t lacks wait;
         }
@@ -253,7 +249,7 @@ module _ {X : Type 0} (state : X → StoreState) where
         here_again : (o : ℕ → Outline) → o n ∷ [] ≡ more_at shards.first_group o (n + 1) k
         here_again o = sym (ap (more_at shards.first_group o (n + 1)) e ∙ more_here shards.first_group o n)
 
-    pub adding_same : Adding state shards shape old full n groups workers → slice_get groups k ≡ Some g → slice_get workers place ≡ Some w → g.node ≡ node_of shards.nodes n → Goes state [] g new →
+    pub adding_same : Adding state shards shape old full n groups workers → slice_get groups k ≡ Some g → slice_get workers place ≡ Some w → g.node ≡ home_of shards.nodes n → Goes state [] g new →
         Lacks 0 w after → AllWait state after → Adding state shards shape old full n (set groups k new) (set workers place after)
     adding_same a s t node goes lacks wait =
         let first = shards.first_group in
@@ -271,12 +267,12 @@ module _ {X : Type 0} (state : X → StoreState) where
           gone = gone_set state (more_at first o n) (more_at first o n) old groups k g new a.gone s
               (λ was q. subst (λ (v : List Outline). Goes state v was new) (append-nil (more_at first o n k)) (goes_on state (more_at first o n k) [] was g new q goes))
               (λ h ne. refl);
-          held = λ j h. let c = counted 0 0 s goes.node node (omega (arith, goes.count)) j h in omega (arith, c, a.held j h);
+          held = λ j h. let c = counted 0 0 s goes.node node (omega (arith, goes_count state [] g new goes)) j h in omega (arith, c, a.held j h);
           unwritten = unwritten_set shards.table groups k new a.unwritten (subst (IsUnwritten shards.table) (sym (same_entries goes.journal)) (unwritten_at shards.table groups k g a.unwritten s));
           spent = none_spent state shards.nodes a.some full workers n place w after (low state shards.nodes a.some n place p) a.spent t lacks wait;
         }
 
-    pub adding_less : Adding state shards shape old full (n + 1) groups workers → slice_get groups k ≡ Some g → slice_get workers place ≡ Some w → g.node ≡ node_of shards.nodes n → Loses state g new →
+    pub adding_less : Adding state shards shape old full (n + 1) groups workers → slice_get groups k ≡ Some g → slice_get workers place ≡ Some w → g.node ≡ home_of shards.nodes n → Loses state g new →
         Lacks 1 after w → AllWait state after → Adding state shards shape old full n (set groups k new) (set workers place after)
     adding_less a s t node lost lacks wait =
         let first = shards.first_group in
@@ -294,7 +290,7 @@ module _ {X : Type 0} (state : X → StoreState) where
           gone = gone_set state (more_at first o (n + 1)) (more_at first o n) old groups k g new a.gone s
               (λ was q. subst (λ (v : List Outline). Goes state v was new) (here_none o) (goes_back state (o n) was g new (subst (λ (v : List Outline). Goes state v was g) (here_again o) q) lost))
               (λ h ne. sym (more_other first o n h (λ d. ne (d ∙ sym e))));
-          held = λ j h. let c = counted 1 0 s lost.node node (omega (arith, lost.count)) j h in omega (arith, c, a.held j h, on_node a.some j h, zero_either (nat_eq (node_of shards.nodes n) (j + 1)));
+          held = λ j h. let c = counted 1 0 s lost.node node (omega (arith, loses_count state g new lost)) j h in omega (arith, c, a.held j h, on_node a.some j h, zero_either (nat_eq (home_of shards.nodes n) (j + 1)));
           unwritten = unwritten_set shards.table groups k new a.unwritten (subst (IsUnwritten shards.table) (sym (same_entries lost.journal)) (unwritten_at shards.table groups k g a.unwritten s));
           spent = one_back state shards.nodes a.some full workers n place w after p a.spent t lacks wait;
         }

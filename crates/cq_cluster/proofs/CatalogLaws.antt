@@ -7,6 +7,7 @@ use Rattle.std.proofs.lemmas.Bool.Decides.{nat_tests, eqb_tells}
 use Rattle.std.proofs.lemmas.Option.{slice_get_within}
 use Rattle.cq_value.specs.declared.schema.Kind.{Kind}
 use Rattle.cq_value.specs.declared.schema.Shape.{Shape}
+use Rattle.cq_journal.specs.Stations.{node_of}
 use Rattle.cq_journal.specs.declared.journal.Journal.{Journal}
 use Rattle.cq_catalog.specs.Contents.{Contents, place_in, with_place, shape_of, count_in}
 use Rattle.cq_catalog.specs.Distribution.{spread, with_colocation}
@@ -21,10 +22,10 @@ use Rattle.cq_store.specs.Stores.{StoreState}
 use Rattle.cq_planning.specs.Database.{shape_in}
 use Rattle.cq_cluster.specs.Room.{shards_on, taken_by, taken_in, taken}
 use Rattle.cq_group.specs.declared.group.GroupState.{GroupState}
-use Rattle.cq_group.specs.Groups.{IsKept, IsQuiet, IsSteady, Outline, outlines, shape_at, stores_of}
+use Rattle.cq_group.specs.Groups.{IsKept, IsQuiet, Outline, outlines, journal_of, shape_at, stores_of}
 use Rattle.cq_cluster.specs.Cluster.{IsShardOf, IsReferenceGroup, IsCovered, IsReferenced, held, everywhere, AreGroups}
 use Rattle.cq_cluster.specs.Steps.{Goes, AreGone, more_at, nothing_more, AreOpened}
-use Rattle.cq_cluster.proofs.GoneLaws.{held_gone, everywhere_gone}
+use Rattle.cq_cluster.proofs.GoneLaws.{goes_placed, placed_empty, held_gone, everywhere_gone}
 
 -- ---- lists
 
@@ -111,12 +112,12 @@ covered_again c next group kept still (inr was) = inr (record { table = was.tabl
 module _ {X : Type 0} (state : X → StoreState) (nodes : ℕ) where
   -- ---- a reference table's group goes on
 
-  pub reference_still : (c next : Contents) (table group shard : ℕ) (g h : GroupState X) → IsReferenceGroup state nodes c table group shard g → IsKept state h → IsQuiet state h → IsSteady state h →
+  pub reference_still : (c next : Contents) (table group shard : ℕ) (g h : GroupState X) → IsReferenceGroup state nodes c table group shard g → IsKept state h → IsQuiet state h → node_of (journal_of h) ≡ h.node →
       h.journal.group ≡ g.journal.group → h.journal.opening ≡ g.journal.opening → h.node ≡ g.node → outlines h ≡ outlines g → shape_in next table ≡ shape_in c table → IsReferenceGroup state nodes next table group shard h
-  reference_still c next table group shard g h at kept quiet steady number opening node same shape = record {
+  reference_still c next table group shard g h at kept quiet placed number opening node same shape = record {
     kept = kept;
     quiet = quiet;
-    steady = steady;
+    placed = placed;
     number = number ∙ at.number;
     opening = opening ∙ at.opening;
     node = node ∙ at.node;
@@ -125,7 +126,7 @@ module _ {X : Type 0} (state : X → StoreState) (nodes : ℕ) where
 
   reference_goes : (c next : Contents) (table group shard : ℕ) (g h : GroupState X) → IsReferenceGroup state nodes c table group shard g → Goes state [] g h → shape_in next table ≡ shape_in c table → IsReferenceGroup state nodes next table group shard h
   reference_goes c next table group shard g h at goes shape =
-      reference_still c next table group shard g h at goes.kept goes.quiet goes.steady (ap (λ (j : Journal). j.group) goes.journal) (ap (λ (j : Journal). j.opening) goes.journal) goes.node (goes.outlined ∙ append-nil (outlines g)) shape
+      reference_still c next table group shard g h at goes.kept goes.quiet (goes_placed state g h goes at.placed) (ap (λ (j : Journal). j.group) goes.journal) (ap (λ (j : Journal). j.opening) goes.journal) goes.node (goes.outlined ∙ append-nil (outlines g)) shape
 
   -- ---- groups that go on as they were
 
@@ -139,7 +140,7 @@ module _ {X : Type 0} (state : X → StoreState) (nodes : ℕ) where
         record {
           kept = was.2.kept;
           quiet = was.2.quiet;
-          steady = was.2.steady;
+          placed = goes_placed state was.0 g was.2 at.placed;
           number = ap (λ (j : Journal). j.group) was.2.journal ∙ at.number;
           opening = ap (λ (j : Journal). j.opening) was.2.journal ∙ at.opening;
           node = was.2.node ∙ at.node;
@@ -205,7 +206,7 @@ module _ {X : Type 0} (state : X → StoreState) (nodes : ℕ) where
               let cut = whole.cut colocation co before in
               let g_was : slice_get old (co.first_group + i) ≡ Some g = sym (before_more old opened (co.first_group + i) (omega (arith, cut.within, within, all.count))) ∙ s in
               let at = all.each colocation i co g before within g_was in
-              record { kept = at.kept; quiet = at.quiet; steady = at.steady; number = at.number; opening = at.opening; node = at.node; shards = at.shards; complete = at.complete }
+              record { kept = at.kept; quiet = at.quiet; placed = at.placed; number = at.number; opening = at.opening; node = at.node; shards = at.shards; complete = at.complete }
           | inr new ↦
               let start : co.first_group ≡ c.groups = sym (ap (λ (x : Colocation). x.first_group) new.1) in
               let index : co.first_group + i ≡ length old + i = omega (arith, start, all.count) in
@@ -214,7 +215,7 @@ module _ {X : Type 0} (state : X → StoreState) (nodes : ℕ) where
               record {
                 kept = at.kept;
                 quiet = at.quiet;
-                steady = rw at.tables tt;
+                placed = placed_empty g at.entries (at.opening ∙ sym at.node);
                 number = omega (arith, at.number, start);
                 opening = at.opening;
                 node = at.node;
@@ -226,7 +227,7 @@ module _ {X : Type 0} (state : X → StoreState) (nodes : ℕ) where
             let low = placed_group c table group shard whole placed in
             let g_was : slice_get old group ≡ Some g = sym (before_more old opened group (omega (arith, low, all.count))) ∙ s in
             let at = all.references table group shard g placed g_was in
-            record { kept = at.kept; quiet = at.quiet; steady = at.steady; number = at.number; opening = at.opening; node = at.node; only = at.only };
+            record { kept = at.kept; quiet = at.quiet; placed = at.placed; number = at.number; opening = at.opening; node = at.node; only = at.only };
         covered = λ group h. elim (cases_lt group c.groups) [
           | inl l ↦ covered_again c (with_colocation c kind count joinable) group (λ k co there. still_there c.colocations (more ∷ []) k co there) (λ table shard p. p) (all.covered group l)
           | inr l ↦ inl (record { colocation = length c.colocations; i = group - c.groups; co = more; there = last_there c.colocations more; within = omega (arith, h, l); is = omega (arith, l) })
@@ -338,7 +339,7 @@ module _ {X : Type 0} (state : X → StoreState) (nodes : ℕ) where
                   record {
                     kept = added.kept;
                     quiet = added.quiet;
-                    steady = added.steady;
+                    placed = goes_placed state was.0 g added is.placed;
                     number = ap (λ (j : Journal). j.group) added.journal ∙ is.number;
                     opening = ap (λ (j : Journal). j.opening) added.journal ∙ is.opening;
                     node = added.node ∙ is.node;
@@ -355,7 +356,7 @@ module _ {X : Type 0} (state : X → StoreState) (nodes : ℕ) where
                   record {
                     kept = same.kept;
                     quiet = same.quiet;
-                    steady = same.steady;
+                    placed = goes_placed state was.0 g same is.placed;
                     number = ap (λ (j : Journal). j.group) same.journal ∙ is.number;
                     opening = ap (λ (j : Journal). j.opening) same.journal ∙ is.opening;
                     node = same.node ∙ is.node;

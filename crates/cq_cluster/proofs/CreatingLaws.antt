@@ -4,6 +4,7 @@ use Rattle.std.specs.Prelude.{option_map, nat_lt, is_some, take}
 use Rattle.std.proofs.lemmas.Bool.Decides.{nat_tests}
 use Rattle.cq_value.specs.declared.schema.Column.{Column}
 use Rattle.cq_value.specs.declared.schema.Shape.{Shape}
+use Rattle.cq_answer.specs.declared.answered.Answered.{Answered}
 use Rattle.cq_answer.specs.declared.fault.Fault.{Fault}
 use Rattle.cq_answer.specs.declared.fault.Fault.TheVariants as fault
 use Rattle.cq_answer.specs.Faults.{fault_of_catalog}
@@ -25,6 +26,7 @@ use Rattle.cq_store.specs.Stores.{StoreState}
 use Rattle.cq_group.specs.declared.group.GroupState.{GroupState}
 use Rattle.cq_group.specs.Groups.{Outline, outlines}
 use Rattle.cq_cluster.specs.declared.cluster.Cluster.{Cluster}
+use Rattle.cq_cluster.specs.Accounts.{AreAccounted}
 use Rattle.cq_cluster.specs.Cluster.{IsShardOf, AreGroups, IsSound}
 use Rattle.cq_cluster.proofs.CatalogLaws.{got_more, still_there, all_weaker, covered_again}
 use Rattle.cq_cluster.proofs.DistributeLaws.{memory_is}
@@ -134,7 +136,7 @@ module _ (c : Contents) (name : List ℕ) (columns : List Column) (key : List �
           record {
             kept = at.kept;
             quiet = at.quiet;
-            steady = at.steady;
+            placed = at.placed;
             number = at.number;
             opening = at.opening;
             node = at.node;
@@ -148,7 +150,7 @@ module _ (c : Contents) (name : List ℕ) (columns : List Column) (key : List �
           record {
             kept = at.kept;
             quiet = at.quiet;
-            steady = at.steady;
+            placed = at.placed;
             number = at.number;
             opening = at.opening;
             node = at.node;
@@ -173,3 +175,11 @@ sound_created state old new name columns key s allowed made groups workers nodes
       enough = rw (workers, nodes) s.enough;
       workers = (s.workers.0, rw (groups, workers, nodes) s.workers.1);
     }
+
+-- and no shard id is given out
+module _ {X : Type 0} (state : X → StoreState) where
+  pub created_accounted : (c next : Contents) (name : List ℕ) (columns : List Column) (key : List ℕ) (answers : List Answered) (groups : List (GroupState X)) → next ≡ with_table c name columns key → AreAccounted state c answers groups → AreAccounted state next answers groups
+  created_accounted c next name columns key answers groups made all = subst (λ (v : Contents). AreAccounted state v answers groups) (sym made) (record { stores = all.stores; below = all.below })
+
+  pub same_catalog : (c next : Contents) (answers : List Answered) (groups : List (GroupState X)) → next ≡ c → AreAccounted state c answers groups → AreAccounted state next answers groups
+  same_catalog c next answers groups same all = subst (λ (v : Contents). AreAccounted state v answers groups) (sym same) all

@@ -1,6 +1,7 @@
 -- What a distribution leaves: the table distributed, or all as it was.
 use Rattle.std.proofs.Common.{◌≡◌, ℕ, ◌<◌, List, sym, ap, subst, ◌∙◌, None, Option}
 use Rattle.cq_value.specs.declared.schema.With.{With}
+use Rattle.cq_answer.specs.declared.answered.Answered.{Answered}
 use Rattle.cq_answer.specs.declared.fault.Fault.{Fault}
 use Rattle.cq_answer.specs.declared.fault.Fault.TheVariants as fault
 use Rattle.cq_answer.specs.Faults.{fault_of_catalog}
@@ -22,8 +23,10 @@ use Rattle.cq_store.specs.Stores.{StoreState}
 use Rattle.cq_store.specs.declared.worker.Worker.{Worker}
 use Rattle.cq_cluster.specs.declared.cluster.Cluster.{Cluster}
 use Rattle.cq_cluster.specs.Cluster.{AreGroups, AreWorkers, journals, run_of, IsSound, KeepsStores}
+use Rattle.cq_cluster.specs.Accounts.{AreAccounted}
 use Rattle.cq_cluster.specs.Steps.{IsOpen, IsUndone, IsPlanned}
 use Rattle.cq_cluster.proofs.GoneLaws.{gone_journals}
+use Rattle.cq_cluster.proofs.AccountLaws.{same_accounted}
 use Rattle.cq_cluster.proofs.JournalLaws.{opens_distributed}
 use Rattle.cq_cluster.proofs.TargetLaws.{can_distribute}
 use Rattle.cq_cluster.proofs.SoundLaws.{done_at, undone_stores}
@@ -59,12 +62,14 @@ module _ {X : Type 0} (state : X → StoreState) where
     pub sound : IsSound state new
     pub same : journals new ≡ journals old
     pub stores : KeepsStores state old new
+    pub accounted : (answers : List Answered) → AreAccounted state old.catalog answers old.groups.items → AreAccounted state new.catalog answers new.groups.items
 
   pub as_it_was : (old new : Cluster X) → IsSound state old → new.catalog ≡ old.catalog → new.nodes ≡ old.nodes → IsUndone state old.nodes old.groups.items old.workers.items new.groups.items new.workers.items → IsAsItWas old new
   as_it_was old new s same nodes undone = record {
     sound = sound_again state old new s same nodes undone;
     same = gone_journals state _ old.groups.items new.groups.items undone.gone;
     stores = keeps_stores old new nodes (undone_stores state old.nodes s.some old.groups.items new.groups.items old.workers.items new.workers.items s.enough undone);
+    accounted = λ answers. same_accounted state old.catalog new.catalog answers old.groups.items new.groups.items same undone.gone;
   }
 
   -- ---- the table is distributed
@@ -76,6 +81,7 @@ module _ {X : Type 0} (state : X → StoreState) where
       pub opens : (entry : List (Worker X)) → OpensGroups (run_of old.nodes entry) old.catalog new.catalog (journals new)
       pub allowed : (entry : List (Worker X)) → AreWorkers state old.nodes entry old.groups.items old.workers.items → distribution_fault (run_of old.nodes entry) old.catalog default table column count beside ≡ None
       pub stores : KeepsStores state old new
+      pub accounted : (answers : List Answered) → AreAccounted state old.catalog answers old.groups.items → AreAccounted state new.catalog answers new.groups.items
 
     pub distributed : (o : Opened) → IsSound state old → new.nodes ≡ old.nodes → IsPlanned old.nodes old.catalog old.workers.items table column count beside default o →
         IsOpen state old.nodes o (shape_in old.catalog o.table) old.groups.items old.workers.items new.groups.items new.workers.items →
@@ -97,4 +103,5 @@ module _ {X : Type 0} (state : X → StoreState) where
           opens = λ entry. subst (λ (v : Contents). OpensGroups (run_of old.nodes entry) c v (journals new)) (sym made) (opens_distributed state old.nodes entry c d.table d.column d.kind d.target new.groups.items done.after after);
           allowed = by_shortage state old table column count beside default o None s p.allowed p.opened p.room;
           stores = keeps_stores old new nodes done.stores;
+          accounted = λ answers was. subst (λ (v : Contents). AreAccounted state v answers new.groups.items) (sym made) (done.accounted answers was);
         }

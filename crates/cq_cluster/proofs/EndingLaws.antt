@@ -1,5 +1,5 @@
 -- The journals and the stores of a cluster's groups, once they are closed.
-use Rattle.std.proofs.Common.{◌≡◌, ◌≢◌, ◌⊎◌, inl, inr, ℕ, suc, ◌+◌, ◌-◌, ◌<◌, ◌≤◌, Bool, true, false, cond, List, [], ◌∷◌, ◌++◌, length, get_or, map, refl, sym, ap, subst, ◌∙◌, arith, All, Some, None, IsSome, slice_get, length-append, append-nil}
+use Rattle.std.proofs.Common.{◌≡◌, ◌≢◌, ◌⊎◌, inl, inr, ℕ, zero, suc, ◌+◌, ◌-◌, ◌<◌, ◌≤◌, Bool, true, false, cond, List, [], ◌∷◌, ◌++◌, length, get_or, map, refl, sym, ap, subst, ◌∙◌, arith, All, Some, None, IsSome, slice_get, length-append, append-nil}
 use Rattle.std.specs.Prelude.{nat_eq}
 use Rattle.std.specs.List.{AllByRecursion, AllZip, flat_map}
 use Rattle.std.proofs.lemmas.Bool.{ne_eqb}
@@ -24,7 +24,7 @@ use Rattle.cq_group.specs.declared.group.GroupTable.{GroupTable}
 use Rattle.cq_group.specs.declared.group.GroupState.{GroupState}
 use Rattle.cq_group.specs.Groups.{Outline, outline, outlines, shape_at, entries_of, journal_of, stores_of, node_at, copies_of, AreReplicasFrom, IsReplica, IsTableKept, IsTableQuiet, IsKept}
 use Rattle.cq_group.specs.Groups.{AreDistinct as HaveNumbers}
-use Rattle.cq_cluster.specs.Cluster.{Either, node_of, IsShardOf, IsGroupOf, IsReferenceGroup, IsCovered, IsReferenced, AreGroups, IsWaiting, held, everywhere, AreWorkers}
+use Rattle.cq_cluster.specs.Cluster.{Either, home_of, IsShardOf, IsGroupOf, IsReferenceGroup, IsCovered, IsReferenced, AreGroups, IsWaiting, held, everywhere, AreWorkers}
 use Rattle.cq_cluster.specs.Closing.{all_stores, stores_at, AreKept, HasRoom, HaveRoom, HaveBack}
 use Rattle.cq_group.specs.Resting.{journals_of}
 use Rattle.cq_cluster.specs.Ending.{record_of, IsShard, IsIn, AreDistinct, AreOfGroup, AreOfReference, BeginWith, AreOnNode, IsFinal}
@@ -178,7 +178,7 @@ module _ {X : Type 0} (state : X → StoreState) (nodes : ℕ) (some : 0 < nodes
   all_used node (x ∷ xs) low high all = ((omega (arith, all.0, low), omega (arith, all.0, high)), all_used node xs low high all.1)
 
   -- a group's node is one of those that the run uses
-  within_nodes : (i : ℕ) (g : GroupState X) → g.node ≡ node_of nodes i → g.node ≤ nodes
+  within_nodes : (i : ℕ) (g : GroupState X) → g.node ≡ home_of nodes i → g.node ≤ nodes
   within_nodes i g at = let low = mod_below i nodes some in omega (arith, at, low)
 
   closed_one : (c : Contents) (colocation i : ℕ) (co : Colocation) (g : GroupState X) → slice_get c.colocations colocation ≡ Some co → i < co.count → IsGroupOf state nodes c colocation co i g → IsClosed c g
@@ -309,6 +309,15 @@ module _ {X : Type 0} (state : X → StoreState) (nodes : ℕ) (some : 0 < nodes
       by_cover : (h : ℕ) (g : GroupState X) → slice_get groups h ≡ Some g → IsCovered c h ⊎ IsReferenced c h → IsClosed c g
       by_cover h g s (inl was) = closed_one c was.colocation was.i was.co g was.there was.within (all.each was.colocation was.i was.co g was.there was.within (subst (λ n. slice_get groups n ≡ Some g) was.is s))
       by_cover h g s (inr was) = closed_all c was.table h was.shard g was.placed (all.references was.table h was.shard g was.placed s)
+
+  -- the stores of a group are on nodes that the run uses
+  pub stores_used : (c : Contents) (groups : List (GroupState X)) (group : ℕ) (g : GroupState X) → AreGroups state nodes c groups → slice_get groups group ≡ Some g → AllByRecursion (λ (x : X). (0 < (state x).node) × ((state x).node ≤ nodes)) (stores_of g)
+  stores_used c groups group g all s = (at_place (IsClosed c) groups group g (closed_groups c groups all) s).used
+    where
+      at_place : {Y : Type 0} (P : Y → Type 0) (ys : List Y) (k : ℕ) (y : Y) → AllByRecursion P ys → slice_get ys k ≡ Some y → P y
+      at_place P [] k y all s = cc
+      at_place P (z ∷ zs) zero y all s = subst P (let same : z ≡ y = cc in same) all.0
+      at_place P (z ∷ zs) (suc k) y all s = at_place P zs k y all.1 s
 
   kept_groups : (c : Contents) (groups : List (GroupState X)) → AllByRecursion (IsClosed c) groups → AreKept state groups
   kept_groups c [] all = tt

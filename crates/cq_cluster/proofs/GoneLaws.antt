@@ -3,64 +3,77 @@ use Rattle.std.proofs.Common.{◌≡◌, ◌≢◌, ◌⊎◌, inl, inr, ℕ, ze
 use Rattle.std.specs.Prelude.{nat_eq, nat_le, nat_lt}
 use Rattle.std.proofs.Math.ListN.{set}
 use Rattle.std.proofs.lemmas.Bool.Decides.{nat_tests, eqb_tells}
+use Rattle.cq_value.specs.Tables.{empty_table}
+use Rattle.cq_tree.specs.declared.journal.Entry.{Entry}
 use Rattle.cq_journal.specs.Records.{Journal as Record}
+use Rattle.cq_journal.specs.Stations.{node_of}
 use Rattle.cq_journal.specs.declared.journal.Journal.{Journal}
 use Rattle.cq_store.specs.Stores.{StoreState}
 use Rattle.cq_group.specs.declared.group.GroupState.{GroupState}
-use Rattle.cq_group.specs.Groups.{IsKept, IsQuiet, IsSteady, Outline, outlines, journal_of, stores_of}
+use Rattle.cq_group.specs.Groups.{IsKept, IsQuiet, Outline, outlines, journal_of, entries_of, stores_of}
 use Rattle.cq_group.specs.Resting.{journals_of}
 use Rattle.cq_cluster.specs.Cluster.{held, everywhere}
 use Rattle.cq_cluster.specs.Ending.{record_of}
 use Rattle.cq_cluster.specs.Steps.{Goes, Loses, AreGone, more_at, nothing_more}
-use Rattle.cq_cluster.proofs.ListLaws.{got_after}
+use Rattle.cq_cluster.proofs.ListLaws.{got_after, zip_length, zip_both, zip_one, snoc_same}
 
 -- ---- one group
 
+-- a group without entries is where it was opened
+pub placed_empty : {X : Type 0} (g : GroupState X) → entries_of g ≡ [] → g.journal.opening ≡ g.node → node_of (journal_of g) ≡ g.node
+placed_empty g none at = ap (λ (es : List Entry). node_of (record { number = g.journal.group; opening = g.journal.opening; base = λ table. empty_table; entries = es })) none ∙ at
+
 module _ {X : Type 0} (state : X → StoreState) where
-  pub goes_same : (g : GroupState X) → IsKept state g → IsQuiet state g → IsSteady state g → Goes state [] g g
-  goes_same g kept quiet steady = record {
+  pub goes_same : (g : GroupState X) → IsKept state g → IsQuiet state g → Goes state [] g g
+  goes_same g kept quiet = record {
     journal = refl;
     node = refl;
     outlined = sym (append-nil (outlines g));
-    count = omega arith;
+    added = [];
+    stores = sym (append-nil (stores_of g));
+    shards = tt;
     kept = kept;
     quiet = quiet;
-    steady = steady;
   }
+
+  -- how many stores it has
+  pub goes_count : (more : List Outline) (old new : GroupState X) → Goes state more old new → length (stores_of new) ≡ length (stores_of old) + length more
+  goes_count more old new p = omega (arith, ap length p.stores, length-append (stores_of old) p.added, zip_length (λ (o : Outline) (x : X). (state x).shard ≡ o.2) more p.added p.shards)
+
+  pub loses_count : (old new : GroupState X) → Loses state old new → length (stores_of old) ≡ length (stores_of new) + 1
+  loses_count old new p = omega (arith, ap length p.stores, length-append (stores_of new) (p.store ∷ []))
+
+  -- and it is where its journal says
+  pub goes_placed : {more : List Outline} (old new : GroupState X) → Goes state more old new → node_of (journal_of old) ≡ old.node → node_of (journal_of new) ≡ new.node
+  goes_placed old new p placed = ap (λ (j : Journal). node_of (record_of j)) p.journal ∙ placed ∙ sym p.node
 
   pub goes_on : (a b : List Outline) (f g h : GroupState X) → Goes state a f g → Goes state b g h → Goes state (a ++ b) f h
   goes_on a b f g h p q = record {
     journal = q.journal ∙ p.journal;
     node = q.node ∙ p.node;
     outlined = q.outlined ∙ ap (λ (v : List Outline). v ++ b) p.outlined ∙ append_assoc (outlines f) a b;
-    count = omega (arith, q.count, p.count, length-append a b);
+    added = p.added ++ q.added;
+    stores = q.stores ∙ ap (λ (v : List X). v ++ q.added) p.stores ∙ append_assoc (stores_of f) p.added q.added;
+    shards = zip_both (λ (o : Outline) (x : X). (state x).shard ≡ o.2) a b p.added q.added p.shards q.shards;
     kept = q.kept;
     quiet = q.quiet;
-    steady = q.steady;
   }
-
-  snoc_same : (xs ys : List Outline) (x y : Outline) → xs ++ x ∷ [] ≡ ys ++ y ∷ [] → xs ≡ ys
-  snoc_same [] [] x y e = refl
-  snoc_same [] (b ∷ []) x y e = cc
-  snoc_same [] (b ∷ d ∷ ys) x y e = cc
-  snoc_same (a ∷ []) [] x y e = cc
-  snoc_same (a ∷ c ∷ xs) [] x y e = cc
-  snoc_same (a ∷ xs) (b ∷ ys) x y e =
-      let head : a ≡ b = cc in
-      let tail : xs ++ x ∷ [] ≡ ys ++ y ∷ [] = cc in
-      ap (λ (o : Outline). o ∷ xs) head ∙ ap (λ (v : List Outline). b ∷ v) (snoc_same xs ys x y tail)
 
   -- a table is added and taken out again
   pub goes_back : (o : Outline) (f g h : GroupState X) → Goes state (o ∷ []) f g → Loses state g h → Goes state [] f h
-  goes_back o f g h p q = record {
-    journal = q.journal ∙ p.journal;
-    node = q.node ∙ p.node;
-    outlined = sym (snoc_same (outlines f) (outlines h) o q.last (sym p.outlined ∙ q.outlined)) ∙ sym (append-nil (outlines f));
-    count = omega (arith, p.count, q.count);
-    kept = q.kept;
-    quiet = q.quiet;
-    steady = q.steady;
-  }
+  goes_back o f g h p q =
+      let x = zip_one (λ (v : Outline) (x : X). (state x).shard ≡ v.2) o p.added p.shards in
+      let back : stores_of h ≡ stores_of f = snoc_same (stores_of h) (stores_of f) q.store x.0 (sym q.stores ∙ p.stores ∙ ap (λ (v : List X). stores_of f ++ v) x.1) in
+      record {
+        journal = q.journal ∙ p.journal;
+        node = q.node ∙ p.node;
+        outlined = sym (snoc_same (outlines f) (outlines h) o q.last (sym p.outlined ∙ q.outlined)) ∙ sym (append-nil (outlines f));
+        added = [];
+        stores = back ∙ sym (append-nil (stores_of f));
+        shards = tt;
+        kept = q.kept;
+        quiet = q.quiet;
+      }
 
   -- ---- all groups
 
@@ -85,7 +98,7 @@ module _ {X : Type 0} (state : X → StoreState) where
       let first = p.each 0 g refl in
       let same : f ≡ first.0 = some_is first.1 in
       let node : g.node ≡ f.node = first.2.node ∙ ap (λ (h : GroupState X). h.node) (sym same) in
-      let count : length (stores_of g) ≡ length (stores_of f) = omega (arith, first.2.count, ap (λ (h : GroupState X). length (stores_of h)) same) in
+      let count : length (stores_of g) ≡ length (stores_of f) = omega (arith, goes_count [] first.0 g first.2, ap (λ (h : GroupState X). length (stores_of h)) same) in
       rw (node, count) (ap (λ n. cond (nat_eq f.node (place + 1)) (length (stores_of f)) 0 + n) (held_gone place fs gs (record { count = omega (arith, p.count); each = λ h k s. p.each (suc h) k s })))
     where
       some_is : {a b : GroupState X} → Some a ≡ Some b → a ≡ b

@@ -1,6 +1,6 @@
 -- The shard groups of a sound cluster between two statements: they rest, and a table is in those of its shards. And a cluster whose groups went on.
 use Rattle.std.proofs.Common.{◌≡◌, ◌⊎◌, inl, inr, ℕ, suc, ◌+◌, ◌-◌, ◌<◌, ◌≤◌, List, map, [], ◌∷◌, length, refl, sym, ap, ◌∙◌, subst, arith, cond, Some, None, Option, IsSome, slice_get, get_or}
-use Rattle.std.specs.List.{AllByRecursion, AllZip}
+use Rattle.std.specs.List.{AllByRecursion}
 use Rattle.std.specs.Prelude.{nat_eq}
 use Rattle.std.proofs.lemmas.Bool.Decides.{eqb_tells}
 use Rattle.std.proofs.lemmas.List.{length-map}
@@ -22,7 +22,7 @@ use Rattle.cq_group.specs.Calls.{GroupGoesOn, Lifted, GoesOn}
 use Rattle.cq_group.specs.Resting.{IsResting, AreResting, GoOn}
 use Rattle.cq_cluster.specs.Cluster.{IsShardOf, IsGroupOf, IsReferenceGroup, IsCovered, IsReferenced, AreGroups, AreWorkers, IsWorkerAt, IsSound, KeepsStores, held, everywhere, whole_at, journals}
 use Rattle.cq_cluster.specs.declared.cluster.Cluster.{Cluster}
-use Rattle.cq_cluster.proofs.ListLaws.{there, item_at}
+use Rattle.cq_cluster.proofs.ListLaws.{there, item_at, zip_length}
 use Rattle.cq_cluster.proofs.CatalogLaws.{placed_table, reference_still}
 
 -- ---- a table's shard in a group
@@ -62,12 +62,6 @@ member c table group = by_place (place_at c table) refl
     by_place (Reference own shard) e d has = absurd d
     by_place (Distributed at colocation first_shard) e d has = by_item at colocation first_shard (slice_get c.colocations colocation) e refl has
 
-zip_length : {X Y : Type 0} (R : X → Y → Type 0) (xs : List X) (ys : List Y) → AllZip R xs ys → length ys ≡ length xs
-zip_length R [] [] h = refl
-zip_length R [] (y ∷ ys) h = absurd h
-zip_length R (x ∷ xs) [] h = absurd h
-zip_length R (x ∷ xs) (y ∷ ys) h = ap suc (zip_length R xs ys h.1)
-
 module _ {X : Type 0} (state : X → StoreState) where
   -- ---- one group
 
@@ -106,8 +100,8 @@ module _ {X : Type 0} (state : X → StoreState) where
   -- the groups rest
   pub rests : (cl : Cluster X) → IsSound state cl → AreResting state cl.groups.items
   rests cl s group g at = elim (one_of cl group g s at) [
-    | inl one ↦ record { kept = one.of.kept; quiet = one.of.quiet; steady = one.of.steady }
-    | inr one ↦ record { kept = one.of.kept; quiet = one.of.quiet; steady = one.of.steady }
+    | inl one ↦ record { kept = one.of.kept; quiet = one.of.quiet; placed = one.of.placed }
+    | inr one ↦ record { kept = one.of.kept; quiet = one.of.quiet; placed = one.of.placed }
   ]
 
   -- each group of the catalogue is there
@@ -197,7 +191,7 @@ module _ {X : Type 0} (state : X → StoreState) where
   group_again nodes c colocation i co g h of on rest = record {
     kept = rest.kept;
     quiet = rest.quiet;
-    steady = rest.steady;
+    placed = rest.placed;
     number = on.same.number ∙ of.number;
     opening = on.same.opening ∙ of.opening;
     node = on.same.node ∙ of.node;
@@ -238,7 +232,7 @@ module _ {X : Type 0} (state : X → StoreState) where
         let g = get_or old group h in
         let on = go.each group g h before at in
         let rest = on.1 in
-        reference_still state nodes c c table group shard g h (are.references table group shard g placed before) rest.kept rest.quiet rest.steady on.0.same.number on.0.same.opening on.0.same.node on.0.same.tables refl;
+        reference_still state nodes c c table group shard g h (are.references table group shard g placed before) rest.kept rest.quiet rest.placed on.0.same.number on.0.same.opening on.0.same.node on.0.same.tables refl;
     covered = are.covered;
     apart = are.apart;
     held = λ place below. let own = held_after place old new go in let all_nodes = everywhere_after old new go in omega (arith, own, all_nodes, are.held place below);

@@ -1,7 +1,5 @@
 -- The workers' lists, as each node gives a store for a reference table, and gets it back.
 use Rattle.std.proofs.Common.{◌≡◌, ℕ, zero, suc, ◌+◌, ◌<◌, List, [], ◌∷◌, ◌++◌, length, map, get_or, refl, sym, ap, subst, ◌∙◌, arith, inl, inr, Some, slice_get}
-use Rattle.std.specs.Prelude.{IsTrue}
-use Rattle.std.specs.List.{AllByRecursion}
 use Rattle.std.proofs.Math.ListN.{set}
 use Rattle.std.proofs.Math.Nat.{mod-eq_of_lt}
 use Rattle.std.proofs.lemmas.Option.{slice_get_read}
@@ -11,11 +9,10 @@ use Rattle.cq_store.specs.declared.worker.Worker.{Worker}
 use Rattle.cq_value.specs.declared.schema.Shape.{Shape}
 use Rattle.cq_journal.specs.declared.journal.Journal.{Journal}
 use Rattle.cq_group.specs.declared.group.GroupState.{GroupState}
-use Rattle.cq_group.specs.Groups.{IsKept, IsQuiet, Outline, outlines, stores_of, entries_of}
+use Rattle.cq_group.specs.Groups.{IsKept, IsQuiet, Outline, outlines, entries_of}
 use Rattle.cq_group.specs.Opening.{AreFresh, AreFreshFrom, first_shard, AreSpareFrom}
-use Rattle.cq_cluster.specs.Steps.{IsSteadyOn, IsAdopted, AllWait, Lacks}
+use Rattle.cq_cluster.specs.Steps.{IsStoreOf, IsAdopted, AllWait, Lacks}
 use Rattle.cq_cluster.specs.References.{AreCopies, AreOnEach, HaveLent, IsNewReference}
-use Rattle.cq_cluster.proofs.ShardLaws.{stores_steady}
 use Rattle.cq_cluster.proofs.ListLaws.{there, got_more}
 use Rattle.cq_cluster.proofs.RoomLaws.{next_here, fewer_on}
 use Rattle.cq_cluster.proofs.AddingLaws.{one_spent, one_back, none_spent}
@@ -100,7 +97,7 @@ module _ {X : Type 0} (state : X → StoreState) where
   ])
 
   pub copies_on : (shard : ℕ) (stores : List X) → AreCopies state shard stores → AreOnEach state stores
-  copies_on shard stores all j x s = let is = all j x s in record { of_node = is.of_node; steady = is.steady }
+  copies_on shard stores all j x s = (all j x s).of_node
 
   fresh_from : (from shard : ℕ) (xs : List X) → ((j : ℕ) (x : X) → slice_get xs j ≡ Some x → IsAdopted (from + j + 1) shard (state x)) → AreFreshFrom from 0 shard (map state xs)
   fresh_from from shard [] all = tt
@@ -118,25 +115,16 @@ module _ {X : Type 0} (state : X → StoreState) where
       let from : AreFreshFrom 0 0 shard (map state (x ∷ xs)) = fresh_from 0 shard (x ∷ xs) (λ j y s. subst (λ n. IsAdopted n shard (state y)) (let e : j + 1 ≡ 0 + j + 1 = omega arith in e) (all j y s)) in
       (record { complete = count; adopted = omega (arith, first, id); each = subst (λ n. AreFreshFrom 0 0 n (map state (x ∷ xs))) (sym first) from }, first)
 
-  steady_at : (xs : List X) → ((j : ℕ) (x : X) → slice_get xs j ≡ Some x → IsTrue (state x).steady) → AllByRecursion (λ (x : X). IsTrue (state x).steady) xs
-  steady_at [] all = tt
-  steady_at (x ∷ xs) all = (all 0 x refl, steady_at xs (λ j y s. all (suc j) y s))
-
-  pub steady_copies : (shard : ℕ) (xs : List X) → AreCopies state shard xs → AllByRecursion (λ (x : X). IsTrue (state x).steady) xs
-  steady_copies shard xs all = steady_at xs (λ j x s. (all j x s).steady)
-
   -- a reference group to which its table was added
   pub new_reference : (nodes number table : ℕ) (shape : Shape) (shard : ℕ) (old new : GroupState X) (xs : List X) → old.journal.group ≡ number → old.journal.opening ≡ 0 → old.node ≡ 0 → old.nodes ≡ nodes → entries_of old ≡ [] → old.tables.items ≡ [] → IsQuiet state old →
-      length xs ≡ nodes → AreCopies state shard xs → first_shard state xs ≡ shard → outlines new ≡ outlines old ++ (table, shape, first_shard state xs, length xs) ∷ [] → stores_of new ≡ stores_of old ++ xs →
+      length xs ≡ nodes → AreCopies state shard xs → first_shard state xs ≡ shard → outlines new ≡ outlines old ++ (table, shape, first_shard state xs, length xs) ∷ [] →
       new.journal ≡ old.journal → new.node ≡ old.node → new.nodes ≡ old.nodes → IsKept state new → (IsQuiet state old → IsQuiet state new) → IsNewReference state nodes number table shape shard new
-  new_reference nodes number table shape shard old new xs group opening node on entries none quiet count copies first outlined stores journal same_node same_nodes kept still =
+  new_reference nodes number table shape shard old new xs group opening node on entries none quiet count copies first outlined journal same_node same_nodes kept still =
       let o : ◌≡◌ {A = Outline} (table, shape, first_shard state xs, length xs) (table, shape, shard, nodes) = rw (first, count) refl in
       let empty : outlines old ≡ [] = rw none refl in
-      let had : stores_of old ≡ [] = rw none refl in
       record {
         kept = kept;
         quiet = still quiet;
-        steady = stores_steady state new.tables.items (subst (AllByRecursion (λ (x : X). IsTrue (state x).steady)) (sym (stores ∙ ap (λ (v : List X). v ++ xs) had)) (steady_copies shard xs copies));
         group = ap (λ (j : Journal). j.group) journal ∙ group;
         opening = ap (λ (j : Journal). j.opening) journal ∙ opening;
         node = same_node ∙ node;
@@ -145,20 +133,20 @@ module _ {X : Type 0} (state : X → StoreState) where
         only = outlined ∙ ap (λ (v : List Outline). v ++ (table, shape, first_shard state xs, length xs) ∷ []) empty ∙ ap (λ (v : Outline). v ∷ []) o;
       }
 
-  on_from : (from : ℕ) (xs : List X) → AreSpareFrom from 0 (map state xs) → AllByRecursion (λ (x : X). IsTrue (state x).steady) xs → (j : ℕ) (x : X) → slice_get xs j ≡ Some x → IsSteadyOn (from + j + 1) (state x)
-  on_from from [] spare steady j x s = cc
-  on_from from (y ∷ ys) spare steady zero x s =
+  on_from : (from : ℕ) (xs : List X) → AreSpareFrom from 0 (map state xs) → (j : ℕ) (x : X) → slice_get xs j ≡ Some x → IsStoreOf (from + j + 1) (state x)
+  on_from from [] spare j x s = cc
+  on_from from (y ∷ ys) spare zero x s =
       let same : y ≡ x = cc in
       let node : (state y).node ≡ from + 1 = spare.1 in
-      subst (λ (z : X). IsSteadyOn (from + 0 + 1) (state z)) same (record { of_node = omega (arith, node); steady = steady.0 })
-  on_from from (y ∷ ys) spare steady (suc j) x s = subst (λ n. IsSteadyOn n (state x)) (let e : from + 1 + j + 1 ≡ from + suc j + 1 = omega arith in e) (on_from (from + 1) ys spare.2 steady.1 j x s)
+      subst (λ (z : X). IsStoreOf (from + 0 + 1) (state z)) same (omega (arith, node))
+  on_from from (y ∷ ys) spare (suc j) x s = subst (λ n. IsStoreOf n (state x)) (let e : from + 1 + j + 1 ≡ from + suc j + 1 = omega arith in e) (on_from (from + 1) ys spare.2 j x s)
 
   -- the stores of a table that was taken out of a reference group
-  pub on_each : (xs : List X) → AreSpareFrom 0 0 (map state xs) → AllByRecursion (λ (x : X). IsTrue (state x).steady) xs → AreOnEach state xs
-  on_each xs spare steady j x s = subst (λ n. IsSteadyOn n (state x)) (let e : 0 + j + 1 ≡ j + 1 = omega arith in e) (on_from 0 xs spare steady j x s)
+  pub on_each : (xs : List X) → AreSpareFrom 0 0 (map state xs) → AreOnEach state xs
+  on_each xs spare j x s = subst (λ n. IsStoreOf n (state x)) (let e : 0 + j + 1 ≡ j + 1 = omega arith in e) (on_from 0 xs spare j x s)
 
   -- without the last one
-  pub on_fewer : (xs rest : List X) (x : X) → xs ≡ rest ++ x ∷ [] → AreOnEach state xs → AreOnEach state rest × IsSteadyOn (length rest + 1) (state x)
+  pub on_fewer : (xs rest : List X) (x : X) → xs ≡ rest ++ x ∷ [] → AreOnEach state xs → AreOnEach state rest × IsStoreOf (length rest + 1) (state x)
   on_fewer xs rest x same all = (λ j y s. all j y (ap (λ (v : List X). slice_get v j) same ∙ still rest x j y s), all (length rest) x (ap (λ (v : List X). slice_get v (length rest)) same ∙ last rest x))
     where
       still : (ys : List X) (z : X) (j : ℕ) (y : X) → slice_get ys j ≡ Some y → slice_get (ys ++ z ∷ []) j ≡ Some y

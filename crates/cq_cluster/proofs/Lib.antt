@@ -8,10 +8,12 @@ pub mod TargetLaws
 pub mod CatalogLaws
 pub mod JournalLaws
 pub mod RoomLaws
+pub mod AccountLaws
 pub mod SoundLaws
 pub mod MakingLaws
 pub mod ClosingLaws
 pub mod EndingLaws
+pub mod AnswerLaws
 pub mod DistributeLaws
 pub mod PlanLaws
 pub mod DoneLaws

@@ -112,7 +112,7 @@ module _ {X : Type 0} (state : X → StoreState) where
       count = refl;
       each = λ h g t.
           let at = rests state cl s h g t in
-          (g, t, goes_same state g at.kept at.quiet at.steady);
+          (g, t, goes_same state g at.kept at.quiet);
     };
     spent = spent_none state cl.nodes s.some cl.workers.items (all_wait cl s);
   }

@@ -6,6 +6,7 @@ use Rattle.std.proofs.lemmas.Bool.Decides.{eqb_tells}
 use Rattle.std.proofs.lemmas.List.{map-append}
 use Rattle.cq_value.specs.declared.schema.Shape.{Shape}
 use Rattle.cq_tree.specs.declared.journal.Who.{Who}
+use Rattle.cq_answer.specs.declared.answered.Answered.{Answered}
 use Rattle.cq_answer.specs.declared.fault.Fault.{Fault}
 use Rattle.cq_answer.specs.declared.fault.Fault.TheVariants as fault
 use Rattle.cq_answer.specs.Faults.{fault_of_catalog}
@@ -25,20 +26,24 @@ use Rattle.cq_history.specs.Laws.{OpensGroups}
 use Rattle.cq_history.specs.Run.{room_fault}
 use Rattle.cq_history.specs.Run as history
 use Rattle.cq_history.specs.Standing.{reference_fault}
+use Rattle.cq_journal.specs.Stations.{node_of}
 use Rattle.cq_store.specs.Stores.{StoreState}
 use Rattle.cq_store.specs.declared.worker.Worker.{Worker}
 use Rattle.cq_group.specs.declared.group.GroupState.{GroupState}
-use Rattle.cq_group.specs.Groups.{IsKept, IsQuiet, IsSteady, Outline, entries_of, outlines, stores_of, journal_of}
+use Rattle.cq_group.specs.Groups.{IsKept, IsQuiet, Outline, entries_of, outlines, stores_of, journal_of}
 use Rattle.cq_group.specs.Resting.{journals_of}
 use Rattle.cq_cluster.specs.declared.cluster.Cluster.{Cluster}
 use Rattle.cq_cluster.specs.Cluster.{IsShardOf, held, everywhere, AreGroups, AreWorkers, journals, run_of, IsSound, KeepsStores}
+use Rattle.cq_cluster.specs.Accounts.{AreAccounted}
 use Rattle.cq_cluster.specs.Room.{taken, taken_in}
 use Rattle.cq_cluster.specs.Steps.{shortage, IsUndone}
 use Rattle.cq_cluster.specs.References.{HaveLent, IsNewReference, IsReferencePlanned}
 use Rattle.cq_cluster.proofs.RoomLaws.{one_on}
+use Rattle.cq_cluster.proofs.GoneLaws.{placed_empty}
 use Rattle.cq_cluster.proofs.AddingLaws.{spent_none}
 use Rattle.cq_cluster.proofs.CatalogLaws.{before_more, last_there, all_weaker, covered_again, reference_still, other_place, own_place, same_shape, taken_placed, placed_group}
 use Rattle.cq_cluster.proofs.JournalLaws.{AreNew, opened_grow, opens_referenced}
+use Rattle.cq_cluster.proofs.AccountLaws.{AreFrom, put_accounted}
 use Rattle.cq_cluster.proofs.SoundLaws.{keeps_all, have_stores, room_same}
 use Rattle.cq_cluster.proofs.DistributeLaws.{sound_of, memory_is, memory_alone}
 use Rattle.cq_cluster.proofs.PlanLaws.{still_sound, all_wait}
@@ -74,7 +79,7 @@ module _ {X : Type 0} (state : X → StoreState) (nodes : ℕ) where
             record {
               kept = is.kept;
               quiet = is.quiet;
-              steady = is.steady;
+              placed = is.placed;
               number = is.number;
               opening = is.opening;
               node = is.node;
@@ -88,7 +93,7 @@ module _ {X : Type 0} (state : X → StoreState) (nodes : ℕ) where
               record {
                 kept = subst (IsKept state) (sym here) new.kept;
                 quiet = subst (IsQuiet state) (sym here) new.quiet;
-                steady = subst (IsSteady state) (sym here) new.steady;
+                placed = subst (λ (v : GroupState X). node_of (journal_of v) ≡ v.node) (sym here) (placed_empty g new.entries (new.opening ∙ sym new.node));
                 number = ap (λ (v : GroupState X). v.journal.group) here ∙ new.group ∙ same.0;
                 opening = ap (λ (v : GroupState X). v.journal.opening) here ∙ new.opening;
                 node = ap (λ (v : GroupState X). v.node) here ∙ new.node;
@@ -98,7 +103,7 @@ module _ {X : Type 0} (state : X → StoreState) (nodes : ℕ) where
               let before : place_at c t ≡ Reference group shard = sym (kept_place t z.1) ∙ placed in
               let low = placed_group c t group shard whole before in
               let is = all.references t group shard f before (sym (before_more old (g ∷ []) group (omega (arith, low, all.count))) ∙ s) in
-              reference_still state nodes c next t group shard f f is is.kept is.quiet is.steady refl refl refl refl (kept_shape t)
+              reference_still state nodes c next t group shard f f is is.kept is.quiet is.placed refl refl refl refl (kept_shape t)
         ];
         covered = λ group h. elim (cases_lt group c.groups) [
           | inl l ↦ covered_again c next group (λ k co there. there) (λ t shard p. kept_place t (λ e. not_here group shard (sym p ∙ ap (place_at c) e ∙ was_local)) ∙ p) (all.covered group l)
@@ -197,6 +202,7 @@ module _ {X : Type 0} (state : X → StoreState) (old new : Cluster X) where
     pub grows : (who : Who) → Grows who none (journals old) (journals new)
     pub opens : (entry : List (Worker X)) → OpensGroups (run_of old.nodes entry) old.catalog new.catalog (journals new)
     pub stores : KeepsStores state old new
+    pub accounted : (answers : List Answered) → AreAccounted state old.catalog answers old.groups.items → AreAccounted state new.catalog answers new.groups.items
 
   whole_referenced : (c : Contents) (number : ℕ) → IsWhole c → c.groups + 1 ≤ 512 → IsLocalAt c number → IsWhole (spread (with_group c) number (Reference c.groups c.next_shard) 1)
   whole_referenced c number whole few local = whole_spread (with_group c) number (Reference c.groups c.next_shard) 1 (whole_grouped c whole few) local (omega arith, refl, refl)
@@ -232,4 +238,7 @@ module _ {X : Type 0} (state : X → StoreState) (old new : Cluster X) where
         opens = λ entry. subst (λ (v : Contents). OpensGroups (run_of old.nodes entry) c v (journals new)) (sym made)
             (subst (λ (gs : List (GroupState X)). OpensGroups (run_of old.nodes entry) c (with_reference c table) (journals_of gs)) (sym groups) (opens_referenced state old.nodes entry c table (old.groups.items ++ g ∷ []) after whole));
         stores = keeps_stores state old new nodes stores;
+        accounted = λ answers was. subst (λ (v : Contents). AreAccounted state v answers new.groups.items) (sym made)
+            (subst (λ (gs : List (GroupState X)). AreAccounted state (with_reference c table) answers gs) (sym groups)
+            (put_accounted state c (with_reference c table) answers old.groups.items g (omega arith) exact.kept (subst (AreFrom c.next_shard) (sym exact.only) (omega arith, tt)) was));
       }

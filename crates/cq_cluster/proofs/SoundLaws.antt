@@ -14,6 +14,7 @@ use Rattle.cq_tree.specs.declared.journal.EntryKind.{EntryKind}
 use Rattle.cq_tree.specs.declared.journal.EntryKind.TheVariants.{Read, Write, MoveStart, CatchUp, Cutover, MoveStop}
 use Rattle.cq_meaning.specs.Effects.{table_of}
 use Rattle.cq_journal.specs.Laws.{IsNoWriteOf}
+use Rattle.cq_answer.specs.declared.answered.Answered.{Answered}
 use Rattle.cq_answer.specs.declared.fault.Fault.{Fault}
 use Rattle.cq_catalog.specs.Contents.{Contents, count_in, first_group_in}
 use Rattle.cq_catalog.specs.Distribution.{with_colocation, opened_at, distributed_at}
@@ -37,14 +38,16 @@ use Rattle.cq_history.specs.Run as history
 use Rattle.cq_cluster.specs.declared.shards.Shards.{Shards}
 use Rattle.cq_cluster.specs.Room.{shards_on, taken}
 use Rattle.cq_group.specs.declared.group.GroupState.{GroupState}
-use Rattle.cq_group.specs.Groups.{IsKept, IsNamed, IsQuiet, IsSteady, Outline, outlines, shape_at, entries_of, journal_of}
+use Rattle.cq_group.specs.Groups.{IsKept, IsNamed, IsQuiet, Outline, outlines, shape_at, entries_of, journal_of}
 use Rattle.cq_group.specs.Resting.{journals_of}
-use Rattle.cq_cluster.specs.Cluster.{Either, node_of, IsCovered, IsReferenced, IsWaiting, held, everywhere, AreGroups, whole_at, AreWorkers, run_of, stores_in}
+use Rattle.cq_cluster.specs.Cluster.{Either, home_of, IsCovered, IsReferenced, IsWaiting, held, everywhere, AreGroups, whole_at, AreWorkers, run_of, stores_in}
+use Rattle.cq_cluster.specs.Accounts.{AreAccounted}
 use Rattle.cq_cluster.specs.Steps.{Goes, AreGone, more_at, nothing_more, AreSpent, HaveStores, AreOpened, IsUnwritten, shard_outline, Adding, short_of, shortage_from, shortage, shards_of, HasOpened, IsBegun, forgotten, CanBegin, IsOpen, IsUndone}
 use Rattle.cq_cluster.proofs.ListLaws.{there, item_at}
 use Rattle.cq_cluster.proofs.GoneLaws.{goes_same, more_none, gone_journals, held_gone, everywhere_gone}
 use Rattle.cq_cluster.proofs.JournalLaws.{same_grows, opened_grow}
 use Rattle.cq_cluster.proofs.AddingLaws.{spent_none}
+use Rattle.cq_cluster.proofs.AccountLaws.{from_at, gone_accounted, opened_accounted}
 use Rattle.cq_cluster.proofs.RoomLaws.{none_on, same_taken}
 use Rattle.cq_cluster.proofs.CatalogLaws.{no_shard, more_outside, groups_opened, groups_spread, held_empty, everywhere_empty, before_more, behind_more, last_there}
 
@@ -71,7 +74,6 @@ module _ {X : Type 0} (state : X → StoreState) (nodes : ℕ) (some : 0 < nodes
   record IsFree (table : ℕ) (g : GroupState X) : Type 0 where
     kept : IsKept state g
     quiet : IsQuiet state g
-    steady : IsSteady state g
     free : shape_at (outlines g) table ≡ None
 
   free_group : (c : Contents) (table : ℕ) (groups : List (GroupState X)) → AreGroups state nodes c groups → place_at c table ≡ Local → (h : ℕ) (g : GroupState X) → slice_get groups h ≡ Some g → IsFree table g
@@ -86,20 +88,19 @@ module _ {X : Type 0} (state : X → StoreState) (nodes : ℕ) (some : 0 < nodes
       by_cover : IsCovered c h ⊎ IsReferenced c h → IsFree table g
       by_cover (inl was) =
           let at = all.each was.colocation was.i was.co g was.there was.within (subst (λ n. slice_get groups n ≡ Some g) was.is s) in
-          record { kept = at.kept; quiet = at.quiet; steady = at.steady; free = no_shard c was.colocation was.i table (outlines g) at.shards local }
+          record { kept = at.kept; quiet = at.quiet; free = no_shard c was.colocation was.i table (outlines g) at.shards local }
       by_cover (inr was) =
           let at = all.references was.table h was.shard g was.placed s in
           record {
             kept = at.kept;
             quiet = at.quiet;
-            steady = at.steady;
             free = ap (λ (os : List Outline). shape_at os table) at.only ∙ other was.table was.shard (shape_in c was.table) (λ e. not_local h was.shard (sym was.placed ∙ ap (place_at c) e ∙ local));
           }
 
   gone_free : (table first : ℕ) (o : ℕ → Outline) (groups : List (GroupState X)) → ((h : ℕ) (g : GroupState X) → slice_get groups h ≡ Some g → IsFree table g) → AreGone state (more_at first o 0) groups groups
   gone_free table first o groups free = record {
     count = refl;
-    each = λ h g s. let f = free h g s in (g, s, subst (λ (v : List Outline). Goes state v g g) (sym (more_none state first o h)) (goes_same state g f.kept f.quiet f.steady));
+    each = λ h g s. let f = free h g s in (g, s, subst (λ (v : List Outline). Goes state v g g) (sym (more_none state first o h)) (goes_same state g f.kept f.quiet));
   }
 
   unwritten_free : (table : ℕ) (groups : List (GroupState X)) → ((h : ℕ) (g : GroupState X) → slice_get groups h ≡ Some g → IsFree table g) → AllByRecursion (λ (g : GroupState X). IsUnwritten table (entries_of g)) groups
@@ -139,7 +140,7 @@ module _ {X : Type 0} (state : X → StoreState) (nodes : ℕ) (some : 0 < nodes
             let i = h - co.first_group in
             let index : h ≡ co.first_group + i = omega (arith, first, least) in
             let at = all.each colocation i co g joins (omega (arith, first, count, least, most)) (subst (λ n. slice_get groups n ≡ Some g) index s) in
-            (f.free, at.node ∙ ap (node_of nodes) (let e : i ≡ h - o.first_group = omega (arith, first) in e));
+            (f.free, at.node ∙ ap (home_of nodes) (let e : i ≡ h - o.first_group = omega (arith, first) in e));
         stores = stores;
         gone = gone_free o.table o.first_group (shard_outline (shards_of nodes o) shape) groups free;
         held = λ place h. let zero_more = none_on nodes some place h in omega (arith, zero_more);
@@ -160,7 +161,7 @@ module _ {X : Type 0} (state : X → StoreState) (nodes : ℕ) (some : 0 < nodes
       let free : (h : ℕ) (g : GroupState X) → slice_get (groups ++ opened) h ≡ Some g → IsFree o.table g =
       λ h g s. elim (behind_opened groups opened h g s) [
         | inl p ↦ free_group c o.table groups all local h g p
-        | inr p ↦ (let at = fresh (h - length groups) g p.1 in record { kept = at.kept; quiet = at.quiet; steady = rw at.tables tt; free = rw at.tables refl })
+        | inr p ↦ (let at = fresh (h - length groups) g p.1 in record { kept = at.kept; quiet = at.quiet; free = rw at.tables refl })
       ] in
       record {
         few = omega arith;
@@ -174,7 +175,7 @@ module _ {X : Type 0} (state : X → StoreState) (nodes : ℕ) (some : 0 < nodes
             let f = free h g s in
             elim (behind_opened groups opened h g s) [
               | inl p ↦ absurd (let below = slice_get_within groups h g p in omega (arith, below, first, least, all.count))
-              | inr p ↦ (let at = fresh (h - length groups) g p.1 in (f.free, at.node ∙ ap (node_of nodes) (let e : h - length groups ≡ h - o.first_group = omega (arith, first, all.count) in e)))
+              | inr p ↦ (let at = fresh (h - length groups) g p.1 in (f.free, at.node ∙ ap (home_of nodes) (let e : h - length groups ≡ h - o.first_group = omega (arith, first, all.count) in e)))
             ];
         stores = stores;
         gone = gone_free o.table o.first_group (shard_outline (shards_of nodes o) shape) (groups ++ opened) free;
@@ -231,6 +232,7 @@ module _ {X : Type 0} (state : X → StoreState) (nodes : ℕ) (some : 0 < nodes
     pub grows : (who : Who) → Grows who nothing_made (journals_of old) (journals_of groups)
     pub stores : (entry : List (Worker X)) → AreWorkers state nodes entry old full → AreWorkers state nodes entry groups workers
     pub same_length : length workers ≡ length full
+    pub accounted : (answers : List Answered) → AreAccounted state c answers old → AreAccounted state next answers groups
 
   -- the groups on all nodes get no table of a distribution
   adding_everywhere : (shards : Shards) (shape : Shape) (old groups : List (GroupState X)) (full workers : List (Worker X)) (n : ℕ) → Adding state shards shape old full n groups workers → everywhere groups ≡ everywhere old
@@ -279,6 +281,10 @@ module _ {X : Type 0} (state : X → StoreState) (nodes : ℕ) (some : 0 < nodes
         grows = λ who. same_grows who (journals_of old) (journals_of groups) (gone_journals state _ old groups gone);
         stores = keeps old groups full workers o.count a.enough a.spent number (adding_everywhere (shards_of nodes o) shape done.begun groups full workers o.count a ∙ ap (λ (gs : List (GroupState X)). everywhere gs) same);
         same_length = a.spent.same_length;
+        accounted = λ answers was.
+            let next = distributed_at c table column kind (Joins colocation) in
+            gone_accounted state c next (more_at o.first_group (shard_outline (shards_of nodes o) shape) o.count) answers old groups (omega arith)
+            (λ h. from_at c.next_shard o.first_group (shard_outline (shards_of nodes o) shape) o.count h (λ j. omega arith)) gone was;
       }
     where
       got : {A : Type 0} (xs : List A) (n : ℕ) → n < length xs → (x : A) × (slice_get xs n ≡ Some x)
@@ -302,6 +308,10 @@ module _ {X : Type 0} (state : X → StoreState) (nodes : ℕ) (some : 0 < nodes
         stores = keeps old groups full workers count a.enough a.spent (λ place h. a.held place h ∙ ap (λ n. n + shards_on nodes count place) (empty place))
             (adding_everywhere (shards_of nodes o) shape done.begun groups full workers count a ∙ ap (λ (gs : List (GroupState X)). everywhere gs) done.begins.1 ∙ everywhere_empty state nodes c.groups old opened done.begins.3);
         same_length = a.spent.same_length;
+        accounted = λ answers was.
+            gone_accounted state c (distributed_at c table column kind (Opens count joinable)) (more_at o.first_group (shard_outline (shards_of nodes o) shape) count) answers done.begun groups (omega arith)
+            (λ h. from_at c.next_shard o.first_group (shard_outline (shards_of nodes o) shape) count h (λ j. omega arith)) a.gone
+            (subst (AreAccounted state c answers) (sym done.begins.1) (opened_accounted state c answers nodes c.groups old opened done.begins.3 was));
       }
 
   -- ---- nothing happened

@@ -1,5 +1,5 @@
 -- The shard groups of the catalogue over the workers that a run uses, and what the workers' lists still hold.
-use Rattle.std.specs.Prelude.{◌≡◌, ◌+◌, ◌%◌, ◌<◌, ◌≤◌, ◌⊎◌, ℕ, IsTrue, Bool, true, false, List, [], ◌∷◌, length, All, Option, Some, None, slice_get, nat_eq, if◌then◌else◌}
+use Rattle.std.specs.Prelude.{◌≡◌, ◌+◌, ◌%◌, ◌<◌, ◌≤◌, ◌⊎◌, ℕ, Bool, true, false, List, [], ◌∷◌, length, All, Option, Some, None, slice_get, nat_eq, if◌then◌else◌}
 use Rattle.std.specs.List.{AllByRecursion}
 use Rattle.cq_catalog.specs.Contents.{Contents}
 use Rattle.cq_catalog.specs.Placement.{place_at}
@@ -8,13 +8,14 @@ use Rattle.cq_catalog.specs.declared.info.Colocation.{Colocation}
 use Rattle.cq_catalog.specs.declared.info.Place.TheVariants.{Distributed, Reference}
 use Rattle.cq_planning.specs.Database.{shape_in}
 use Rattle.cq_journal.specs.Records.{Journal}
+use Rattle.cq_journal.specs.Stations.{node_of}
 use Rattle.cq_history.specs.Run.{Run, first_settings}
 use Rattle.cq_cluster.specs.Room.{taken}
 use Rattle.cq_store.specs.Stores.{StoreState, IsSpare}
 use Rattle.cq_store.specs.Workers.{room}
 use Rattle.cq_store.specs.declared.worker.Worker.{Worker}
 use Rattle.cq_group.specs.declared.group.GroupState.{GroupState}
-use Rattle.cq_group.specs.Groups.{IsKept, IsQuiet, IsSteady, Outline, outlines, HasTable, stores_of}
+use Rattle.cq_group.specs.Groups.{IsKept, IsQuiet, Outline, outlines, HasTable, stores_of, journal_of}
 use Rattle.cq_group.specs.Resting.{journals_of}
 use Rattle.cq_cluster.specs.declared.cluster.Cluster.{Cluster}
 
@@ -26,8 +27,8 @@ Either false A B = B
 -- ---- shard groups
 
 -- the node on which the i-th shard group of a co-location group is opened (Citus, `create_distributed_table`: the workers take turns)
-abbrev pub node_of : ℕ → ℕ → ℕ
-node_of nodes i = i % nodes + 1
+abbrev pub home_of : ℕ → ℕ → ℕ
+home_of nodes i = i % nodes + 1
 
 -- a table's shard in the i-th shard group of a co-location group: its number, shape and shard id, and one store
 abbrev pub shard_of : Contents → ℕ → ℕ → ℕ → Outline
@@ -39,14 +40,14 @@ IsShardOf c colocation i o =
     (at : ℕ) × (first_shard : ℕ) × (place_at c o.0 ≡ Distributed at colocation first_shard) × (o ≡ shard_of c o.0 first_shard i)
 
 -- the i-th shard group of a co-location group, between two statements: it keeps its journal and the stores of its tables, which are those of
--- the co-location group; nothing is staged, and the stores are steady
+-- the co-location group; nothing is staged, and it is where its journal says
 pub record IsGroupOf {X : Type 0} (state : X → StoreState) (nodes : ℕ) (c : Contents) (colocation : ℕ) (co : Colocation) (i : ℕ) (g : GroupState X) : Type 0 where
   pub kept : IsKept state g
   pub quiet : IsQuiet state g
-  pub steady : IsSteady state g
+  pub placed : node_of (journal_of g) ≡ g.node
   pub number : g.journal.group ≡ co.first_group + i
-  pub opening : g.journal.opening ≡ node_of nodes i
-  pub node : g.node ≡ node_of nodes i
+  pub opening : g.journal.opening ≡ home_of nodes i
+  pub node : g.node ≡ home_of nodes i
   pub shards : AllByRecursion (IsShardOf c colocation i) (outlines g)
   pub complete : (table at first_shard : ℕ) → place_at c table ≡ Distributed at colocation first_shard → HasTable g table
 
@@ -54,7 +55,7 @@ pub record IsGroupOf {X : Type 0} (state : X → StoreState) (nodes : ℕ) (c : 
 pub record IsReferenceGroup {X : Type 0} (state : X → StoreState) (nodes : ℕ) (c : Contents) (table group shard : ℕ) (g : GroupState X) : Type 0 where
   pub kept : IsKept state g
   pub quiet : IsQuiet state g
-  pub steady : IsSteady state g
+  pub placed : node_of (journal_of g) ≡ g.node
   pub number : g.journal.group ≡ group
   pub opening : g.journal.opening ≡ 0
   pub node : g.node ≡ 0
@@ -106,7 +107,6 @@ pub record AreGroups {X : Type 0} (state : X → StoreState) (nodes : ℕ) (c : 
 pub record IsWaiting (node : ℕ) (s : StoreState) : Type 0 where
   pub spare : IsSpare s
   pub of_node : s.node ≡ node
-  pub steady : IsTrue s.steady
 
 -- a worker whose list had so many stores, of which so many are out: the others wait, and there is room for those
 pub record IsWorkerAt {X : Type 0} (state : X → StoreState) (whole out place : ℕ) (w : Worker X) : Type 0 where

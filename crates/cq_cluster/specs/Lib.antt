@@ -4,3 +4,4 @@ pub mod Steps
 pub mod Ending
 pub mod Closing
 pub mod References
+pub mod Accounts

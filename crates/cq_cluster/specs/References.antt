@@ -8,16 +8,16 @@ use Rattle.cq_catalog.specs.declared.info.Opened.{Opened}
 use Rattle.cq_store.specs.Stores.{StoreState}
 use Rattle.cq_store.specs.declared.worker.Worker.{Worker}
 use Rattle.cq_group.specs.declared.group.GroupState.{GroupState}
-use Rattle.cq_group.specs.Groups.{IsKept, IsQuiet, IsSteady, outlines, entries_of}
-use Rattle.cq_cluster.specs.Steps.{IsSteadyOn, IsAdopted, AreSpent, HaveStores, shortage}
+use Rattle.cq_group.specs.Groups.{IsKept, IsQuiet, outlines, entries_of}
+use Rattle.cq_cluster.specs.Steps.{IsStoreOf, IsAdopted, AreSpent, HaveStores, shortage}
 
 -- a store of each of the first nodes, in ascending order of node, which keeps the shard of this id
 abbrev pub AreCopies : {X : Type 0} → (X → StoreState) → ℕ → List X → Type 0
 AreCopies {X} state shard stores = (j : ℕ) (x : X) → slice_get stores j ≡ Some x → IsAdopted (j + 1) shard (state x)
 
--- a steady store of each of the first nodes, in ascending order of node
+-- a store of each of the first nodes, in ascending order of node
 abbrev pub AreOnEach : {X : Type 0} → (X → StoreState) → List X → Type 0
-AreOnEach {X} state stores = (j : ℕ) (x : X) → slice_get stores j ≡ Some x → IsSteadyOn (j + 1) (state x)
+AreOnEach {X} state stores = (j : ℕ) (x : X) → slice_get stores j ≡ Some x → IsStoreOf (j + 1) (state x)
 
 -- each of the first nodes, so many, has given a store of its list, in which there was one when it was full
 pub record HaveLent {X : Type 0} (state : X → StoreState) (nodes n : ℕ) (full workers : List (Worker X)) : Type 0 where
@@ -31,7 +31,6 @@ pub record HaveLent {X : Type 0} (state : X → StoreState) (nodes n : ℕ) (ful
 pub record IsNewReference {X : Type 0} (state : X → StoreState) (nodes number table : ℕ) (shape : Shape) (shard : ℕ) (g : GroupState X) : Type 0 where
   pub kept : IsKept state g
   pub quiet : IsQuiet state g
-  pub steady : IsSteady state g
   pub group : g.journal.group ≡ number
   pub opening : g.journal.opening ≡ 0
   pub node : g.node ≡ 0

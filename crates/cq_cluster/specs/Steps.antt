@@ -1,13 +1,13 @@
 -- How groups and workers change as a table's shards are added one by one, and taken out again.
-use Rattle.std.specs.Prelude.{◌≡◌, ◌+◌, ◌-◌, ◌<◌, ◌≤◌, ℕ, zero, suc, IsTrue, true, ◌&&◌, List, [], ◌∷◌, ◌++◌, length, take, All, Option, None, Some, slice_get, nat_le, nat_lt, if◌then◌else◌}
-use Rattle.std.specs.List.{AllByRecursion}
+use Rattle.std.specs.Prelude.{◌≡◌, ◌+◌, ◌-◌, ◌<◌, ◌≤◌, ℕ, zero, suc, true, ◌&&◌, List, [], ◌∷◌, ◌++◌, length, take, All, Option, None, Some, slice_get, nat_le, nat_lt, if◌then◌else◌}
+use Rattle.std.specs.List.{AllByRecursion, AllZip}
 use Rattle.cq_store.specs.Stores.{StoreState}
 use Rattle.cq_store.specs.Workers.{room}
 use Rattle.cq_store.specs.declared.worker.Worker.{Worker}
 use Rattle.cq_planning.specs.Database.{shape_in}
 use Rattle.cq_cluster.specs.Room.{shards_on}
 use Rattle.cq_group.specs.declared.group.GroupState.{GroupState}
-use Rattle.cq_group.specs.Groups.{IsKept, IsQuiet, IsSteady, Outline, outlines, entries_of, stores_of, shape_at}
+use Rattle.cq_group.specs.Groups.{IsKept, IsQuiet, Outline, outlines, entries_of, stores_of, shape_at}
 use Rattle.cq_value.specs.declared.schema.Shape.{Shape}
 use Rattle.cq_value.specs.declared.schema.With.{With}
 use Rattle.cq_value.specs.Tables.{empty_table}
@@ -21,20 +21,18 @@ use Rattle.cq_catalog.specs.Contents.{Contents}
 use Rattle.cq_catalog.specs.Distribution.{decision_of, distribution_refusal, opened_by}
 use Rattle.cq_catalog.specs.Refusals.{first_of}
 use Rattle.cq_catalog.specs.declared.info.Opened.{Opened}
-use Rattle.cq_cluster.specs.Cluster.{Either, IsWaiting, node_of, held, stores_in, most_nodes}
+use Rattle.cq_cluster.specs.Cluster.{Either, IsWaiting, home_of, held, stores_in, most_nodes}
 
--- a store on this node that never fails, in use or not
-pub record IsSteadyOn (node : ℕ) (s : StoreState) : Type 0 where
-  pub of_node : s.node ≡ node
-  pub steady : IsTrue s.steady
+-- a store of this node, in use or not
+abbrev pub IsStoreOf : ℕ → StoreState → Type 0
+IsStoreOf node s = s.node ≡ node
 
--- a store that a shard is to be kept in: on this node, under this shard id, empty, and it never fails
+-- a store that a shard is to be kept in: on this node, under this shard id, and empty
 pub record IsAdopted (node shard : ℕ) (s : StoreState) : Type 0 where
   pub of_node : s.node ≡ node
   pub of_shard : s.shard ≡ shard
   pub empty : s.rows ≡ empty_table
   pub nothing : s.staged ≡ []
-  pub steady : IsTrue s.steady
 
 -- each store of the worker waits
 abbrev pub AllWait : {X : Type 0} → (X → StoreState) → Worker X → Type 0
@@ -46,26 +44,31 @@ pub record Lacks {X : Type 0} (n : ℕ) (full w : Worker X) : Type 0 where
   pub total : length w.stores.items + n ≡ length full.stores.items
   pub room : room w.stores ≡ room full.stores + n
 
--- a group goes on with these tables more
+-- each of these stores keeps a shard, in the order of their tables
+abbrev pub KeepShards : {X : Type 0} → (X → StoreState) → List Outline → List X → Type 0
+KeepShards {X} state more stores = AllZip (λ (o : Outline) (x : X). (state x).shard ≡ o.2) more stores
+
+-- a group goes on with these tables more, each on one store, which stand behind the stores that it had
 pub record Goes {X : Type 0} (state : X → StoreState) (more : List Outline) (old new : GroupState X) : Type 0 where
   pub journal : new.journal ≡ old.journal
   pub node : new.node ≡ old.node
   pub outlined : outlines new ≡ outlines old ++ more
-  pub count : length (stores_of new) ≡ length (stores_of old) + length more
+  pub added : List X
+  pub stores : stores_of new ≡ stores_of old ++ added
+  pub shards : KeepShards state more added
   pub kept : IsKept state new
   pub quiet : IsQuiet state new
-  pub steady : IsSteady state new
 
--- a group goes on without the table that was added last
+-- a group goes on without the table that was added last, and without its only store
 pub record Loses {X : Type 0} (state : X → StoreState) (old new : GroupState X) : Type 0 where
   pub last : Outline
   pub outlined : outlines old ≡ outlines new ++ last ∷ []
-  pub count : length (stores_of old) ≡ length (stores_of new) + 1
+  pub store : X
+  pub stores : stores_of old ≡ stores_of new ++ store ∷ []
   pub journal : new.journal ≡ old.journal
   pub node : new.node ≡ old.node
   pub kept : IsKept state new
   pub quiet : IsQuiet state new
-  pub steady : IsSteady state new
 
 -- the groups go on, each with these tables more
 pub record AreGone {X : Type 0} (state : X → StoreState) (more : ℕ → List Outline) (old new : List (GroupState X)) : Type 0 where
@@ -88,7 +91,7 @@ pub record AreSpent {X : Type 0} (state : X → StoreState) (nodes n : ℕ) (old
 -- the groups that so many shards of a new table are added to: on their nodes, and without the table
 abbrev pub AreReady : {X : Type 0} → ℕ → ℕ → ℕ → ℕ → List (GroupState X) → Type 0
 AreReady {X} nodes table first n groups = (h : ℕ) (g : GroupState X) → first ≤ h → h < first + n → slice_get groups h ≡ Some g →
-    (shape_at (outlines g) table ≡ None) × (g.node ≡ node_of nodes (h - first))
+    (shape_at (outlines g) table ≡ None) × (g.node ≡ home_of nodes (h - first))
 
 -- the workers have a store for each of so many shards
 abbrev pub HaveStores : {X : Type 0} → (X → StoreState) → ℕ → ℕ → List (Worker X) → Type 0
@@ -100,8 +103,8 @@ pub record IsOpened {X : Type 0} (state : X → StoreState) (nodes first i : ℕ
   pub kept : IsKept state g
   pub quiet : IsQuiet state g
   pub number : g.journal.group ≡ first + i
-  pub opening : g.journal.opening ≡ node_of nodes i
-  pub node : g.node ≡ node_of nodes i
+  pub opening : g.journal.opening ≡ home_of nodes i
+  pub node : g.node ≡ home_of nodes i
   pub tables : g.tables.items ≡ []
   pub entries : entries_of g ≡ []
 

@@ -1,8 +1,10 @@
 ghost use Rattle.std.specs.Prelude.{◌≡◌, ◌-◌, ◌<◌, ◌≤◌, List, [], ◌∷◌, length, map, slice_get, Some};
+ghost use Rattle.cq_answer.specs.declared.answered.Answered.{Answered};
 ghost use Rattle.cq_store.specs.Workers.{room};
 ghost use Rattle.cq_store.specs.declared.worker.Worker.{Worker};
 ghost use Rattle.cq_group.specs.declared.group.GroupState.{GroupState};
 ghost use Rattle.cq_group.specs.Groups.{IsKept, stores_of};
+ghost use Rattle.cq_cluster.specs.Accounts.{AreAccounted, AllAccounted};
 ghost use Rattle.cq_cluster.specs.Cluster.{AreWorkers, IsSound, journals as journals_in};
 ghost use Rattle.cq_cluster.specs.Closing.{all_stores, AreKept, HaveRoom, HaveBack};
 ghost use Rattle.cq_cluster.specs.Ending.{IsFinal, record_of};
@@ -73,6 +75,7 @@ impl<S: Store> Cluster<S> {
         ensures catalog { result.catalog ≡ self.catalog }
         ensures journals { map record_of journals.new.list ≡ journals_in self }
         ensures stores { (entry : List (Worker S)) → AreWorkers S.state self.nodes entry self.groups.items self.workers.items → IsFinal S.state self.nodes entry self.catalog journals.new.list result.workers.items }
+        ensures accounted { (answers : List Answered) → AreAccounted S.state self.catalog answers self.groups.items → AllAccounted S.state self.nodes answers result.workers.items }
     {
         let Cluster {
             catalog,

@@ -1,4 +1,5 @@
 ghost use Rattle.std.specs.Prelude.{◌≡◌, ◌+◌, ◌<◌, ◌≤◌, ◌⊎◌, List, None, Some, OnOk, OnErr, IfErr, IfOk, true, length};
+ghost use Rattle.cq_answer.specs.declared.answered.Answered.{Answered};
 ghost use Rattle.cq_catalog.specs.Distribution.{decision_of, distributed_by};
 ghost use Rattle.cq_tree.specs.declared.journal.Who.{Who};
 ghost use Rattle.cq_planning.specs.Database.{shape_in};
@@ -8,6 +9,7 @@ ghost use Rattle.cq_history.specs.Laws.{OpensGroups};
 ghost use Rattle.cq_history.specs.Standing.{distribution_fault};
 ghost use Rattle.cq_store.specs.declared.worker.Worker.{Worker};
 ghost use Rattle.cq_group.specs.declared.group.GroupState.{GroupState};
+ghost use Rattle.cq_cluster.specs.Accounts.{AreAccounted};
 ghost use Rattle.cq_cluster.specs.Cluster.{AreWorkers, journals, run_of, most_nodes, IsSound, KeepsStores};
 ghost use Rattle.cq_cluster.specs.Steps.{shards_of as all_shards, forgotten, IsBegun, CanBegin, IsOpen, IsUndone, IsPlanned, IsReady};
 ghost use Rattle.cq_value.specs.declared.schema.Shape.{Shape};
@@ -175,6 +177,7 @@ impl<S: Store> Cluster<S> {
         ensures unchanged { OnErr result (self.new.catalog ≡ self.old.catalog) }
         ensures same { OnErr result (journals self.new ≡ journals self.old) }
         ensures stores { KeepsStores S.state self.old self.new }
+        ensures accounted { (answers : List Answered) → AreAccounted S.state self.old.catalog answers self.old.groups.items → AreAccounted S.state self.new.catalog answers self.new.groups.items }
     {
         let opened = match self.plan(table, column, count, with, default) {
             Ok(opened) => opened,

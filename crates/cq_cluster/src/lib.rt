@@ -7,6 +7,7 @@ mod cluster;
 mod copies;
 mod creating;
 mod distribute;
+mod laws;
 mod making;
 mod opening;
 mod reference;
@@ -16,3 +17,4 @@ mod spare;
 mod worker;
 
 pub use cluster::{Cluster, Ended};
+pub use laws::account_laws;

@@ -1,5 +1,6 @@
 ghost use Rattle.std.specs.Prelude.{◌≡◌, ◌<◌, ◌≤◌, [], length};
 ghost use Rattle.cq_catalog.specs.Contents.{nothing};
+ghost use Rattle.cq_cluster.specs.Accounts.{AreAccounted};
 ghost use Rattle.cq_cluster.specs.Cluster.{AreIdle, AreWorkers, IsSound, journals, most_nodes};
 
 use crate::cluster::Cluster;
@@ -22,6 +23,7 @@ impl<S: Store> Cluster<S> {
         ensures groups { result.groups.items ≡ [] }
         ensures catalog { result.catalog ≡ nothing }
         ensures journals { journals result ≡ [] }
+        ensures accounted { AreAccounted S.state result.catalog [] result.groups.items }
     {
         Cluster {
             catalog: Catalog::new(alloc),

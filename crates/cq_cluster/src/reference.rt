@@ -1,4 +1,5 @@
 ghost use Rattle.std.specs.Prelude.{◌≡◌, ◌<◌, ◌⊎◌, List, None, Some, OnOk, OnErr, IfErr, IfOk, length, vec_len, vec_capacity};
+ghost use Rattle.cq_answer.specs.declared.answered.Answered.{Answered};
 ghost use Rattle.cq_catalog.specs.Distribution.{with_reference};
 ghost use Rattle.cq_tree.specs.declared.journal.Who.{Who};
 ghost use Rattle.cq_planning.specs.Database.{shape_in};
@@ -7,6 +8,7 @@ ghost use Rattle.cq_history.specs.Journals.{none};
 ghost use Rattle.cq_history.specs.Laws.{OpensGroups};
 ghost use Rattle.cq_history.specs.Standing.{reference_fault};
 ghost use Rattle.cq_store.specs.declared.worker.Worker.{Worker};
+ghost use Rattle.cq_cluster.specs.Accounts.{AreAccounted};
 ghost use Rattle.cq_cluster.specs.Cluster.{AreWorkers, journals, run_of, IsSound, KeepsStores};
 ghost use Rattle.cq_cluster.specs.References.{HaveLent, IsNewReference, IsReferencePlanned};
 
@@ -80,6 +82,7 @@ impl<S: Store> Cluster<S> {
         ensures unchanged { OnErr result (self.new.catalog ≡ self.old.catalog) }
         ensures same { OnErr result (journals self.new ≡ journals self.old) }
         ensures stores { KeepsStores S.state self.old self.new }
+        ensures accounted { (answers : List Answered) → AreAccounted S.state self.old.catalog answers self.old.groups.items → AreAccounted S.state self.new.catalog answers self.new.groups.items }
     {
         let opened = match self.plan_reference(table) {
             Ok(opened) => opened,

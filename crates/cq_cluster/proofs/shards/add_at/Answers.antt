@@ -11,9 +11,6 @@ add_shard-requires-clause-kept g c = (next_group g.S.Store.state c.args.shards c
 pub add_shard-requires-clause-quiet : goal.add_shard-requires-clause-quiet
 add_shard-requires-clause-quiet g c = (next_group g.S.Store.state c.args.shards c.args.shape.now c.requires.adding.0 c.args.groups.now.items c.requires.adding.1 c.args.workers.now.items c.args.place _ c.index_mut-group.result.now c.requires.adding.2 c.requires.within refl c.index_mut-group.ensures.value).quiet
 
-pub add_shard-requires-clause-steady : goal.add_shard-requires-clause-steady
-add_shard-requires-clause-steady g c = (next_group g.S.Store.state c.args.shards c.args.shape.now c.requires.adding.0 c.args.groups.now.items c.requires.adding.1 c.args.workers.now.items c.args.place _ c.index_mut-group.result.now c.requires.adding.2 c.requires.within refl c.index_mut-group.ensures.value).steady
-
 pub add_shard-requires-clause-new : goal.add_shard-requires-clause-new
 add_shard-requires-clause-new g c = (next_group g.S.Store.state c.args.shards c.args.shape.now c.requires.adding.0 c.args.groups.now.items c.requires.adding.1 c.args.workers.now.items c.args.place _ c.index_mut-group.result.now c.requires.adding.2 c.requires.within refl c.index_mut-group.ensures.value).new
 

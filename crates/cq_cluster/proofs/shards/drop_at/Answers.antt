@@ -11,9 +11,6 @@ drop_shard-requires-clause-kept g c = (last_group g.S.Store.state c.args.shards 
 pub drop_shard-requires-clause-quiet : goal.drop_shard-requires-clause-quiet
 drop_shard-requires-clause-quiet g c = (last_group g.S.Store.state c.args.shards c.requires.adding.0 c.requires.adding.1 c.args.groups.now.items c.requires.adding.2 c.args.workers.now.items c.args.place _ c.index_mut-group.result.now c.requires.adding.3 refl c.index_mut-group.ensures.value).quiet
 
-pub drop_shard-requires-clause-steady : goal.drop_shard-requires-clause-steady
-drop_shard-requires-clause-steady g c = (last_group g.S.Store.state c.args.shards c.requires.adding.0 c.requires.adding.1 c.args.groups.now.items c.requires.adding.2 c.args.workers.now.items c.args.place _ c.index_mut-group.result.now c.requires.adding.3 refl c.index_mut-group.ensures.value).steady
-
 pub drop_shard-requires-clause-unwritten : goal.drop_shard-requires-clause-unwritten
 drop_shard-requires-clause-unwritten g c = (last_group g.S.Store.state c.args.shards c.requires.adding.0 c.requires.adding.1 c.args.groups.now.items c.requires.adding.2 c.args.workers.now.items c.args.place _ c.index_mut-group.result.now c.requires.adding.3 refl c.index_mut-group.ensures.value).unwritten
 

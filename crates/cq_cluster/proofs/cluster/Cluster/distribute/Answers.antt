@@ -25,6 +25,9 @@ returns-in-Err-clause-same g c = refl
 pub returns-in-Err-clause-stores : goal.returns-in-Err-clause-stores
 returns-in-Err-clause-stores g c = record { nodes = refl; stores = λ entry at. at }
 
+pub returns-in-Err-clause-accounted : goal.returns-in-Err-clause-accounted
+returns-in-Err-clause-accounted g c answers all = all
+
 -- ---- there is no memory for the groups or their tables
 
 pub add-requires : goal.add-requires
@@ -38,6 +41,9 @@ returns-in_default-clause-same g c = (as_it_was g.S.Store.state c.args.self.now 
 
 pub returns-in_default-clause-stores : goal.returns-in_default-clause-stores
 returns-in_default-clause-stores g c = (as_it_was g.S.Store.state c.args.self.now c.add.new.self c.requires.sound c.add.ensures.catalog c.add.ensures.nodes c.in_default.ensures.err).stores
+
+pub returns-in_default-clause-accounted : goal.returns-in_default-clause-accounted
+returns-in_default-clause-accounted g c = (as_it_was g.S.Store.state c.args.self.now c.add.new.self c.requires.sound c.add.ensures.catalog c.add.ensures.nodes c.in_default.ensures.err).accounted
 
 pub returns-in_default-clause-cause : goal.returns-in_default-clause-cause
 returns-in_default-clause-cause g c entry at = inl refl
@@ -77,6 +83,13 @@ returns-in-Err-distribute-clause-stores g c =
     (is_undone_on g.S.Store.state c.args.self.now.groups.items c.args.self.now.workers.items c.undo.new.self.groups.items c.undo.new.self.workers.items c.add.ensures.nodes
     (c.undo.ensures.undone (shape_in c.args.self.now.catalog c.in-Ok.opened.table) c.args.self.now.groups.items c.args.self.now.workers.items
     (is_open_on g.S.Store.state c.in-Ok.opened (shape_in c.args.self.now.catalog c.in-Ok.opened.table) c.args.self.now.groups.items c.args.self.now.workers.items c.add.new.self.groups.items c.add.new.self.workers.items c.add.ensures.nodes c.in-Ok-add.ensures.ok)))).stores
+
+pub returns-in-Err-distribute-clause-accounted : goal.returns-in-Err-distribute-clause-accounted
+returns-in-Err-distribute-clause-accounted g c =
+    (as_it_was g.S.Store.state c.args.self.now c.undo.new.self c.requires.sound (c.undo.ensures.catalog ∙ c.in-Err-distribute.ensures.unchanged ∙ c.add.ensures.catalog) (c.undo.ensures.nodes ∙ c.add.ensures.nodes)
+    (is_undone_on g.S.Store.state c.args.self.now.groups.items c.args.self.now.workers.items c.undo.new.self.groups.items c.undo.new.self.workers.items c.add.ensures.nodes
+    (c.undo.ensures.undone (shape_in c.args.self.now.catalog c.in-Ok.opened.table) c.args.self.now.groups.items c.args.self.now.workers.items
+    (is_open_on g.S.Store.state c.in-Ok.opened (shape_in c.args.self.now.catalog c.in-Ok.opened.table) c.args.self.now.groups.items c.args.self.now.workers.items c.add.new.self.groups.items c.add.new.self.workers.items c.add.ensures.nodes c.in-Ok-add.ensures.ok)))).accounted
 
 pub returns-in-Err-distribute-clause-cause : goal.returns-in-Err-distribute-clause-cause
 returns-in-Err-distribute-clause-cause g c entry at =
@@ -119,3 +132,9 @@ returns-clause-stores g c =
     let new : Cluster g.row.S.Denot = record { catalog = c.distribute.new.self; groups = c.add.new.self.groups; workers = c.add.new.self.workers; nodes = c.add.new.self.nodes } in
     let made = made_after c.args.self.now.catalog c.add.new.self.catalog c.args.table.now c.args.column.now c.args.count c.args.with.now c.args.default c.add.ensures.catalog c.distribute.new.self c.in_default-distribute.ensures.distributed in
     (distributed g.S.Store.state c.args.self.now new c.args.table.now c.args.column.now c.args.count c.args.with.now c.args.default c.in-Ok.opened c.requires.sound c.add.ensures.nodes c.in-Ok.ensures.ok c.in-Ok-add.ensures.ok made).stores
+
+pub returns-clause-accounted : goal.returns-clause-accounted
+returns-clause-accounted g c =
+    let new : Cluster g.row.S.Denot = record { catalog = c.distribute.new.self; groups = c.add.new.self.groups; workers = c.add.new.self.workers; nodes = c.add.new.self.nodes } in
+    let made = made_after c.args.self.now.catalog c.add.new.self.catalog c.args.table.now c.args.column.now c.args.count c.args.with.now c.args.default c.add.ensures.catalog c.distribute.new.self c.in_default-distribute.ensures.distributed in
+    (distributed g.S.Store.state c.args.self.now new c.args.table.now c.args.column.now c.args.count c.args.with.now c.args.default c.in-Ok.opened c.requires.sound c.add.ensures.nodes c.in-Ok.ensures.ok c.in-Ok-add.ensures.ok made).accounted
