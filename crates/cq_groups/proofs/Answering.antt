@@ -29,17 +29,24 @@ use Rattle.cq_history.specs.Log.{IsAnswered}
 use Rattle.cq_history.specs.Laws.{IsWriting, AreThere, refusal_by, reply_over as reply_by}
 use Rattle.cq_history.proofs.Lists.{got_below}
 use Rattle.cq_history.proofs.Script.{grows_as}
+use Rattle.cq_history.proofs.Faults.{write_fails}
+use Rattle.cq_history.specs.Faults.{IsOnNode}
+use Rattle.cq_answer.specs.declared.answer.Answer.TheVariants as answer
+use Rattle.cq_answer.specs.declared.fault.Fault.TheVariants as fault
+use Rattle.cq_store.specs.Stores.{StoreState}
 use Rattle.cq_history.proofs.Answering.{made_is_answered, refused_is_answered, lacks_is_answered, write_lacks_memory}
 use Rattle.cq_group.specs.declared.group.GroupState.{GroupState}
 use Rattle.cq_group.specs.Groups.{entries_of, shapes, journal_of}
 use Rattle.cq_group.specs.Calls.{next_id}
-use Rattle.cq_group.specs.Resting.{journals_of}
+use Rattle.cq_group.specs.Resting.{journals_of, AreResting, HasFailed}
 use Rattle.cq_router.specs.declared.insertion.Part.{Part}
 use Rattle.cq_groups.specs.declared.error.WriteError.{WriteError}
-use Rattle.cq_groups.specs.declared.error.WriteError.TheVariants.{Ids, Memory}
-use Rattle.cq_groups.specs.Writes.{reply_over, HasIds, InGroup, Replies, IsReadyIn, AreMade, IsStopped, IsRefused, IsLacking, IsWritten}
+use Rattle.cq_groups.specs.declared.error.WriteError.TheVariants.{Ids, Worker, Memory}
+use Rattle.cq_groups.specs.Writes.{reply_over, HasIds, InGroup, Replies, IsReadyIn, AreMade, IsStopped, IsRefused, IsLacking, IsFailing, IsWritten}
+use Rattle.cq_groups.specs.Reads.{AreShaped}
 use Rattle.cq_groups.specs.Answers.{HasShards, parts_by, answer_by}
 use Rattle.cq_groups.proofs.Entering.{long, journal_at}
+use Rattle.cq_groups.proofs.Failing.{fault_is_placed, named}
 use Rattle.cq_groups.proofs.Touching.{part_at, parts_at, parts_are, each_at, sum_at, entered_at, stop_is, ready_below}
 use Rattle.cq_groups.proofs.Judging.{its_not_local, is_writing, table_part}
 
@@ -161,14 +168,35 @@ module _ {X : Type 0} (run : Run) (e : Environment) (who : Who) (op : ShardOp) (
       subst (λ js. IsAnswered rules run e e who (journals_of old) js (Some (statement.Write op)) (answer_by op (Err Ids))) (sym l.same)
       (lacks_is_answered rules run e who (journals_of old) op l.part.group w are_there m (lacks_there e.catalog op old shards l.part.group lacks.group lacks.there (has l.part.group m) lacks.holds) (ready_before l.part l.stopped))
 
-  by_result : (r : Result Reply WriteError) → IsWritten who (parts_at e.catalog op groups) old new r → IsAnswered rules run e e who (journals_of old) (journals_of new) (Some (statement.Write op)) (answer_by op r)
-  by_result (Ok (Count n)) h = made n h
-  by_result (Ok Duplicate) h = refused Duplicate tt h
-  by_result (Ok OutOfRange) h = refused OutOfRange tt h
-  by_result (Err Ids) h = lacking h
-  by_result (Err Memory) h =
-      subst (λ js. IsAnswered rules run e e who (journals_of old) js (Some (statement.Write op)) (answer_by op (Err Memory))) (sym h) (write_lacks_memory rules run e who (journals_of old) op runs)
+  module _ (state : X → StoreState) (resting : AreResting state old) {nodes : ℕ} (shaped : AreShaped e.catalog nodes old) (workers : run.workers ≡ nodes) where
+    failing : (node shard before after : ℕ) → IsFailing state (parts_at e.catalog op groups) node shard before after old new →
+        IsAnswered rules run e e who (journals_of old) (journals_of new) (Some (statement.Write op)) (answer_by op (Err (Worker node shard before after)))
+    failing node shard before after f =
+        let at = f.part.group in
+        let placed = fault_is_placed state e.catalog nodes at node shard before after old new f.failed (λ g there. (resting at g there, shaped.each at g there)) in
+        subst (λ js. IsAnswered rules run e e who (journals_of old) js (Some (statement.Write op)) (answer_by op (Err (Worker node shard before after)))) (sym f.same)
+        (write_fails rules run e who (journals_of old) op at node shard before after runs are_there (stop_among f.part f.stopped) placed.0
+        (subst (λ n. IsOnNode n (journal_in (journals_of old) at) node) (sym workers) placed.1) placed.2)
 
-  -- by what the groups of its parts came to
-  pub write_is_answered : (r : Result Reply WriteError) → IsWritten who (parts_by e.catalog op) old new r → IsAnswered rules run e e who (journals_of old) (journals_of new) (Some (statement.Write op)) (answer_by op r)
-  write_is_answered r h = by_result r (subst (λ (ps : List Part). IsWritten who ps old new r) (parts_are e.catalog op) h)
+    by_result : (r : Result Reply WriteError) → IsWritten state who (parts_at e.catalog op groups) old new r → IsAnswered rules run e e who (journals_of old) (journals_of new) (Some (statement.Write op)) (answer_by op r)
+    by_result (Ok (Count n)) h = made n h
+    by_result (Ok Duplicate) h = refused Duplicate tt h
+    by_result (Ok OutOfRange) h = refused OutOfRange tt h
+    by_result (Err Ids) h = lacking h
+    by_result (Err (Worker node shard before after)) h = failing node shard before after h
+    by_result (Err Memory) h =
+        subst (λ js. IsAnswered rules run e e who (journals_of old) js (Some (statement.Write op)) (answer_by op (Err Memory))) (sym h) (write_lacks_memory rules run e who (journals_of old) op runs)
+
+    -- by what the groups of its parts came to
+    pub write_is_answered : (r : Result Reply WriteError) → IsWritten state who (parts_by e.catalog op) old new r → IsAnswered rules run e e who (journals_of old) (journals_of new) (Some (statement.Write op)) (answer_by op r)
+    write_is_answered r h = by_result r (subst (λ (ps : List Part). IsWritten state who ps old new r) (parts_are e.catalog op) h)
+
+  -- the store that it names failed
+  pub write_blames : (state : X → StoreState) (ps : List Part) (r : Result Reply WriteError) → IsWritten state who ps old new r → (node shard before after : ℕ) → answer_by op r ≡ answer.Failed (fault.Worker node shard before after) → HasFailed state node shard before after old new
+  write_blames state ps (Ok (Count n)) h node shard before after a = cc
+  write_blames state ps (Ok Duplicate) h node shard before after a = cc
+  write_blames state ps (Ok OutOfRange) h node shard before after a = cc
+  write_blames state ps (Err Ids) h node shard before after a = cc
+  write_blames state ps (Err (Worker n s from to)) h node shard before after a =
+      subst (λ (w : ℕ × ℕ × ℕ × ℕ). HasFailed state w.0 w.1 w.2 w.3 old new) (ap named a) (h.part.group, h.failed)
+  write_blames state ps (Err Memory) h node shard before after a = cc

@@ -26,6 +26,7 @@ use Rattle.cq_router.specs.declared.insertion.Part.{Part}
 use Rattle.cq_groups.specs.declared.staging.ReadyPart.{ReadyPart}
 use Rattle.cq_groups.specs.Writes.{entered}
 use Rattle.cq_groups.specs.Staging.{InBoth, IsApart, AreApart, Turned, Enters, place_of, AreRestored}
+use Rattle.cq_groups.proofs.Growth.{rest_more}
 use Rattle.cq_groups.proofs.Turning.{turned_at}
 use Rattle.cq_groups.proofs.Holding.{goes_on_same, rests_again}
 use Rattle.cq_groups.proofs.Stopping.{parts_of}
@@ -83,7 +84,7 @@ module _ {X : Type 0} (state : X → StoreState) where
 
   -- a group that rests where its write was entered
   pub rests_entered : (who : Who) (op : ShardOp) (reply : Reply) (g h : GroupState X) → IsResting state g → Enters state who op reply g h → IsResting state h
-  rests_entered who op reply g h r e = record { kept = e.kept; quiet = e.quiet; steady = e.on.steady r.steady }
+  rests_entered who op reply g h r e = rest_more state g h who (entry.Write op reply) (λ s. refl) r e.kept e.quiet e.on.same e.entry
 
   -- ---- no entry
 

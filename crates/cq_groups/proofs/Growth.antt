@@ -1,5 +1,5 @@
 -- One shard group of several goes on.
-use Rattle.std.proofs.Common.{◌≡◌, ◌≢◌, inl, inr, ℕ, zero, suc, ◌<◌, true, false, List, [], ◌∷◌, ◌++◌, length, map, refl, sym, ap, ◌∙◌, subst, arith, Some, slice_get, get_or}
+use Rattle.std.proofs.Common.{fold, ◌≡◌, ◌≢◌, inl, inr, ℕ, zero, suc, ◌<◌, true, false, List, [], ◌∷◌, ◌++◌, length, map, refl, sym, ap, ◌∙◌, subst, arith, Some, None, slice_get, get_or}
 use Rattle.std.specs.List.{AllZip}
 use Rattle.std.specs.Prelude.{nat_eq, slice_index_or}
 use Rattle.std.proofs.Math.ListN.{set}
@@ -8,10 +8,12 @@ use Rattle.std.proofs.lemmas.Bool.Decides.{eqb_tells}
 use Rattle.cq_value.specs.Tables.{empty_table}
 use Rattle.cq_tree.specs.declared.journal.Who.{Who}
 use Rattle.cq_tree.specs.declared.journal.EntryKind.{EntryKind}
+use Rattle.cq_tree.specs.declared.journal.Entry.{Entry}
 use Rattle.cq_journal.specs.Records.{Journal}
+use Rattle.cq_journal.specs.Stations.{Station, moved, node_of}
 use Rattle.cq_store.specs.Stores.{StoreState}
 use Rattle.cq_group.specs.declared.group.GroupState.{GroupState}
-use Rattle.cq_group.specs.Groups.{IsSameGroup, entries_of, journal_of, stores_of}
+use Rattle.cq_group.specs.Groups.{IsKept, IsQuiet, IsSameGroup, entries_of, journal_of, stores_of}
 use Rattle.cq_group.specs.Calls.{GroupGoesOn, Lifted, GoesOn}
 use Rattle.cq_group.specs.Resting.{journals_of, IsResting, AreResting, GoOn}
 use Rattle.cq_group.proofs.WriteLaws.{goes_on_twice}
@@ -77,6 +79,19 @@ journal_beside (g ∷ groups) zero (suc n) h d e = refl
 journal_beside (g ∷ groups) (suc k) zero h d e = refl
 journal_beside (g ∷ groups) (suc k) (suc n) h d e = journal_beside groups k n h d (λ f. e (ap suc f))
 
+-- ---- where a group is
+
+fold_last : {A B : Type 0} (f : B → A → B) (b : B) (xs : List A) (x : A) → fold f b (xs ++ x ∷ []) ≡ f (fold f b xs) x
+fold_last f b [] x = refl
+fold_last f b (y ∷ xs) x = fold_last f (f b y) xs x
+
+-- an entry that moves nothing
+node_on : (j : Journal) (who : Who) (kind : EntryKind) → ((s : Station) → moved s who kind ≡ s) → node_of (with_entries who (kind ∷ []) j) ≡ node_of j
+node_on j who kind stays =
+    let first : Station = record { node = j.opening; moving = None; target = j.opening } in
+    let move : Station → Entry → Station = λ s e. moved s e.who e.kind in
+    ap (λ (s : Station). s.node) (fold_last move first j.entries (record { who = who; kind = kind }) ∙ stays (fold move first j.entries))
+
 -- ---- one group after a call
 
 module _ {X : Type 0} where
@@ -86,6 +101,22 @@ module _ {X : Type 0} where
 
   journal_still : (g h : GroupState X) → IsSameGroup g h → entries_of h ≡ entries_of g → journal_of h ≡ journal_of g
   journal_still g h s e = λ i. record { number = s.number i; opening = s.opening i; base = λ table. empty_table; entries = e i }
+
+  -- it is where it was
+  node_still : (g h : GroupState X) → IsSameGroup g h → entries_of h ≡ entries_of g → node_of (journal_of g) ≡ g.node → node_of (journal_of h) ≡ h.node
+  node_still g h s e placed = ap node_of (journal_still g h s e) ∙ placed ∙ sym s.node
+
+  node_more : (g h : GroupState X) (who : Who) (kind : EntryKind) → ((s : Station) → moved s who kind ≡ s) → IsSameGroup g h → entries_of h ≡ entries_of g ++ record { who = who; kind = kind } ∷ [] →
+      node_of (journal_of g) ≡ g.node → node_of (journal_of h) ≡ h.node
+  node_more g h who kind stays s e placed = ap node_of (journal_after g h who kind s e) ∙ node_on (journal_of g) who kind stays ∙ placed ∙ sym s.node
+
+  -- so it rests again
+  pub rest_still : (state : X → StoreState) (g h : GroupState X) → IsResting state g → IsKept state h → IsQuiet state h → IsSameGroup g h → entries_of h ≡ entries_of g → IsResting state h
+  rest_still state g h r k q s e = record { kept = k; quiet = q; placed = node_still g h s e r.placed }
+
+  pub rest_more : (state : X → StoreState) (g h : GroupState X) (who : Who) (kind : EntryKind) → ((s : Station) → moved s who kind ≡ s) → IsResting state g → IsKept state h → IsQuiet state h → IsSameGroup g h →
+      entries_of h ≡ entries_of g ++ record { who = who; kind = kind } ∷ [] → IsResting state h
+  rest_more state g h who kind stays r k q s e = record { kept = k; quiet = q; placed = node_more g h who kind stays s e r.placed }
 
   -- and so have the journals in the place of its own
   pub grows_in : (groups : List (GroupState X)) (k : ℕ) (g h : GroupState X) (who : Who) (kind : ℕ → EntryKind) → slice_get groups k ≡ Some g → IsSameGroup g h →

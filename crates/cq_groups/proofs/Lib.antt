@@ -1,4 +1,6 @@
 pub mod Growth
+pub mod Failing
+pub mod NearLaws
 pub mod ReadLaws
 pub mod GatherLaws
 pub mod LookLaws

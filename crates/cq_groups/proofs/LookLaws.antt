@@ -105,7 +105,7 @@ groups_of_looks c tables (g ∷ touched) = ap (λ v. g ∷ v) (groups_of_looks c
 pub groups_looked : (c : Contents) (tables touched : List ℕ) → groups_in (looks_by c tables touched) ≡ touched
 groups_looked c tables touched = groups_of_looks c tables touched
 
-module _ {X : Type 0} (c : Contents) (groups : List (GroupState X)) (shaped : AreShaped c groups) (tables : List ℕ) where
+module _ {X : Type 0} (c : Contents) (groups : List (GroupState X)) {nodes : ℕ} (shaped : AreShaped c nodes groups) (tables : List ℕ) where
   its_group : (g : ℕ) → g < c.groups → (h : GroupState X) × (slice_get groups g ≡ Some h)
   its_group g below = let n : length groups ≡ c.groups = shaped.count in got groups g (omega (arith, n, below))
 
@@ -118,22 +118,22 @@ module _ {X : Type 0} (c : Contents) (groups : List (GroupState X)) (shaped : Ar
         shaped = all_weaker (λ t. has_shard c g t ≡ true) (λ t. shapes h.0 t ≡ shape_in c t) (λ t s. ((shaped.each g h.0 h.1).tables t s).1) (tables_there c g tables) (all_there c g tables);
       }
 
-  can_look : (g : ℕ) → g < c.groups → CanLook groups (g, tables_there c g tables)
-  can_look g below =
+  can_look : (node : ℕ) → 0 < node → node ≤ nodes → (g : ℕ) → g < c.groups → CanLook node groups (g, tables_there c g tables)
+  can_look node some few g below =
       let h = its_group g below in
       record {
         group = h.0;
         there = h.1;
         tables = all_weaker (λ t. has_shard c g t ≡ true) (HasTable h.0) (λ t s. ((shaped.each g h.0 h.1).tables t s).0) (tables_there c g tables) (all_there c g tables);
-        near = (shaped.each g h.0 h.1).near;
+        near = λ e. (some, subst (λ n. node ≤ n) (sym ((shaped.each g h.0 h.1).near e).1) few);
       }
 
-  can_looks : (touched : List ℕ) → ((g : ℕ) → among g touched ≡ true → g < c.groups) → AllByRecursion (CanLook groups) (looks_by c tables touched)
-  can_looks [] below = tt
-  can_looks (g ∷ touched) below = (can_look g (below g (among_here g touched)), can_looks touched (λ h m. below h (among_more h g touched m)))
+  can_looks : (node : ℕ) → 0 < node → node ≤ nodes → (touched : List ℕ) → ((g : ℕ) → among g touched ≡ true → g < c.groups) → AllByRecursion (CanLook node groups) (looks_by c tables touched)
+  can_looks node some few [] below = tt
+  can_looks node some few (g ∷ touched) below = (can_look node some few g (below g (among_here g touched)), can_looks node some few touched (λ h m. below h (among_more h g touched m)))
 
-  pub can_look_at : (gs : List ℕ) → AllByRecursion (CanLook groups) (looks_by c tables (in_order c gs))
-  can_look_at gs = can_looks (in_order c gs) (in_order_below c gs)
+  pub can_look_at : (node : ℕ) → 0 < node → node ≤ nodes → (gs : List ℕ) → AllByRecursion (CanLook node groups) (looks_by c tables (in_order c gs))
+  can_look_at node some few gs = can_looks node some few (in_order c gs) (in_order_below c gs)
 
   -- ---- what is read is within its columns' widths
 

@@ -1,5 +1,5 @@
 -- The answer of a query that was computed over its looks.
-use Rattle.std.proofs.Common.{◌≡◌, ℕ, true, List, [], ◌∷◌, length, refl, sym, ◌∙◌, ap, subst, Some, None, Option}
+use Rattle.std.proofs.Common.{◌≡◌, ◌<◌, ◌≤◌, ℕ, true, List, [], ◌∷◌, length, refl, sym, ◌∙◌, ap, subst, Some, None, Option}
 use Rattle.std.specs.Prelude.{◌&&◌}
 use Rattle.std.specs.List.{AllByRecursion, flat_map}
 use Rattle.cq_tree.specs.declared.journal.Who.{Who}
@@ -21,7 +21,12 @@ use Rattle.cq_answer.specs.declared.fault.What.TheVariants as what
 use Rattle.cq_answer.specs.declared.fault.Fault.{Fault}
 use Rattle.cq_answer.specs.declared.fault.Fault.TheVariants as fault
 use Rattle.cq_group.specs.declared.group.GroupState.{GroupState}
-use Rattle.cq_group.specs.Resting.{journals_of}
+use Rattle.cq_group.specs.declared.group.GroupError.{GroupError}
+use Rattle.cq_group.specs.declared.group.GroupError.TheVariants as group
+use Rattle.cq_group.specs.Groups.{journal_of}
+use Rattle.cq_group.specs.Resting.{journals_of, AreResting, HasFailed}
+use Rattle.cq_store.specs.Stores.{StoreState}
+use Rattle.cq_planning.specs.Touched.{touched_by_query}
 use Rattle.cq_history.specs.Run.{Run, Environment}
 use Rattle.cq_history.specs.Computable.{IsReadable}
 use Rattle.cq_history.specs.Journals.{journal_in}
@@ -34,21 +39,25 @@ use Rattle.cq_history.specs.Refusals.{rules, refusal_in, is_alone, unless_built}
 use Rattle.cq_history.proofs.Alone.{touched_alone}
 use Rattle.cq_history.proofs.Answering.{read_is_answered, large_is_answered, read_lacks_memory, refusal_is_answered}
 use Rattle.cq_history.proofs.Growing.{none_grow}
+use Rattle.cq_history.proofs.Faults.{read_fails}
+use Rattle.cq_history.specs.Faults.{below, node_read, near as near_by_rule}
 use Rattle.cq_history.proofs.Script.{idle_is_answered}
 use Rattle.cq_history.specs.Standing.{RunsUnless}
 use Rattle.cq_history.proofs.Looks.{tables_suffice, alone_answers, alone_large}
 use Rattle.cq_history.proofs.Sums.{among_here, among_more}
-use Rattle.cq_groups.specs.Reads.{Look, CanLook, captured_by, groups_in, AreRead, AreReadInPart, AreShaped, Computes, IsComputed, done, stopped}
+use Rattle.cq_groups.specs.Reads.{Look, CanLook, captured_by, groups_in, AreRead, AreReadInPart, AreShaped, Computes, IsReadError, FailsAmong, StopsReads, fault_by, IsComputed, done, stopped, failed}
 use Rattle.cq_groups.specs.Looking.{looks_of, merged, IsPlan, environment_at}
 use Rattle.cq_groups.proofs.GatherLaws.{gathered_whole}
 use Rattle.cq_groups.proofs.LookLaws.{can_look_at, in_order_ascends, in_order_below, has_shapes, groups_looked, merged_within}
-use Rattle.cq_groups.proofs.ReadLaws.{nothing_read}
+use Rattle.cq_groups.proofs.Failing.{fault_is_placed, named}
+use Rattle.cq_groups.proofs.Growth.{length_map}
+use Rattle.cq_groups.proofs.ReadLaws.{nothing_read, among_one, below_one}
 
 each_of : (P : ℕ → Type 0) (xs : List ℕ) → ((t : ℕ) → among t xs ≡ true → P t) → AllByRecursion P xs
 each_of P [] f = tt
 each_of P (x ∷ xs) f = (f x (among_here x xs), each_of P xs (λ t m. f t (among_more t x xs m)))
 
-module _ {X : Type 0} (c : Contents) (q : Query) (groups : List (GroupState X)) (shaped : AreShaped c groups) (alone : is_alone q ≡ true) where
+module _ {X : Type 0} (c : Contents) (q : Query) (groups : List (GroupState X)) {nodes : ℕ} (shaped : AreShaped c nodes groups) (alone : is_alone q ≡ true) where
   -- what was read, each table once
   abbrev pub read_of : Tables
   read_of = merged (captured_by groups (looks_of c q))
@@ -65,8 +74,8 @@ module _ {X : Type 0} (c : Contents) (q : Query) (groups : List (GroupState X)) 
   can_compute readable legal = readable.safe alone read_of (merged_within c groups shaped (tables_in q) legal (flat_map (groups_of c) (occurrences_in c q [])))
 
   -- and its looks can be made
-  pub plan_there : (looks : List Look) → looks ≡ looks_of c q → AllByRecursion (CanLook groups) looks
-  plan_there looks is = subst (λ ls. AllByRecursion (CanLook groups) ls) (sym is) (can_look_at c groups shaped (tables_in q) (flat_map (groups_of c) (occurrences_in c q [])))
+  pub plan_there : (node : ℕ) → 0 < node → node ≤ nodes → (looks : List Look) → looks ≡ looks_of c q → AllByRecursion (CanLook node groups) looks
+  plan_there node some few looks is = subst (λ ls. AllByRecursion (CanLook node groups) ls) (sym is) (can_look_at c groups shaped (tables_in q) node some few (flat_map (groups_of c) (occurrences_in c q [])))
 
   pub plan_ascends : (looks : List Look) → looks ≡ looks_of c q → IsAscendingFrom 0 (groups_in looks)
   plan_ascends looks is =
@@ -112,12 +121,53 @@ module _ {X : Type 0} (c : Contents) (q : Query) (groups : List (GroupState X)) 
       pub query_not_begun : journals_of new ≡ journals_of groups → IsAnswered rules run the_environment the_environment who (journals_of groups) (journals_of new) (Some (statement.Select q)) (answer.Failed fault.Memory)
       query_not_begun same = query_stopped (record { some = []; among = λ g m. cc; grows = nothing_read who groups new same })
 
-      pub query_computed : IsReadable c q → (looks : List Look) (db : Tables) (a : Answer) → looks ≡ looks_of c q → db ≡ merged (captured_by groups looks) → IsComputed who q looks db groups new a →
-          IsAnswered rules run the_environment the_environment who (journals_of groups) (journals_of new) (Some (statement.Select q)) a
-      query_computed readable looks db a is of (done {a = b} grows computes) =
-          query_answered readable (subst (λ ls. AreRead who (groups_in ls) groups new) is grows) b
-          (subst (λ (v : Tables). Computes q v (out-Query q).names b) (of ∙ ap (λ ls. merged (captured_by groups ls)) is) computes)
-      query_computed readable looks db a is of (stopped part) = query_stopped (subst (λ ls. AreReadInPart who (groups_in ls) groups new) is part)
+      -- a store failed in one of the groups
+      module _ (state : X → StoreState) (resting : AreResting state groups) (node : ℕ) (workers : run.workers ≡ nodes) (is_near : node ≡ near_by_rule c nodes (groups_in (looks_of c q))) where
+        near_touched : node ≡ near_by_rule c run.workers (touched c (statement.Select q))
+        near_touched = is_near ∙ ap (near_by_rule c nodes) the_groups ∙ ap (λ n. near_by_rule c n (touched c (statement.Select q))) (sym workers)
+
+        pub query_failed : (on shard before after : ℕ) → FailsAmong state who node (groups_in (looks_of c q)) on shard before after groups new →
+            IsAnswered rules run the_environment the_environment who (journals_of groups) (journals_of new) (Some (statement.Select q)) (answer.Failed (fault.Worker on shard before after))
+        query_failed on shard before after f =
+            let placed = fault_is_placed state c nodes f.group on shard before after groups new f.fails.failed (λ g at. (resting f.group g at, shaped.each f.group g at)) in
+            read_fails rules run the_environment who (journals_of groups) (journals_of new) q f.group on shard before after not_refused
+            (λ g m. subst (λ n. g < n) (sym (length_map (λ (v : GroupState X). journal_of v) groups ∙ shaped.count)) (in_order_below c (touched_by_query c q) g m))
+            (subst (λ gs. among f.group gs ≡ true) the_groups f.there) placed.0 (f.fails.on ∙ ap (λ n. node_read n (journal_in (journals_of groups) f.group)) near_touched) placed.2
+            (subst (λ gs. AreRead who (below f.group gs) groups new) the_groups f.grows) count
+
+        pub query_computed : IsReadable c q → (looks : List Look) (db : Tables) (a : Answer) → looks ≡ looks_of c q → db ≡ merged (captured_by groups looks) → IsComputed state who node q looks db groups new a →
+            IsAnswered rules run the_environment the_environment who (journals_of groups) (journals_of new) (Some (statement.Select q)) a
+        query_computed readable looks db a is of (done {a = b} grows computes) =
+            query_answered readable (subst (λ ls. AreRead who (groups_in ls) groups new) is grows) b
+            (subst (λ (v : Tables). Computes q v (out-Query q).names b) (of ∙ ap (λ ls. merged (captured_by groups ls)) is) computes)
+        query_computed readable looks db a is of (stopped part) = query_stopped (subst (λ ls. AreReadInPart who (groups_in ls) groups new) is part)
+        query_computed readable looks db a is of (failed {node = on} {shard = shard} {before = before} {after = after} f) =
+            query_failed on shard before after (subst (λ ls. FailsAmong state who node (groups_in ls) on shard before after groups new) is f)
+
+-- ---- a store that failed
+
+-- an answer that names a store tells that it failed
+module _ {X : Type 0} (state : X → StoreState) (who : Who) (near : ℕ) (q : Query) (looks : List Look) (db : Tables) (old new : List (GroupState X)) where
+  pub computed_blames : (a : Answer) → IsComputed state who near q looks db old new a → (node shard before after : ℕ) → a ≡ answer.Failed (fault.Worker node shard before after) → HasFailed state node shard before after old new
+  computed_blames a (done {a = b} grows computes) node shard before after e = absurd (subst (λ (v : Answer). Computes q db (out-Query q).names v) e computes)
+  computed_blames a (stopped part) node shard before after e = cc
+  computed_blames a (failed {node = n} {shard = s} {before = from} {after = to} f) node shard before after e =
+      let same : (n, s, from, to) ≡ (node, shard, before, after) = ap named e in
+      subst (λ (w : ℕ × ℕ × ℕ × ℕ). HasFailed state w.0 w.1 w.2 w.3 old new) same (f.group, f.fails.failed)
+
+  -- the answer of an error
+  pub stop_computed : (e : GroupError) → StopsReads state who near (groups_in looks) old new e → AreReadInPart who (groups_in looks) old new → IsComputed state who near q looks db old new (answer.Failed (fault_by e))
+  stop_computed (group.Worker node shard before after) f part = failed f
+  stop_computed group.Memory f part = stopped part
+
+pub pick_stops : {X : Type 0} (state : X → StoreState) (who : Who) (near group : ℕ) (old new : List (GroupState X)) (e : GroupError) → IsReadError state near group old new e → journals_of new ≡ journals_of old → StopsReads state who near (group ∷ []) old new e
+pick_stops state who near g old new (group.Worker node shard before after) f same = record {
+  group = g;
+  there = among_one g;
+  fails = f;
+  grows = subst (λ gs. AreRead who gs old new) (sym (below_one g)) (nothing_read who old new same);
+}
+pick_stops state who near g old new group.Memory f same = tt
 
 -- ---- a query that isn't read
 

@@ -1,5 +1,5 @@
 -- A query that reads one shard needs the rows alone that its WHERE demands.
-use Rattle.std.proofs.Common.{◌≡◌, length, inl, inr, ℕ, Bool, true, false, cond, List, [], ◌∷◌, ◌++◌, filter, refl, sym, ◌∙◌, ap, subst, Some, None, Option, slice_get}
+use Rattle.std.proofs.Common.{◌≡◌, ◌<◌, ◌≤◌, length, inl, inr, ℕ, Bool, true, false, cond, List, [], ◌∷◌, ◌++◌, filter, refl, sym, ◌∙◌, ap, subst, Some, None, Option, slice_get}
 use Rattle.std.specs.Prelude.{nat_eq}
 use Rattle.std.specs.List.{flat_map}
 use Rattle.std.proofs.lemmas.Bool.Decides.{eqb_tells}
@@ -12,7 +12,7 @@ use Rattle.cq_tree.specs.declared.statement.Statement.TheVariants as statement
 use Rattle.cq_meaning.specs.Values.{Row, Tables, table_rows}
 use Rattle.cq_meaning.specs.Safety.{IsSafeQuery}
 use Rattle.cq_meaning.specs.Widths.{AllWithin, Within}
-use Rattle.cq_store.specs.Stores.{has_values}
+use Rattle.cq_store.specs.Stores.{StoreState, has_values}
 use Rattle.cq_catalog.specs.Contents.{Contents}
 use Rattle.cq_planning.specs.Occurrences.{occurrences_in}
 use Rattle.cq_planning.specs.Routing.{fits_router}
@@ -23,9 +23,10 @@ use Rattle.cq_answer.specs.declared.answered.Settings.{Settings}
 use Rattle.cq_answer.specs.declared.fault.What.TheVariants as what
 use Rattle.cq_answer.specs.declared.fault.Fault.TheVariants as fault
 use Rattle.cq_group.specs.declared.group.GroupState.{GroupState}
-use Rattle.cq_group.specs.Resting.{journals_of}
+use Rattle.cq_group.specs.Resting.{journals_of, AreResting}
 use Rattle.cq_history.specs.Computable.{column_bits, IsReadable}
 use Rattle.cq_history.specs.Demands.{demands}
+use Rattle.cq_history.specs.Faults.{near as near_by_rule}
 use Rattle.cq_history.specs.Journals.{journal_in}
 use Rattle.cq_history.specs.Laws.{HasWanted}
 use Rattle.cq_history.specs.Legality.{IsLegal}
@@ -36,7 +37,7 @@ use Rattle.cq_history.specs.Run.{Run}
 use Rattle.cq_history.proofs.Demands.{wanted_answer, wanted_large}
 use Rattle.cq_history.proofs.Lists.{all_filtered}
 use Rattle.cq_groups.specs.declared.shard.Shard.{Shard}
-use Rattle.cq_groups.specs.Reads.{Look, CanLook, captured_of, captured_by, rows_in, AreShaped, Computes, IsComputed, done, stopped}
+use Rattle.cq_groups.specs.Reads.{Look, CanLook, captured_of, captured_by, groups_in, rows_in, AreShaped, Computes, IsComputed, done, stopped, failed}
 use Rattle.cq_groups.specs.Looking.{looks_of, merged, one_shard, look_at, wanted_of, environment_at}
 use Rattle.cq_groups.proofs.LookLaws.{merged_within}
 use Rattle.cq_groups.proofs.QueryLaws.{plan_there, query_computed}
@@ -65,7 +66,7 @@ one_shard_is from looks s e = cc
 itself : (t : ℕ) → nat_eq t t ≡ true
 itself t = eq-eqb t t refl
 
-module _ {X : Type 0} (groups : List (GroupState X)) (q : Query) (s : Shard) (can : CanLook groups (look_at s)) where
+module _ {X : Type 0} {near : ℕ} (groups : List (GroupState X)) (q : Query) (s : Shard) (can : CanLook near groups (look_at s)) where
   -- a look at it gives its rows
   shard_rows : merged (captured_by groups (look_at s ∷ [])) ≡ (s.table, rows_in (slice_get groups s.group) s.table) ∷ []
   shard_rows = subst (λ (o : Option (GroupState X)). merged (captured_of o (s.table ∷ []) ++ []) ≡ (s.table, rows_in o s.table) ∷ []) (sym can.there) refl
@@ -89,10 +90,11 @@ module _ {X : Type 0} (groups : List (GroupState X)) (q : Query) (s : Shard) (ca
   wanted_computes n from names (answer.Failed fault.Memory) h = tt
   wanted_computes n from names a h = absurd h
 
-  pub wanted_computed : (n : ℕ) → (out-Query q).from ≡ Table s.table n → (who : Who) (new : List (GroupState X)) (a : Answer) → IsComputed who q (look_at s ∷ []) (wanted_of groups q s) groups new a →
-      IsComputed who q (look_at s ∷ []) (merged (captured_by groups (look_at s ∷ []))) groups new a
-  wanted_computed n from who new a (done {a = b} grows computes) = done grows (wanted_computes n from (out-Query q).names b computes)
-  wanted_computed n from who new a (stopped part) = stopped part
+  pub wanted_computed : (n : ℕ) → (out-Query q).from ≡ Table s.table n → (state : X → StoreState) (who : Who) (new : List (GroupState X)) (a : Answer) → IsComputed state who near q (look_at s ∷ []) (wanted_of groups q s) groups new a →
+      IsComputed state who near q (look_at s ∷ []) (merged (captured_by groups (look_at s ∷ []))) groups new a
+  wanted_computed n from state who new a (done {a = b} grows computes) = done grows (wanted_computes n from (out-Query q).names b computes)
+  wanted_computed n from state who new a (stopped part) = stopped part
+  wanted_computed n from state who new a (failed f) = failed f
 
 -- what is put first is all that is read
 pub wanted_put : {X : Type 0} (groups : List (GroupState X)) (q : Query) (s : Shard) (wanted : List (ℕ × Value)) (rows : List Row) (before all : Tables) → wanted ≡ demands (out-Query q).filter →
@@ -102,8 +104,8 @@ wanted_put groups q s wanted rows before all demanded picked none put =
 
 -- ---- a query whose looks are at one shard
 
-module _ {X : Type 0} (c : Contents) (q : Query) (groups : List (GroupState X)) (shaped : AreShaped c groups) (alone : is_alone q ≡ true) (looks : List Look) (planned : looks ≡ looks_of c q)
-    (s : Shard) (found : Some s ≡ one_shard (out-Query q).from looks) where
+module _ {X : Type 0} (c : Contents) (q : Query) (groups : List (GroupState X)) {nodes : ℕ} (shaped : AreShaped c nodes groups) (alone : is_alone q ≡ true) (looks : List Look) (planned : looks ≡ looks_of c q)
+    (s : Shard) (found : Some s ≡ one_shard (out-Query q).from looks) (near : ℕ) (some : 0 < near) (few : near ≤ nodes) where
   its_shard : IsOneShard (out-Query q).from looks s
   its_shard = one_shard_is (out-Query q).from looks s (sym found)
 
@@ -111,8 +113,8 @@ module _ {X : Type 0} (c : Contents) (q : Query) (groups : List (GroupState X)) 
   its_look = sym its_shard.looks_are ∙ planned
 
   -- the look can be made
-  pub shard_there : CanLook groups (look_at s)
-  shard_there = (plan_there c q groups shaped alone (look_at s ∷ []) its_look).0
+  pub shard_there : CanLook near groups (look_at s)
+  shard_there = (plan_there c q groups shaped alone near some few (look_at s ∷ []) its_look).0
 
   -- the query can be computed over what it picks
   pub shard_safe : IsReadable c q → ((g : ℕ) → IsLegal c g (journal_in (journals_of groups) g)) → IsSafeQuery q (wanted_of groups q s) []
@@ -123,9 +125,9 @@ module _ {X : Type 0} (c : Contents) (q : Query) (groups : List (GroupState X)) 
       (merged_within c groups shaped (tables_in q) legal (flat_map (groups_of c) (occurrences_in c q [])) t)))
 
   -- and then it is answered
-  pub shard_answered : fits_router c q ≡ true → (run : Run) (settings : Settings) (who : Who) (new : List (GroupState X)) → length (journals_of new) ≡ length (journals_of groups) → IsReadable c q →
-      (a : Answer) → IsComputed who q (look_at s ∷ []) (wanted_of groups q s) groups new a →
+  pub shard_answered : fits_router c q ≡ true → (run : Run) (settings : Settings) (who : Who) (new : List (GroupState X)) → length (journals_of new) ≡ length (journals_of groups) → (state : X → StoreState) → AreResting state groups →
+      run.workers ≡ nodes → near ≡ near_by_rule c nodes (groups_in (looks_of c q)) → IsReadable c q → (a : Answer) → IsComputed state who near q (look_at s ∷ []) (wanted_of groups q s) groups new a →
       IsAnswered rules run (environment_at c settings) (environment_at c settings) who (journals_of groups) (journals_of new) (Some (statement.Select q)) a
-  shard_answered routed run settings who new count readable a computed =
-      query_computed c q groups shaped alone routed run settings who new count readable (look_at s ∷ []) (merged (captured_by groups (look_at s ∷ []))) a its_look refl
-      (wanted_computed groups q s shard_there its_shard.number its_shard.from_is who new a computed)
+  shard_answered routed run settings who new count state resting workers is_near readable a computed =
+      query_computed c q groups shaped alone routed run settings who new count state resting near workers is_near readable (look_at s ∷ []) (merged (captured_by groups (look_at s ∷ []))) a its_look refl
+      (wanted_computed groups q s shard_there its_shard.number its_shard.from_is state who new a computed)

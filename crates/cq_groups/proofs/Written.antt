@@ -25,7 +25,7 @@ use Rattle.cq_groups.specs.declared.staging.ReadyPart.{ReadyPart}
 use Rattle.cq_groups.specs.declared.staging.Stop.{Stop}
 use Rattle.cq_groups.specs.declared.staging.Stop.TheVariants as stop
 use Rattle.cq_groups.specs.declared.error.WriteError.{WriteError}
-use Rattle.cq_groups.specs.declared.error.WriteError.TheVariants.{Ids, Memory}
+use Rattle.cq_groups.specs.declared.error.WriteError.TheVariants.{Ids, Worker, Memory}
 use Rattle.cq_groups.specs.Writes.{AscendFrom, AreMade, IsRefused, IsWritten}
 use Rattle.cq_groups.specs.Staging.{InBoth, TurnsOne, AreApart, Turned, Stages, Enters, place_of, count_in, AreStaged, AreEntered, AllStaged}
 use Rattle.cq_groups.proofs.Turning.{both_twice, one_at}
@@ -76,7 +76,7 @@ module _ {X : Type 0} (state : X → StoreState) (who : Who) (parts : List Part)
     counted_all : AreEntered state who ready mid new → Turned place_of (Counted state who (counts old) old new) ready old new
     counted_all en = record { count = en.count ∙ t.count; each = counted_each ready t.each en.each; others = λ i h. en.others i h ∙ t.others i h }
 
-    pub all_made : AreEntered state who ready mid new → (n : ℕ) → n ≡ sum_by count_in ready → IsWritten who parts old new (Ok (Count n))
+    pub all_made : AreEntered state who ready mid new → (n : ℕ) → n ≡ sum_by count_in ready → IsWritten state who parts old new (Ok (Count n))
     all_made en n is = subst (λ (ps : List Part). AreMade who ps old new n) (sym e) (record {
       counts = counts old;
       sum = is ∙ sum_is state old mid ready t.each;
@@ -131,10 +131,10 @@ module _ {X : Type 0} (state : X → StoreState) (who : Who) (parts : List Part)
           (λ i g h gs hs. let low = got_below old i g gs in let m = got mid i (let c = a.0.count in omega (arith, low, c)) in enters_at i g m.0 h gs m.1 hs) beyond;
     }
 
-    pub refused_written : IsWritten who parts old new (Ok s.reply)
+    pub refused_written : IsWritten state who parts old new (Ok s.reply)
     refused_written = by_cases s.reply a.1.1.holds.refusal refused
       where
-        by_cases : (r : Reply) → IsRefusal r → IsRefused who parts old new r → IsWritten who parts old new (Ok r)
+        by_cases : (r : Reply) → IsRefusal r → IsRefused who parts old new r → IsWritten state who parts old new (Ok r)
         by_cases (Count n) b h = absurd b
         by_cases Duplicate b h = h
         by_cases OutOfRange b h = h
@@ -154,14 +154,18 @@ module _ {X : Type 0} (state : X → StoreState) (who : Who) (parts : List Part)
 
   -- ---- no part has an entry
 
-  lacking : AllStaged state parts old mid (Err (stop.Failed Ids)) → IsWritten who parts old mid (Err Ids)
+  lacking : AllStaged state parts old mid (Err (stop.Failed Ids)) → IsWritten state who parts old mid (Err Ids)
   lacking a = record { part = a.1.0; stopped = a.1.1; lacks = a.1.2; same = restored_journals state old mid a.0 }
 
-  no_memory : AllStaged state parts old mid (Err (stop.Failed Memory)) → IsWritten who parts old mid (Err Memory)
+  failing : (node shard before after : ℕ) → AllStaged state parts old mid (Err (stop.Failed (Worker node shard before after))) → IsWritten state who parts old mid (Err (Worker node shard before after))
+  failing node shard before after a = record { part = a.1.0; stopped = a.1.1; failed = a.1.2; same = restored_journals state old mid a.0 }
+
+  no_memory : AllStaged state parts old mid (Err (stop.Failed Memory)) → IsWritten state who parts old mid (Err Memory)
   no_memory a = restored_journals state old mid a.0
 
-  pub unwritten : (error : WriteError) → AllStaged state parts old mid (Err (stop.Failed error)) → IsWritten who parts old mid (Err error)
+  pub unwritten : (error : WriteError) → AllStaged state parts old mid (Err (stop.Failed error)) → IsWritten state who parts old mid (Err error)
   unwritten Ids a = lacking a
+  unwritten (Worker node shard before after) a = failing node shard before after a
   unwritten Memory a = no_memory a
 
   pub unwritten_go_on : (why : Stop) → AllStaged state parts old mid (Err why) → GoOn state old mid

@@ -5,7 +5,9 @@
 mod alone;
 mod error;
 mod gathering;
+mod laws;
 mod looks;
+mod near;
 mod queries;
 mod reads;
 mod shard;
@@ -16,6 +18,7 @@ mod writes;
 
 pub use error::WriteError;
 pub use gathering::gather;
+pub use laws::fault_laws;
 pub use looks::looks_at;
 pub use queries::answer_query;
 pub use reads::{Look, Looks, pick_group, read_groups};

@@ -1,30 +1,33 @@
-ghost use Rattle.std.specs.Prelude.{◌≡◌, ℕ, [], ◌∷◌, Some, IfOk};
+ghost use Rattle.std.specs.Prelude.{◌≡◌, ◌<◌, ℕ, [], ◌∷◌, Some, IfOk};
 ghost use Rattle.std.specs.List.{AllByRecursion};
 ghost use Rattle.cq_tree.specs.declared.query.Query.{out-Query};
 ghost use Rattle.cq_tree.specs.declared.statement.Statement.TheVariants as statement;
 ghost use Rattle.cq_meaning.specs.Safety.{IsSafeQuery};
 ghost use Rattle.cq_planning.specs.Reaching.{IsAscendingFrom};
+ghost use Rattle.cq_answer.specs.declared.answer.Answer.TheVariants as answer;
 ghost use Rattle.cq_answer.specs.declared.answered.Settings.{Settings};
+ghost use Rattle.cq_answer.specs.declared.fault.Fault.TheVariants as fault;
 ghost use Rattle.cq_history.specs.Run.{Run};
 ghost use Rattle.cq_history.specs.Computable.{IsReadable};
 ghost use Rattle.cq_history.specs.Journals.{journal_in};
 ghost use Rattle.cq_history.specs.Legality.{IsLegal};
 ghost use Rattle.cq_history.specs.Refusals.{rules};
 ghost use Rattle.cq_history.specs.Log.{IsAnswered};
-ghost use Rattle.cq_group.specs.Resting.{journals_of, AreResting, GoOn};
-ghost use Rattle.cq_groups.specs.Reads.{captured_by, groups_in, CanLook, AreShaped, Computes, IsComputed};
+ghost use Rattle.cq_group.specs.Resting.{journals_of, AreResting, GoOn, HasFailed};
+ghost use Rattle.cq_groups.specs.Reads.{captured_by, groups_in, CanLook, AreShaped, Computes, IsComputed, fault_by};
 ghost use Rattle.cq_groups.specs.Looking.{merged, look_at, wanted_of, IsPlan, environment_at};
 
 use crate::alone::is_alone;
 use crate::gathering::gather;
 use crate::looks::looks_at;
+use crate::near::near_node;
 use crate::reads::{Look, Looks, pick_group, read_groups};
 use crate::shard::{Shard, one_shard};
 use crate::tables::tables_of;
 use crate::wanted::wanted_by;
 use cq_answer::{Answer, Fault, What};
 use cq_catalog::Catalog;
-use cq_group::{GroupState, Tables};
+use cq_group::{GroupError, GroupState, Tables};
 use cq_queries::run_query;
 use cq_router::router;
 use cq_store::Store;
@@ -68,26 +71,48 @@ fn compute(alloc: Global, query: &Query, names: Names, tables: &Tables) -> Answe
     }
 }
 
+/// The fault of an error in a read.
+fn fault_of(error: GroupError) -> Fault
+    ensures { result ≡ fault_by error }
+{
+    match error {
+        GroupError::Worker {
+            node,
+            shard,
+            before,
+            after,
+        } => Fault::Worker {
+            node,
+            shard,
+            before,
+            after,
+        },
+        GroupError::Memory => Fault::Memory,
+    }
+}
+
 /// The answer of a query by its looks, each of which is a Read in its group's journal then.
 fn look_and_compute<S: Store>(
     alloc: Global,
     groups: &mut Vec<GroupState<S>>,
     who: Who,
+    near: u32,
     query: &Query,
     looks: &[Look],
 ) -> Answer
     requires resting { AreResting S.state groups.old.items }
-    requires there { AllByRecursion (CanLook groups.old.items) looks.now }
+    requires there { AllByRecursion (CanLook near groups.old.items) looks.now }
     requires ascending { IsAscendingFrom 0 (groups_in looks.now) }
     requires safe { IsSafeQuery query.now (merged (captured_by groups.old.items looks.now)) [] }
-    ensures computed { IsComputed who query.now looks.now (merged (captured_by groups.old.items looks.now)) groups.old.items groups.new.items result }
+    ensures computed { IsComputed S.state who near query.now looks.now (merged (captured_by groups.old.items looks.now)) groups.old.items groups.new.items result }
     ensures goes_on { GoOn S.state groups.old.items groups.new.items }
 {
     let Ok(names) = query.names.copy(alloc) else {
         return Answer::Failed(Fault::Memory);
     };
-    let Ok(seen) = read_groups(alloc, groups, who, looks) else {
-        return Answer::Failed(Fault::Memory);
+    let seen = match read_groups(alloc, groups, who, near, looks) {
+        Ok(seen) => seen,
+        Err(error) => return Answer::Failed(fault_of(error)),
     };
     let Ok(tables) = gather(alloc, seen) else {
         return Answer::Failed(Fault::Memory);
@@ -100,13 +125,14 @@ fn pick_and_compute<S: Store>(
     alloc: Global,
     groups: &mut Vec<GroupState<S>>,
     who: Who,
+    near: u32,
     query: &Query,
     shard: Shard,
 ) -> Answer
     requires resting { AreResting S.state groups.old.items }
-    requires there { CanLook groups.old.items (look_at shard) }
+    requires there { CanLook near groups.old.items (look_at shard) }
     requires safe { IsSafeQuery query.now (wanted_of groups.old.items query.now shard) [] }
-    ensures computed { IsComputed who query.now (look_at shard ∷ []) (wanted_of groups.old.items query.now shard) groups.old.items groups.new.items result }
+    ensures computed { IsComputed S.state who near query.now (look_at shard ∷ []) (wanted_of groups.old.items query.now shard) groups.old.items groups.new.items result }
     ensures goes_on { GoOn S.state groups.old.items groups.new.items }
 {
     let Ok(names) = query.names.copy(alloc) else {
@@ -115,8 +141,9 @@ fn pick_and_compute<S: Store>(
     let Ok(wanted) = wanted_by(alloc, &query.filter) else {
         return Answer::Failed(Fault::Memory);
     };
-    let Ok(rows) = pick_group(groups, who, shard.group, shard.table, &wanted) else {
-        return Answer::Failed(Fault::Memory);
+    let rows = match pick_group(groups, who, near, shard.group, shard.table, &wanted) {
+        Ok(rows) => rows,
+        Err(error) => return Answer::Failed(fault_of(error)),
     };
     let mut tables = Tables::new(alloc);
     let Ok(()) = tables.put((shard.table, rows)) else {
@@ -125,19 +152,23 @@ fn pick_and_compute<S: Store>(
     compute(alloc, query, names, &tables)
 }
 
-/// The answer of a query over the shard groups of a catalogue.
+/// The answer of a query over the shard groups of a catalogue, of which those of reference tables are on so many nodes. Where it names a
+/// store, that one failed meanwhile.
 pub fn answer_query<S: Store>(
     alloc: Global,
     catalog: &Catalog,
+    nodes: u32,
     groups: &mut Vec<GroupState<S>>,
     who: Who,
     query: &Query,
 ) -> Answer
     requires resting { AreResting S.state groups.old.items }
-    requires shaped { AreShaped catalog.now groups.old.items }
+    requires shaped { AreShaped catalog.now nodes groups.old.items }
+    requires some { 0 < nodes }
     requires legal { (g : ℕ) → IsLegal catalog.now g (journal_in (journals_of groups.old.items) g) }
     requires computable { IsReadable catalog.now query.now }
-    ensures answered { (run : Run) (settings : Settings) → IsAnswered rules run (environment_at catalog.now settings) (environment_at catalog.now settings) who (journals_of groups.old.items) (journals_of groups.new.items) (Some (statement.Select query.now)) result }
+    ensures answered { (run : Run) (settings : Settings) → run.workers ≡ nodes → IsAnswered rules run (environment_at catalog.now settings) (environment_at catalog.now settings) who (journals_of groups.old.items) (journals_of groups.new.items) (Some (statement.Select query.now)) result }
+    ensures blamed { (node shard before after : ℕ) → result ≡ answer.Failed (fault.Worker node shard before after) → HasFailed S.state node shard before after groups.old.items groups.new.items }
     ensures goes_on { GoOn S.state groups.old.items groups.new.items }
 {
     let Ok(planned) = plan(alloc, catalog, query) else {
@@ -146,8 +177,9 @@ pub fn answer_query<S: Store>(
     let Some(looks) = planned else {
         return Answer::Failed(Fault::NotBuilt);
     };
+    let near = near_node(catalog, nodes, looks.as_slice());
     match one_shard(query, looks.as_slice()) {
-        Some(shard) => pick_and_compute(alloc, groups, who, query, shard),
-        None => look_and_compute(alloc, groups, who, query, looks.as_slice()),
+        Some(shard) => pick_and_compute(alloc, groups, who, near, query, shard),
+        None => look_and_compute(alloc, groups, who, near, query, looks.as_slice()),
     }
 }

@@ -1,9 +1,10 @@
 -- Stores that fail: which store an answer names, and how its count of faults accounts for the answers that name it.
-use Rattle.std.specs.Prelude.{◌≡◌, ◌≤◌, ◌<◌, ⊤, ℕ, Bool, true, IsTrue, ◌+◌, ◌%◌, ◌&&◌, List, [], ◌∷◌, filter, if◌then◌else◌, nat_eq, nat_lt}
+use Rattle.std.specs.Prelude.{◌≡◌, ◌≤◌, ◌<◌, ⊤, ℕ, Bool, true, IsTrue, ◌+◌, ◌%◌, ◌&&◌, List, [], ◌∷◌, length, filter, if◌then◌else◌, nat_eq, nat_lt}
 use Rattle.std.specs.List.{list_any, flat_map}
 use Rattle.cq_catalog.specs.Contents.{Contents}
 use Rattle.cq_catalog.specs.Placement.{place_at, colocation_at, HasShard, shard_in}
-use Rattle.cq_catalog.specs.declared.info.Colocation.{Colocation}
+use Rattle.cq_planning.specs.Routing.{is_distributed_place}
+use Rattle.cq_planning.specs.Touched.{numbers}
 use Rattle.cq_journal.specs.Records.{Journal}
 use Rattle.cq_journal.specs.Stations.{node_of}
 use Rattle.cq_store.specs.Stores.{StoreState, Rose}
@@ -11,7 +12,7 @@ use Rattle.cq_answer.specs.declared.answer.Answer.{Answer}
 use Rattle.cq_answer.specs.declared.answer.Answer.TheVariants.{Failed}
 use Rattle.cq_answer.specs.declared.answered.Answered.{Answered}
 use Rattle.cq_answer.specs.declared.fault.Fault.TheVariants.{Worker}
-use Rattle.cq_history.specs.Looks.{is_within}
+use Rattle.cq_history.specs.Looks.{has_shard}
 
 -- ---- the store that failed
 
@@ -23,7 +24,7 @@ pub record IsShardIn (c : Contents) (group shard : ℕ) : Type 0 where
 
 -- the groups of distributed tables
 abbrev pub is_distributed_group : Contents → ℕ → Bool
-is_distributed_group c group = list_any (λ (co : Colocation). is_within co.first_group co.count group) c.colocations
+is_distributed_group c group = list_any (λ table. is_distributed_place (place_at c table) && has_shard c group table) (numbers 0 (length c.tables))
 
 -- the node on which a statement reads reference tables, of so many: that behind the least distributed group that it touches, and 1 where it
 -- touches none
