@@ -112,6 +112,10 @@ module _ {X : Type 0} (state : X → StoreState) where
     | inr one ↦ subst (AreOf cl.catalog group) (sym one.of.only) (shard_of_reference cl.catalog one.table group one.shard one.placed, tt)
   ]
 
+  pub outlines_in_group : (cl : Cluster X) (group : ℕ) (g : GroupState X) → IsSound state cl → slice_get cl.groups.items group ≡ Some g → AllByRecursion (λ (o : Outline). IsShardIn cl.catalog group o.2) (outlines g)
+  outlines_in_group cl group g s at =
+      all_weaker (λ (o : Outline). IsOf cl.catalog group o.0 o.2) (λ (o : Outline). IsShardIn cl.catalog group o.2) (λ o of. record { table = o.0; there = of.has; is = of.is }) (outlines g) (shards_of_group cl group g s at)
+
   -- ---- stores with different nodes or shard ids
 
   abbrev IsOther : X → X → Type 0

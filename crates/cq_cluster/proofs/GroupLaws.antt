@@ -111,18 +111,18 @@ module _ {X : Type 0} (state : X → StoreState) where
   pub journals_count : (cl : Cluster X) → IsSound state cl → length (journals cl) ≡ cl.catalog.groups
   journals_count cl s = length-map cl.groups.items (λ (g : GroupState X). journal_of g) ∙ s.groups.count
 
-  some_copy : (node copies : ℕ) (es : List Entry) (ts : List (GroupTable X)) (o : Outline) → map outline ts ≡ o ∷ [] → AllByRecursion (IsTableKept state node copies es) ts → 0 < copies
-  some_copy node copies es [] o e all = cc
-  some_copy node copies es (t ∷ ts) o e all = all.0.some_store
+  one_table_kept : (node copies : ℕ) (es : List Entry) (ts : List (GroupTable X)) (o : Outline) → map outline ts ≡ o ∷ [] → AllByRecursion (IsTableKept state node copies es) ts → (0 < copies) × (copies ≡ o.3)
+  one_table_kept node copies es [] o e all = cc
+  one_table_kept node copies es (t ∷ ts) o e all = (all.0.some_store, sym all.0.complete ∙ ap (λ (v : Outline). v.3) (let same : outline t ≡ o = cc in same))
 
-  -- a group on all nodes is on the first one
-  pub near_there : (cl : Cluster X) (group : ℕ) (g : GroupState X) → IsSound state cl → slice_get cl.groups.items group ≡ Some g → g.node ≡ 0 → 1 ≤ g.nodes
+  -- a group on all nodes is on the first one, and on as many as the run uses
+  pub near_there : (cl : Cluster X) (group : ℕ) (g : GroupState X) → IsSound state cl → slice_get cl.groups.items group ≡ Some g → g.node ≡ 0 → (1 ≤ g.nodes) × (g.nodes ≡ cl.nodes)
   near_there cl group g s at all_nodes = elim (one_of cl group g s at) [
     | inl one ↦ absurd (let node = one.of.node in omega (arith, node, all_nodes))
     | inr one ↦
         let copies : copies_of g ≡ g.nodes = rw all_nodes refl in
-        let some = some_copy g.node (copies_of g) (entries_of g) g.tables.items (one.table, shape_in cl.catalog one.table, one.shard, cl.nodes) one.of.only one.of.kept.tables in
-        omega (arith, copies, some)
+        let kept = one_table_kept g.node (copies_of g) (entries_of g) g.tables.items (one.table, shape_in cl.catalog one.table, one.shard, cl.nodes) one.of.only one.of.kept.tables in
+        (omega (arith, copies, kept.0), sym copies ∙ kept.1)
   ]
 
   -- ---- the tables of a group

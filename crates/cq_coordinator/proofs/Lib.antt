@@ -2,3 +2,4 @@ pub mod DefinitionAnswers
 pub mod WriteAnswers
 pub mod QueryAnswers
 pub mod RefusalAnswers
+pub mod Naming

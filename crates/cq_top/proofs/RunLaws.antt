@@ -16,6 +16,8 @@ use Rattle.cq_history.proofs.Lists.{two_ways}
 use Rattle.cq_history.proofs.Script.{log_begins, log_stands}
 use Rattle.cq_store.specs.Stores.{StoreState, IsSpare}
 use Rattle.cq_store.specs.declared.worker.Worker.{Worker}
+use Rattle.cq_history.specs.Faults.{AccountsFor}
+use Rattle.cq_cluster.specs.Accounts.{AllAccounted}
 use Rattle.cq_cluster.specs.Cluster.{stores_in, run_of, AreIdle, IsWaiting}
 use Rattle.cq_cluster.specs.Ending.{IsFinal, record_of}
 use Rattle.cq_script.specs.Scripts.{whole_statements}
@@ -71,6 +73,17 @@ final_idle {X} state c journals workers idle none = subst (λ (v : List kept.Jou
   };
   unused = λ place h. refl;
 })
+
+-- no store keeps a shard yet
+accounts_of_waiting : {X : Type 0} (state : X → StoreState) (node : ℕ) (answers : List Answered) (xs : List X) → All (λ x. IsWaiting node (state x)) xs → AllByRecursion (λ (x : X). 0 < (state x).shard → AccountsFor answers (state x)) xs
+accounts_of_waiting state node answers [] all = tt
+accounts_of_waiting state node answers (x ∷ xs) all = (
+  λ low. absurd (let none = (All-head (λ x. IsWaiting node (state x)) x xs all).spare.spare in omega (arith, low, none)),
+  accounts_of_waiting state node answers xs (All-tail (λ x. IsWaiting node (state x)) x xs all),
+)
+
+pub accounts_idle : {X : Type 0} (state : X → StoreState) (answers : List Answered) (workers : List (Worker X)) → AreIdle state workers → AllAccounted state node_count answers workers
+accounts_idle state answers workers idle = λ place w h s. accounts_of_waiting state (place + 1) answers w.stores.items (idle place w s).stores
 
 -- the statements that are answered when the last line can't be written
 all_first : (texts : List (List ℕ)) (answers : List Answered) → AnswersTo texts answers → AnswersFirst texts answers

@@ -1,6 +1,8 @@
 use Rattle.cq_history.specs.Refusals.{rules}
 use Rattle.cq_history.proofs.Answering.{refusal_is_answered}
 use Rattle.cq_cluster.specs.Cluster.{run_of}
+use Rattle.cq_cluster.proofs.AnswerLaws.{other_is_accounted}
+use Rattle.cq_session.proofs.Naming.{unread_named}
 use Rattle.cq_statement.specs.Reading.{reading_of}
 use Rattle.cq_coordinator.specs.Coordination.{environment, journals}
 use Rattle.cq_session.proofs.ReadingLaws.{reads_ok, reads_err, computable_read}
@@ -19,3 +21,8 @@ returns-in-Err-clause-answered g c = λ entry are. (refusal_is_answered rules (r
 
 pub returns-in-Err-clause-reads : goal.returns-in-Err-clause-reads
 returns-in-Err-clause-reads g c = reads_err c.in-Err.fault (reading_of c.args.text.now c.args.coordinator.now.cluster.catalog.tables) c.in-Err.ensures.reading
+
+pub returns-in-Err-clause-accounted : goal.returns-in-Err-clause-accounted
+returns-in-Err-clause-accounted g c = λ answers a is all.
+    other_is_accounted g.S.Store.state c.args.coordinator.now.cluster.catalog c.args.coordinator.now.cluster.groups.items answers a
+    (unread_named a c.in-Err.fault c.args.text.now c.args.coordinator.now.cluster.catalog.tables is c.in-Err.ensures.reading) all

@@ -1,5 +1,6 @@
 use Rattle.std.proofs.Common.{ℕ, arith, sym, subst}
 use Rattle.cq_catalog.specs.Contents.{Contents}
+use Rattle.cq_cluster.specs.Accounts.{AllAccounted}
 use Rattle.cq_cluster.specs.Cluster.{AreWorkers}
 use Rattle.cq_cluster.specs.Ending.{IsFinal}
 use Rattle.cq_coordinator.specs.Coordination.{environment, journals}
@@ -26,3 +27,7 @@ returns-clause-last g c = λ entry s.
     let workers = subst (λ (n : ℕ). AreWorkers g.S.Store.state n entry cluster.groups.items cluster.workers.items) (sym s.nodes) s.workers in
     subst (λ (n : ℕ). IsFinal g.S.Store.state n entry c.close-catalog.result.catalog c.close-catalog.new.journals.list c.close-catalog.result.workers.items) s.nodes
     (subst (λ (v : Contents). IsFinal g.S.Store.state cluster.nodes entry v c.close-catalog.new.journals.list c.close-catalog.result.workers.items) (sym c.close-catalog.ensures.catalog) (c.close-catalog.ensures.stores entry workers))
+
+pub returns-clause-accounts : goal.returns-clause-accounts
+returns-clause-accounts g c = λ entry s.
+    subst (λ (n : ℕ). AllAccounted g.S.Store.state n c.args.serving.answers c.close-catalog.result.workers.items) s.nodes (c.close-catalog.ensures.accounted c.args.serving.answers s.accounted)

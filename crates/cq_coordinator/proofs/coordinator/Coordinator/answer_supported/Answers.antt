@@ -4,6 +4,7 @@ use Rattle.cq_catalog.specs.Contents.{Contents}
 use Rattle.cq_history.specs.Refusals.{rules, is_built}
 use Rattle.cq_history.proofs.Answering.{refusal_is_answered}
 use Rattle.cq_cluster.specs.Cluster.{run_of}
+use Rattle.cq_cluster.proofs.AnswerLaws.{other_is_accounted}
 use Rattle.cq_coordinator.specs.Coordination.{environment, journals}
 use Rattle.cq_coordinator.proofs.RefusalAnswers.{not_built}
 use Rattle.cq_coordinator.proofs.coordinator.Coordinator.answer_supported.Goals as goal
@@ -33,3 +34,11 @@ returns-in-Copy-clause-answered g c =
     λ entry are.
     (refusal_is_answered rules (run_of c.args.self.now.cluster.nodes entry) (environment c.args.self.now) c.args.who (journals c.args.self.now) fault.NotBuilt).1
     c.args.statement.now (not_built k c.args.statement.now c.requires.supported unbuilt)
+
+pub returns-else-has_shards-clause-accounted : goal.returns-else-has_shards-clause-accounted
+returns-else-has_shards-clause-accounted g c = λ answers a is all.
+    other_is_accounted g.S.Store.state c.args.self.now.cluster.catalog c.args.self.now.cluster.groups.items answers a (λ node shard before after e. let bad = sym is ∙ e in cc) all
+
+pub returns-in-Copy-clause-accounted : goal.returns-in-Copy-clause-accounted
+returns-in-Copy-clause-accounted g c = λ answers a is all.
+    other_is_accounted g.S.Store.state c.args.self.now.cluster.catalog c.args.self.now.cluster.groups.items answers a (λ node shard before after e. let bad = sym is ∙ e in cc) all

@@ -1,4 +1,6 @@
-use Rattle.std.proofs.Common.{ap, inl, refl}
+use Rattle.std.proofs.Common.{ap, inl, refl, sym, ◌∙◌}
+use Rattle.cq_cluster.proofs.AnswerLaws.{other_is_accounted}
+use Rattle.cq_coordinator.proofs.Naming.{none_named, memory_named, cause_named}
 use Rattle.cq_cluster.specs.declared.cluster.Cluster.{Cluster}
 use Rattle.cq_cluster.specs.Cluster.{run_of, journals as journals_in}
 use Rattle.cq_coordinator.specs.Coordination.{environment, journals}
@@ -20,3 +22,17 @@ pub returns-in-Err-clause-answered : goal.returns-in-Err-clause-answered
 returns-in-Err-clause-answered g c = λ entry.
     not_created_in g.S.Store.state entry c.args.self.now.settings c.args.self.now.cluster c.create_table.new.self c.args.who c.args.name.now c.in-Ok.columns c.args.columns.now c.in-Ok-copy.key c.args.key.now c.in-Ok.ensures c.in-Ok-copy.ensures
     c.in-Err.fault c.in-Err.ensures.cause c.in-Err.ensures.unchanged
+
+pub returns-in_default-clause-accounted : goal.returns-in_default-clause-accounted
+returns-in_default-clause-accounted g c = λ answers a is all. other_is_accounted g.S.Store.state c.args.self.now.cluster.catalog c.args.self.now.cluster.groups.items answers a (none_named a.answer _ is memory_named) all
+
+pub returns-in_default-copy-clause-accounted : goal.returns-in_default-copy-clause-accounted
+returns-in_default-copy-clause-accounted g c = λ answers a is all. other_is_accounted g.S.Store.state c.args.self.now.cluster.catalog c.args.self.now.cluster.groups.items answers a (none_named a.answer _ is memory_named) all
+
+pub returns-in-Ok-create_table-clause-accounted : goal.returns-in-Ok-create_table-clause-accounted
+returns-in-Ok-create_table-clause-accounted g c = λ answers a is all.
+    other_is_accounted g.S.Store.state c.create_table.new.self.catalog c.create_table.new.self.groups.items answers a (λ node shard before after e. let bad = sym is ∙ e in cc) (c.create_table.ensures.accounted answers all)
+
+pub returns-in-Err-clause-accounted : goal.returns-in-Err-clause-accounted
+returns-in-Err-clause-accounted g c = λ answers a is all.
+    other_is_accounted g.S.Store.state c.create_table.new.self.catalog c.create_table.new.self.groups.items answers a (none_named a.answer c.in-Err.fault is (cause_named _ c.in-Err.fault c.in-Err.ensures.cause)) (c.create_table.ensures.accounted answers all)

@@ -1,6 +1,7 @@
-use Rattle.std.proofs.Common.{refl}
+use Rattle.std.proofs.Common.{refl, sym, ◌∙◌}
 use Rattle.cq_cluster.proofs.GroupLaws.{rests, sound_after, stores_after}
 use Rattle.cq_cluster.specs.Cluster.{run_of}
+use Rattle.cq_cluster.proofs.AnswerLaws.{answer_is_accounted}
 use Rattle.cq_coordinator.proofs.QueryAnswers.{are_shaped}
 use Rattle.cq_coordinator.proofs.coordinator.Coordinator.select.Goals as goal
 
@@ -11,7 +12,12 @@ pub answer_query-requires-clause-shaped : goal.answer_query-requires-clause-shap
 answer_query-requires-clause-shaped g c = are_shaped g.S.Store.state c.args.self.now.cluster c.requires.sound
 
 pub returns-clause-answered : goal.returns-clause-answered
-returns-clause-answered g c = λ entry. c.answer_query.ensures.answered (run_of c.args.self.now.cluster.nodes entry) c.args.self.now.settings
+returns-clause-answered g c = λ entry. c.answer_query.ensures.answered (run_of c.args.self.now.cluster.nodes entry) c.args.self.now.settings refl
+
+pub returns-clause-accounted : goal.returns-clause-accounted
+returns-clause-accounted g c = λ answers a is all.
+    answer_is_accounted g.S.Store.state c.args.self.now.cluster c.answer_query.new.groups.items answers a c.requires.sound c.answer_query.ensures.goes_on
+    (λ node shard before after e. c.answer_query.ensures.blamed node shard before after (sym is ∙ e)) all
 
 pub returns-clause-sound : goal.returns-clause-sound
 returns-clause-sound g c = sound_after g.S.Store.state c.args.self.now.cluster _ c.requires.sound c.answer_query.ensures.goes_on refl refl refl

@@ -1,4 +1,4 @@
-use Rattle.std.proofs.Common.{refl, sym, subst, arith}
+use Rattle.std.proofs.Common.{refl, sym, subst, arith, ◌∙◌}
 use Rattle.cq_answer.specs.declared.answer.Answer.{Answer}
 use Rattle.cq_tree.specs.declared.statement.Statement.TheVariants as statement
 use Rattle.cq_meaning.specs.Effects.{table_of}
@@ -9,7 +9,10 @@ use Rattle.cq_history.specs.Log.{IsAnswered}
 use Rattle.cq_history.proofs.Answering.{write_lacks_memory}
 use Rattle.cq_group.specs.Resting.{journals_of}
 use Rattle.cq_groups.specs.Writes.{IsWritten}
-use Rattle.cq_groups.proofs.Answering.{write_is_answered}
+use Rattle.cq_groups.proofs.Answering.{write_is_answered, write_blames}
+use Rattle.cq_cluster.proofs.AnswerLaws.{answer_is_accounted, other_is_accounted}
+use Rattle.cq_coordinator.proofs.Naming.{none_named, memory_named}
+use Rattle.cq_coordinator.proofs.QueryAnswers.{are_shaped}
 use Rattle.cq_cluster.specs.Cluster.{run_of}
 use Rattle.cq_cluster.proofs.GroupLaws.{rests, sound_after, stores_after}
 use Rattle.cq_coordinator.specs.Coordination.{environment, journals}
@@ -33,13 +36,30 @@ returns-in_default-clause-answered g c = λ entry are. write_lacks_memory rules 
 
 pub returns-clause-answered : goal.returns-clause-answered
 returns-clause-answered g c = λ entry are.
+    let state = g.S.Store.state in
+    let cl = c.args.self.now.cluster in
     let e = environment c.args.self.now in
-    let old = c.args.self.now.cluster.groups.items in
+    let old = cl.groups.items in
     let new = c.write_groups.new.groups.items in
-    let written = subst (λ (ps : List Part). IsWritten c.args.who ps old new c.write_groups.result) c.in-Ok.ensures c.write_groups.ensures.written in
-    subst (λ (a : Answer). IsAnswered rules (run_of c.args.self.now.cluster.nodes entry) e e c.args.who (journals_of old) (journals_of new) (Some (statement.Write c.args.op.now)) a) (sym c.answer_of.ensures)
-    (write_is_answered (run_of c.args.self.now.cluster.nodes entry) e c.args.who c.args.op.now old new c.requires.runs (c.requires.keyed (table_of c.args.op.now)) c.requires.computable
-    (its_shards g.S.Store.state c.args.self.now.cluster c.args.op.now c.requires.sound c.requires.runs) c.write_groups.ensures.goes_on.count c.write_groups.result written)
+    let written = subst (λ (ps : List Part). IsWritten state c.args.who ps old new c.write_groups.result) c.in-Ok.ensures c.write_groups.ensures.written in
+    subst (λ (a : Answer). IsAnswered rules (run_of cl.nodes entry) e e c.args.who (journals_of old) (journals_of new) (Some (statement.Write c.args.op.now)) a) (sym c.answer_of.ensures)
+    (write_is_answered (run_of cl.nodes entry) e c.args.who c.args.op.now old new c.requires.runs (c.requires.keyed (table_of c.args.op.now)) c.requires.computable
+    (its_shards state cl c.args.op.now c.requires.sound c.requires.runs) c.write_groups.ensures.goes_on.count state (rests state cl c.requires.sound) (are_shaped state cl c.requires.sound) refl c.write_groups.result written)
+
+pub returns-in_default-clause-accounted : goal.returns-in_default-clause-accounted
+returns-in_default-clause-accounted g c = λ answers a is all. other_is_accounted g.S.Store.state c.args.self.now.cluster.catalog c.args.self.now.cluster.groups.items answers a (none_named a.answer _ is memory_named) all
+
+pub returns-clause-accounted : goal.returns-clause-accounted
+returns-clause-accounted g c = λ answers a is all.
+    let state = g.S.Store.state in
+    let cl = c.args.self.now.cluster in
+    let new = c.write_groups.new.groups.items in
+    answer_is_accounted state cl new answers a c.requires.sound c.write_groups.ensures.goes_on
+    (λ node shard before after e.
+        write_blames (run_of cl.nodes cl.workers.items) (environment c.args.self.now) c.args.who c.args.op.now cl.groups.items new c.requires.runs (c.requires.keyed (table_of c.args.op.now)) c.requires.computable
+        (its_shards state cl c.args.op.now c.requires.sound c.requires.runs) c.write_groups.ensures.goes_on.count state c.in-Ok.divided c.write_groups.result c.write_groups.ensures.written node shard before after
+        (sym c.answer_of.ensures ∙ (sym is ∙ e)))
+    all
 
 pub returns-clause-sound : goal.returns-clause-sound
 returns-clause-sound g c = sound_after g.S.Store.state c.args.self.now.cluster _ c.requires.sound c.write_groups.ensures.goes_on refl refl refl

@@ -1,7 +1,8 @@
-use Rattle.std.proofs.Common.{◌≡◌, ◌∙◌, ◌+◌, ◌++◌, ◌∷◌, [], length, List, arith, sym, ap, subst, ℕ}
+use Rattle.std.proofs.Common.{◌≡◌, ◌∙◌, ◌+◌, ◌++◌, ◌∷◌, [], length, List, arith, refl, sym, ap, subst, ℕ}
 use Rattle.cq_tree.specs.declared.journal.Who.{Who}
 use Rattle.cq_answer.specs.declared.answered.Answered.{Answered}
 use Rattle.cq_bound_laws.proofs.Columns.{columns_stand}
+use Rattle.cq_cluster.specs.Accounts.{AreAccounted}
 use Rattle.cq_cluster.specs.Cluster.{AreWorkers, run_of}
 use Rattle.cq_coordinator.specs.Coordination.{environment, journals}
 use Rattle.cq_history.specs.Log.{IsConsistent, IsAnswered, next_who, answered_by}
@@ -46,6 +47,8 @@ returns-clause-keeps g c = λ entry s.
       consistent = subst (λ (v : List Answered). IsConsistent rules (run_of node_count entry) (environment new) v (journals new)) (sym e) its;
       sound = c.respond-bound.ensures.sound;
       workers = subst (λ (n : ℕ). AreWorkers g.S.Store.state n entry new.cluster.groups.items new.cluster.workers.items) nodes (c.respond-bound.ensures.stores.stores entry workers);
+      accounted = subst (λ (v : List Answered). AreAccounted g.S.Store.state new.cluster.catalog v new.cluster.groups.items) (sym e)
+          (c.respond-bound.ensures.accounted c.args.self.now.answers (answered_by who (environment old) c.respond-bound.result.bound c.respond-bound.result.answer) refl s.accounted);
     }
 
 pub returns-clause-serving : goal.returns-clause-serving

@@ -1,0 +1,80 @@
+-- The refusals of a text name no store.
+use Rattle.std.proofs.Common.{◌≡◌, ℕ, List, length, sym, ◌∙◌, subst, refl, Ok, Err, Result}
+use Rattle.cq_token.specs.declared.token.Token.{Token}
+use Rattle.cq_token.specs.declared.error.LexError.{LexError}
+use Rattle.cq_token.specs.declared.error.LexError.TheVariants as lexing
+use Rattle.cq_token.specs.Tokens.{tokens}
+use Rattle.cq_grammar.specs.declared.statement.Ast.{Ast}
+use Rattle.cq_grammar.specs.Verdicts.{Complaint, syntax, depth, verdict}
+use Rattle.cq_tree.specs.declared.statement.Statement.{Statement}
+use Rattle.cq_catalog.specs.declared.info.TableInfo.{TableInfo}
+use Rattle.cq_reading.specs.declared.error.BindError.{BindError}
+use Rattle.cq_reading.specs.declared.error.BindError.TheVariants as binding
+use Rattle.cq_reading.specs.Statements.{reading}
+use Rattle.cq_answer.specs.declared.answer.Answer.{Answer}
+use Rattle.cq_answer.specs.declared.answer.Answer.TheVariants as answer
+use Rattle.cq_answer.specs.declared.fault.Fault.{Fault}
+use Rattle.cq_answer.specs.declared.fault.Fault.TheVariants as fault
+use Rattle.cq_answer.specs.Faults.{fault_of_lexing, fault_of_bind}
+use Rattle.cq_statement.specs.Reading.{fault_of_complaint, of_reading, of_verdict, of_tokens, reading_of}
+use Rattle.cq_statement.specs.Finding.{Reads}
+use Rattle.cq_cluster.specs.Accounts.{NamesNone}
+
+abbrev NamesNoStore : Fault → Type 0
+NamesNoStore f = (node shard before after : ℕ) → f ≡ fault.Worker node shard before after → ⊥
+
+lexing_named : (e : LexError) → NamesNoStore (fault_of_lexing e)
+unfolding fault_of_lexing
+lexing_named (lexing.OpenQuote at) node shard before after w = cc
+lexing_named (lexing.BadCharacter at) node shard before after w = cc
+lexing_named (lexing.TooLarge at) node shard before after w = cc
+lexing_named lexing.Memory node shard before after w = cc
+
+complaint_named : (c : Complaint) → NamesNoStore (fault_of_complaint c)
+complaint_named (syntax at) node shard before after w = cc
+complaint_named depth node shard before after w = cc
+
+binding_named : (e : BindError) → NamesNoStore (fault_of_bind e)
+unfolding fault_of_bind
+binding_named (binding.NameTaken name) node shard before after w = cc
+binding_named (binding.UnknownTable name) node shard before after w = cc
+binding_named (binding.UnknownColumn name) node shard before after w = cc
+binding_named (binding.OutOfRange value least greatest) node shard before after w = cc
+binding_named (binding.Unknown at) node shard before after w = cc
+binding_named (binding.Ambiguous at) node shard before after w = cc
+binding_named (binding.Type at) node shard before after w = cc
+binding_named (binding.NotGrouped at) node shard before after w = cc
+binding_named (binding.TooWide at) node shard before after w = cc
+binding_named (binding.WrongCount at) node shard before after w = cc
+binding_named (binding.Divisor at) node shard before after w = cc
+binding_named (binding.KeyColumn at) node shard before after w = cc
+binding_named (binding.Subquery at) node shard before after w = cc
+binding_named (binding.LocalTable at) node shard before after w = cc
+binding_named (binding.GroupedJoin at) node shard before after w = cc
+binding_named (binding.Value row column) node shard before after w = cc
+binding_named (binding.Limit limited number) node shard before after w = cc
+binding_named binding.Memory node shard before after w = cc
+
+same_error : {A : Type 0} (f g : Fault) → Err {A} f ≡ Err g → f ≡ g
+same_error f g e = cc
+
+reading_named : (r : Result Statement BindError) (f : Fault) → of_reading r ≡ Err f → NamesNoStore f
+reading_named (Ok s) f e = absurd (cc)
+reading_named (Err b) f e = subst NamesNoStore (same_error (fault_of_bind b) f e) (binding_named b)
+
+verdict_named : (v : Result Ast Complaint) (tables : List TableInfo) (f : Fault) → of_verdict v tables ≡ Err f → NamesNoStore f
+verdict_named (Ok a) tables f e = reading_named (reading tables a) f e
+verdict_named (Err c) tables f e = subst NamesNoStore (same_error (fault_of_complaint c) f e) (complaint_named c)
+
+tokens_named : (r : Result (List Token) LexError) (end : ℕ) (tables : List TableInfo) (f : Fault) → of_tokens r end tables ≡ Err f → NamesNoStore f
+tokens_named (Ok ts) end tables f e = verdict_named (verdict ts end) tables f e
+tokens_named (Err l) end tables f e = subst NamesNoStore (same_error (fault_of_lexing l) f e) (lexing_named l)
+
+text_named : (text : List ℕ) (tables : List TableInfo) (f : Fault) → reading_of text tables ≡ Err f → NamesNoStore f
+unfolding reading_of
+text_named text tables f e = tokens_named (tokens text) (length text) tables f e
+
+-- so does the answer to a text that isn't bound
+pub unread_named : (a : Answer) (f : Fault) (text : List ℕ) (tables : List TableInfo) → a ≡ answer.Failed f → Reads (reading_of text tables) (Err f) → NamesNone a
+unread_named a (fault.Worker n s b f) text tables is reads = λ node shard before after e. text_named text tables (fault.Worker n s b f) reads n s b f refl
+unread_named a f text tables is reads = λ node shard before after e. let bad : answer.Failed f ≡ answer.Failed (fault.Worker node shard before after) = sym is ∙ e in cc
