@@ -10,7 +10,7 @@ use Rattle.cq_meaning.specs.Groups.{distinct, group_with, groups_by}
 use Rattle.cq_meaning.specs.Lists.{Has}
 use Rattle.cq_meaning.proofs.RowLaws.{NoTwins, same_is, same_from, same_itself, not_true, true_not_false, differ_back, with_new, distinct_push, distinct_differ, has_distinct, filter_none}
 use Rattle.cq_meaning.proofs.MapLaws.{map_push, map_same, filter_push, has_mapped}
-use Rattle.cq_queries.specs.GroupSteps.{put_in_group}
+use Rattle.cq_keys.specs.Keyed.{put_in_group}
 
 module _ (key : Row → Row) (rows : List Row) (r : Row) where
   grown : (k : Row) → same_row k (key r) ≡ true → group_with key (rows ++ r ∷ []) k ≡ record { keys = k; rows = filter (λ s. same_row k (key s)) rows ++ r ∷ [] }

@@ -1,3 +1,5 @@
 pub mod GroupPush
+pub mod PairLaws
 pub mod StepLaws
+pub mod TieLaws
 pub mod TreeRows

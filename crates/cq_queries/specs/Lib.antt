@@ -1,3 +1,4 @@
-pub mod GroupSteps
+pub mod Kept
 pub mod Operands
+pub mod Ties
 pub mod TreeLists

@@ -13,6 +13,7 @@ mod query;
 mod rows;
 mod select;
 mod sorting;
+mod ties;
 
 pub use expression::{eval, test};
 pub use query::{Tables, run_query};

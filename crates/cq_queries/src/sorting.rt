@@ -1,35 +1,17 @@
 ghost use Rattle.std.specs.Prelude.{◌≡◌, IfOk, take as take_first, drop as drop_first};
 ghost use Rattle.std.specs.List.{list_any};
 ghost use Rattle.cq_value.specs.Order.{value_cmp};
-ghost use Rattle.cq_meaning.specs.Values.{column, row_cmp, same_row};
+ghost use Rattle.cq_meaning.specs.Values.{column, same_row};
 ghost use Rattle.cq_meaning.specs.Groups.{distinct as distinct_rows};
 ghost use Rattle.cq_meaning.specs.Sorting.{key_cmp, keys_cmp, sorted, cut, limited};
 
 use crate::expression::cell;
 use crate::operand;
+use cq_keys::compare_rows;
 use cq_tree::Key;
-use cq_value::{Items, NoMemory, Row, Rows, Value, order};
+use cq_value::{Items, NoMemory, Row, Rows};
 use std::alloc::Global;
 use std::cmp::Ordering;
-
-/// Rows by their first column, then by their second, and so on.
-pub fn compare_rows(a: &[Value], b: &[Value]) -> Ordering
-    ensures { result ≡ row_cmp a.now b.now }
-{
-    match a {
-        [] => match b {
-            [] => Ordering::Equal,
-            _ => Ordering::Less,
-        },
-        [x, xs @ ..] => match b {
-            [] => Ordering::Greater,
-            [y, ys @ ..] => match order(x, y) {
-                Ordering::Equal => compare_rows(xs, ys),
-                other => other,
-            },
-        },
-    }
-}
 
 fn compare_at(a: &Row, b: &Row, item: u32) -> Ordering
     ensures { result ≡ value_cmp (column a.now item) (column b.now item) }
