@@ -1,5 +1,5 @@
 -- The order of rows is total, and finds equal only what is one row.
-use Rattle.std.proofs.Common.{◌≡◌, ◌↔◌, ℕ, ℤ, pos, List, [], ◌∷◌, true, refl, ap, subst, Ordering, Less, Equal, Greater, nat_cmp, int_cmp}
+use Rattle.std.proofs.Common.{◌≡◌, ℕ, ℤ, pos, List, [], ◌∷◌, true, refl, ap, subst, Ordering, Less, Equal, Greater, nat_cmp, int_cmp}
 use Rattle.std.specs.Ordering.{is_eq, ordering_then, then_cmp, on}
 use Rattle.std.specs.Cmp.{IsTotalOrder}
 use Rattle.std.specs.Cmp.Lexicographic.{slice_cmp}

@@ -12,7 +12,7 @@ use std::cmp::Ordering;
 use std::hash::{Hash, Hasher};
 
 /// Rows by their first column, then by their second, and so on.
-pub fn compare_rows(a: &[Value], b: &[Value]) -> Ordering
+fn compare_rows(a: &[Value], b: &[Value]) -> Ordering
     ensures { result ≡ row_cmp a.now b.now }
 {
     match a {

@@ -3,6 +3,8 @@
 
 mod grouping;
 mod key;
+mod once;
 
 pub use grouping::{Grouping, push_group};
-pub use key::{RowKey, compare_rows};
+pub use key::RowKey;
+pub use once::distinct;

@@ -1,10 +1,7 @@
 -- Each step of the loop that makes groups gives the groups of one row more.
-use Rattle.std.proofs.Common.{◌≡◌, Bool, true, false, cond, List, [], ◌∷◌, ◌++◌, map, refl, sym, ap, subst, ◌∙◌, append_assoc, append-nil, inl, inr}
+use Rattle.std.proofs.Common.{◌≡◌, true, false, cond, List, [], ◌∷◌, ◌++◌, map, refl, sym, ap, subst, ◌∙◌, append-nil, inl, inr}
 use Rattle.std.specs.Prelude.{filter, ◌||◌}
 use Rattle.std.specs.List.{list_any}
-use Rattle.std.proofs.lemmas.List.Elements.{filter-append}
-use Rattle.std.proofs.lemmas.List.Sums.{fold_push}
-use Rattle.cq_meaning.specs.declared.Group.{Group}
 use Rattle.cq_meaning.specs.Values.{Row, same_row}
 use Rattle.cq_meaning.specs.Groups.{distinct, group_with, groups_by}
 use Rattle.cq_meaning.specs.Lists.{Has}

@@ -1,13 +1,10 @@
 ghost use Rattle.std.specs.Prelude.{◌≡◌, IfOk, take as take_first, drop as drop_first};
-ghost use Rattle.std.specs.List.{list_any};
 ghost use Rattle.cq_value.specs.Order.{value_cmp};
-ghost use Rattle.cq_meaning.specs.Values.{column, same_row};
-ghost use Rattle.cq_meaning.specs.Groups.{distinct as distinct_rows};
+ghost use Rattle.cq_meaning.specs.Values.{column};
 ghost use Rattle.cq_meaning.specs.Sorting.{key_cmp, keys_cmp, sorted, cut, limited};
 
 use crate::expression::cell;
 use crate::operand;
-use cq_keys::compare_rows;
 use cq_tree::Key;
 use cq_value::{Items, NoMemory, Row, Rows};
 use std::alloc::Global;
@@ -50,25 +47,6 @@ pub fn sort_rows(keys: &[Key], rows: Rows) -> Result<Rows, NoMemory>
         Ok(()) => Ok(Items::from_vec(all)),
         Err(_) => Err(NoMemory),
     }
-}
-
-fn has_row(rows: &[Row], row: &Row) -> bool
-    ensures { result ≡ list_any (same_row row.now) rows.now }
-{
-    rows.iter().any(|other| compare_rows(row.as_slice(), other.as_slice()).is_eq())
-}
-
-/// DISTINCT: of rows that are the same the first.
-pub fn distinct(alloc: Global, rows: Rows) -> Result<Rows, NoMemory>
-    ensures { IfOk result (λ all. all ≡ distinct_rows rows) }
-{
-    let mut all = Rows::new(alloc);
-    for row in rows.into_vec() {
-        if !has_row(all.as_slice(), &row) {
-            all.put(row)?;
-        }
-    }
-    Ok(all)
 }
 
 fn shortened(row: Row, shown: u32) -> Row

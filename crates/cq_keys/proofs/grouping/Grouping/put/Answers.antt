@@ -1,7 +1,6 @@
 use Rattle.std.proofs.Common.{rules, ◌≡◌, [], sym, ap, ◌∙◌, get_or, arith}
 use Rattle.std.proofs.lemmas.Grind.{common_steps}
-use Rattle.std.specs.Prelude.{Some}
-use Rattle.cq_keys.specs.Keyed.{place_with, put_in_group}
+use Rattle.cq_keys.specs.Keyed.{put_in_group}
 use Rattle.cq_keys.proofs.PlaceLaws.{at_place, put_at_place, set_places}
 use Rattle.cq_keys.proofs.grouping.Grouping.put.Goals as goal
 

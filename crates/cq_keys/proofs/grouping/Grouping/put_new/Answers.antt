@@ -1,6 +1,5 @@
-use Rattle.std.proofs.Common.{rules, ◌≡◌, ◌++◌, ◌∷◌, [], sym, ap, subst, ◌∙◌, length, cond, refl}
-use Rattle.std.specs.Prelude.{None, Some}
-use Rattle.cq_meaning.specs.Values.{Row, same_row}
+use Rattle.std.proofs.Common.{rules, ◌≡◌, sym, ap, subst, ◌∙◌, length}
+use Rattle.std.specs.Prelude.{None}
 use Rattle.cq_keys.specs.Keyed.{put_in_group, place_with}
 use Rattle.cq_keys.proofs.PlaceLaws.{put_new_group, place_of_new}
 use Rattle.cq_keys.proofs.grouping.Grouping.put_new.Goals.{in-Ok, in-Err}
