@@ -1,4 +1,5 @@
 pub mod Kept
 pub mod Operands
+pub mod Pruned
 pub mod Ties
 pub mod TreeLists
