@@ -1,5 +1,5 @@
-//! The reads of the worker engine: it computes expressions and the rows of a query, plainly: products and then filters, and
-//! lists of groups.
+//! The reads of the worker engine: it computes expressions and the rows of a query. Joins on equal columns, groups and DISTINCT
+//! find rows by hashing; all else is plain.
 #![tactic(auto)]
 
 mod aggregate;
