@@ -1,16 +1,13 @@
 -- Each step of the loop that makes groups gives the groups of one row more.
-use Rattle.std.proofs.Common.{◌≡◌, Bool, true, false, cond, List, [], ◌∷◌, ◌++◌, map, refl, sym, ap, subst, ◌∙◌, append_assoc, append-nil, inl, inr}
+use Rattle.std.proofs.Common.{◌≡◌, true, false, cond, List, [], ◌∷◌, ◌++◌, map, refl, sym, ap, subst, ◌∙◌, append-nil, inl, inr}
 use Rattle.std.specs.Prelude.{filter, ◌||◌}
 use Rattle.std.specs.List.{list_any}
-use Rattle.std.proofs.lemmas.List.Elements.{filter-append}
-use Rattle.std.proofs.lemmas.List.Sums.{fold_push}
-use Rattle.cq_meaning.specs.declared.Group.{Group}
 use Rattle.cq_meaning.specs.Values.{Row, same_row}
 use Rattle.cq_meaning.specs.Groups.{distinct, group_with, groups_by}
 use Rattle.cq_meaning.specs.Lists.{Has}
 use Rattle.cq_meaning.proofs.RowLaws.{NoTwins, same_is, same_from, same_itself, not_true, true_not_false, differ_back, with_new, distinct_push, distinct_differ, has_distinct, filter_none}
 use Rattle.cq_meaning.proofs.MapLaws.{map_push, map_same, filter_push, has_mapped}
-use Rattle.cq_queries.specs.GroupSteps.{put_in_group}
+use Rattle.cq_keys.specs.Keyed.{put_in_group}
 
 module _ (key : Row → Row) (rows : List Row) (r : Row) where
   grown : (k : Row) → same_row k (key r) ≡ true → group_with key (rows ++ r ∷ []) k ≡ record { keys = k; rows = filter (λ s. same_row k (key s)) rows ++ r ∷ [] }

@@ -1,3 +1,6 @@
 pub mod GroupPush
+pub mod PairLaws
+pub mod PruneLaws
 pub mod StepLaws
+pub mod TieLaws
 pub mod TreeRows

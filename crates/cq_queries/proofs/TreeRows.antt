@@ -6,7 +6,7 @@ use Rattle.std.proofs.lemmas.List.Elements.{All-from_recursion}
 use Rattle.cq_tree.specs.declared.expression.Expr.{Expr, Case, Coalesce, Row_of-Expr, end_of-Expr, more_of-Expr, Row_of-Arm, end_of-Arm, more_of-Arm, items-the_row-Arm, items-the_row-Expr, items_hidden-the_row-Arm-2, items_hidden-the_row-Expr-3}
 use Rattle.cq_tree.specs.declared.expression.Cond.TheBlock.{hidden-the_row-Arm-2, hidden-the_row-Expr-3}
 use Rattle.cq_tree.specs.declared.expression.Arm.{Arm}
-use Rattle.cq_tree.proofs.Opened.{case_is, coalesce_is}
+use Rattle.cq_tree.proofs.Opened.{case_is}
 use Rattle.cq_meaning.specs.Values.{Row, Results}
 use Rattle.cq_meaning.specs.Expressions.{value_of, truth_of, if_yes, known_or, arm_value, first_known}
 use Rattle.cq_meaning.specs.Safety.{IsSafe, AreSafe, AreSafeArms, IsSafeArm}

@@ -1,3 +1,5 @@
-pub mod GroupSteps
+pub mod Kept
 pub mod Operands
+pub mod Pruned
+pub mod Ties
 pub mod TreeLists

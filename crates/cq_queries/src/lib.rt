@@ -1,5 +1,5 @@
-//! The reads of the worker engine: it computes expressions and the rows of a query, plainly: products and then filters, and
-//! lists of groups.
+//! The reads of the worker engine: it computes expressions and the rows of a query. Joins on equal columns, groups and DISTINCT
+//! find rows by hashing; all else is plain.
 #![tactic(auto)]
 
 mod aggregate;
@@ -13,6 +13,7 @@ mod query;
 mod rows;
 mod select;
 mod sorting;
+mod ties;
 
 pub use expression::{eval, test};
 pub use query::{Tables, run_query};

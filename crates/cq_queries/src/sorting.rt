@@ -1,35 +1,14 @@
 ghost use Rattle.std.specs.Prelude.{◌≡◌, IfOk, take as take_first, drop as drop_first};
-ghost use Rattle.std.specs.List.{list_any};
 ghost use Rattle.cq_value.specs.Order.{value_cmp};
-ghost use Rattle.cq_meaning.specs.Values.{column, row_cmp, same_row};
-ghost use Rattle.cq_meaning.specs.Groups.{distinct as distinct_rows};
+ghost use Rattle.cq_meaning.specs.Values.{column};
 ghost use Rattle.cq_meaning.specs.Sorting.{key_cmp, keys_cmp, sorted, cut, limited};
 
 use crate::expression::cell;
 use crate::operand;
 use cq_tree::Key;
-use cq_value::{Items, NoMemory, Row, Rows, Value, order};
+use cq_value::{Items, NoMemory, Row, Rows};
 use std::alloc::Global;
 use std::cmp::Ordering;
-
-/// Rows by their first column, then by their second, and so on.
-pub fn compare_rows(a: &[Value], b: &[Value]) -> Ordering
-    ensures { result ≡ row_cmp a.now b.now }
-{
-    match a {
-        [] => match b {
-            [] => Ordering::Equal,
-            _ => Ordering::Less,
-        },
-        [x, xs @ ..] => match b {
-            [] => Ordering::Greater,
-            [y, ys @ ..] => match order(x, y) {
-                Ordering::Equal => compare_rows(xs, ys),
-                other => other,
-            },
-        },
-    }
-}
 
 fn compare_at(a: &Row, b: &Row, item: u32) -> Ordering
     ensures { result ≡ value_cmp (column a.now item) (column b.now item) }
@@ -68,25 +47,6 @@ pub fn sort_rows(keys: &[Key], rows: Rows) -> Result<Rows, NoMemory>
         Ok(()) => Ok(Items::from_vec(all)),
         Err(_) => Err(NoMemory),
     }
-}
-
-fn has_row(rows: &[Row], row: &Row) -> bool
-    ensures { result ≡ list_any (same_row row.now) rows.now }
-{
-    rows.iter().any(|other| compare_rows(row.as_slice(), other.as_slice()).is_eq())
-}
-
-/// DISTINCT: of rows that are the same the first.
-pub fn distinct(alloc: Global, rows: Rows) -> Result<Rows, NoMemory>
-    ensures { IfOk result (λ all. all ≡ distinct_rows rows) }
-{
-    let mut all = Rows::new(alloc);
-    for row in rows.into_vec() {
-        if !has_row(all.as_slice(), &row) {
-            all.put(row)?;
-        }
-    }
-    Ok(all)
 }
 
 fn shortened(row: Row, shown: u32) -> Row
