@@ -10,7 +10,7 @@ use Rattle.cq_catalog.specs.declared.info.Place.{Place}
 use Rattle.cq_catalog.specs.declared.info.Place.TheVariants.{Local, Distributed, Reference}
 use Rattle.cq_planning.specs.Touched.{touched}
 use Rattle.cq_store.specs.Stores.{StoreState}
-use Rattle.cq_history.specs.Refusals.{refusal_in}
+use Rattle.cq_history.specs.Refusals.{write_refusal}
 use Rattle.cq_history.specs.Journals.{journal_in}
 use Rattle.cq_history.specs.Legality.{IsLegal}
 use Rattle.cq_history.specs.Computable.{IsWritable}
@@ -24,7 +24,7 @@ use Rattle.cq_cluster.specs.declared.cluster.Cluster.{Cluster}
 use Rattle.cq_cluster.proofs.CatalogLaws.{placed_group}
 use Rattle.cq_cluster.proofs.GroupLaws.{member, group_there, table_there}
 
-module _ {X : Type 0} (state : X → StoreState) (cl : Cluster X) (op : ShardOp) (sound : IsSound state cl) (runs : refusal_in cl.catalog (statement.Write op) ≡ None) where
+module _ {X : Type 0} (state : X → StoreState) (cl : Cluster X) (op : ShardOp) (sound : IsSound state cl) (runs : write_refusal cl.catalog op ≡ None) where
   -- a group where the write's table has a shard is one of the catalogue's
   is_group : (place : ℕ) → HasShard (colocation_at cl.catalog (table_of op)) (place_at cl.catalog (table_of op)) place → place < cl.catalog.groups
   is_group place has = by_place (place_at cl.catalog (table_of op)) refl has

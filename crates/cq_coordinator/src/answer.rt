@@ -17,7 +17,7 @@ ghost use Rattle.cq_coordinator.specs.Coordination.{environment, journals};
 use crate::coordinator::Coordinator;
 use cq_answer::{Answer, Fault};
 use cq_catalog::{Catalog, Place};
-use cq_plan::refusal_of;
+use cq_refusals::refusal_of;
 use cq_relations::place_of;
 use cq_store::Store;
 use cq_tree::{ShardOp, Statement, Who};
@@ -51,7 +51,7 @@ impl<S: Store> Coordinator<S> {
         requires legal { (g : ℕ) → IsLegal self.old.cluster.catalog g (journal_in (journals self.old) g) }
         requires keyed { (table : ℕ) → IsKeyed self.old.cluster.catalog table }
         requires computable { IsComputable self.old.cluster.catalog statement.now }
-        requires supported { refusal_by_rule self.old.cluster.catalog statement.now ≡ None }
+        requires supported { refusal_by_rule self.old.settings.repartition self.old.cluster.catalog statement.now ≡ None }
         ensures answered { (entry : List (Worker S)) → AreWorkers S.state self.old.cluster.nodes entry self.old.cluster.groups.items self.old.cluster.workers.items → IsAnswered rules (run_of self.old.cluster.nodes entry) (environment self.old) (environment self.new) who (journals self.old) (journals self.new) (Some statement.now) result }
         ensures sound { IsSound S.state self.new.cluster }
         ensures stores { KeepsStores S.state self.old.cluster self.new.cluster }
@@ -100,7 +100,15 @@ impl<S: Store> Coordinator<S> {
         ensures stores { KeepsStores S.state self.old.cluster self.new.cluster }
         ensures accounted { (answers : List Answered) (a : Answered) → a.answer ≡ result → AreAccounted S.state self.old.cluster.catalog answers self.old.cluster.groups.items → AreAccounted S.state self.new.cluster.catalog (answers ++ a ∷ []) self.new.cluster.groups.items }
     {
-        if let Some(why) = refusal_of(statement, &self.cluster.catalog) {
+        let Ok(refusal) = refusal_of(
+            alloc,
+            statement,
+            &self.cluster.catalog,
+            self.settings.repartition,
+        ) else {
+            return Answer::Failed(Fault::Memory);
+        };
+        if let Some(why) = refusal {
             return Answer::Failed(Fault::Unsupported(why));
         }
         self.answer_supported(alloc, who, statement)

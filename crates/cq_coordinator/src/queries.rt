@@ -1,9 +1,9 @@
-ghost use Rattle.std.specs.Prelude.{◌≡◌, ℕ, List, Some, [], ◌∷◌, ◌++◌};
+ghost use Rattle.std.specs.Prelude.{◌≡◌, ℕ, List, Some, None, [], ◌∷◌, ◌++◌};
 ghost use Rattle.cq_tree.specs.declared.statement.Statement.TheVariants as statement;
 ghost use Rattle.cq_history.specs.Computable.{IsComputable};
 ghost use Rattle.cq_history.specs.Journals.{journal_in};
 ghost use Rattle.cq_history.specs.Legality.{IsLegal};
-ghost use Rattle.cq_history.specs.Refusals.{rules};
+ghost use Rattle.cq_history.specs.Refusals.{rules, refusal_in};
 ghost use Rattle.cq_history.specs.Log.{IsAnswered};
 ghost use Rattle.cq_store.specs.declared.worker.Worker.{Worker};
 ghost use Rattle.cq_cluster.specs.Cluster.{IsSound, KeepsStores, run_of};
@@ -24,6 +24,7 @@ impl<S: Store> Coordinator<S> {
         requires sound { IsSound S.state self.old.cluster }
         requires legal { (g : ℕ) → IsLegal self.old.cluster.catalog g (journal_in (journals self.old) g) }
         requires computable { IsComputable self.old.cluster.catalog (statement.Select query.now) }
+        requires runs { refusal_in (environment self.old) (statement.Select query.now) ≡ None }
         ensures answered { (entry : List (Worker S)) → IsAnswered rules (run_of self.old.cluster.nodes entry) (environment self.old) (environment self.new) who (journals self.old) (journals self.new) (Some (statement.Select query.now)) result }
         ensures sound { IsSound S.state self.new.cluster }
         ensures stores { KeepsStores S.state self.old.cluster self.new.cluster }

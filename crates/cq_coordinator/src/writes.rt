@@ -1,6 +1,6 @@
 ghost use Rattle.std.specs.Prelude.{◌≡◌, ℕ, List, Some, None, [], ◌∷◌, ◌++◌};
 ghost use Rattle.cq_tree.specs.declared.statement.Statement.TheVariants as statement;
-ghost use Rattle.cq_history.specs.Refusals.{rules, refusal_in};
+ghost use Rattle.cq_history.specs.Refusals.{rules, write_refusal};
 ghost use Rattle.cq_history.specs.Journals.{journal_in};
 ghost use Rattle.cq_history.specs.Legality.{IsLegal, IsKeyed};
 ghost use Rattle.cq_history.specs.Standing.{tag_of as tag_by};
@@ -70,7 +70,7 @@ impl<S: Store> Coordinator<S> {
         requires legal { (g : ℕ) → IsLegal self.old.cluster.catalog g (journal_in (journals self.old) g) }
         requires keyed { (table : ℕ) → IsKeyed self.old.cluster.catalog table }
         requires computable { IsComputable self.old.cluster.catalog (statement.Write op.now) }
-        requires runs { refusal_in self.old.cluster.catalog (statement.Write op.now) ≡ None }
+        requires runs { write_refusal self.old.cluster.catalog op.now ≡ None }
         ensures answered { (entry : List (Worker S)) → AreWorkers S.state self.old.cluster.nodes entry self.old.cluster.groups.items self.old.cluster.workers.items → IsAnswered rules (run_of self.old.cluster.nodes entry) (environment self.old) (environment self.new) who (journals self.old) (journals self.new) (Some (statement.Write op.now)) result }
         ensures sound { IsSound S.state self.new.cluster }
         ensures stores { KeepsStores S.state self.old.cluster self.new.cluster }

@@ -2,6 +2,7 @@
 use Rattle.std.specs.Prelude.{ℕ, ◌+◌, Bool, true, false, not, nat_eq, Option, Some, None, option_map}
 use Rattle.cq_tree.specs.declared.query.Query.{Query, Query'}
 use Rattle.cq_tree.specs.declared.statement.Statement.{Statement}
+use Rattle.cq_tree.specs.declared.write.ShardOp.{ShardOp}
 use Rattle.cq_tree.specs.declared.statement.Statement.TheVariants as statement
 use Rattle.cq_meaning.specs.Results.{count_of, ins_in_from, ins_in_all}
 use Rattle.cq_meaning.specs.Effects.{table_of}
@@ -9,7 +10,7 @@ use Rattle.cq_catalog.specs.Contents.{Contents, is_local}
 use Rattle.cq_catalog.specs.Placement.{place_at}
 use Rattle.cq_answer.specs.declared.fault.Fault.{Fault}
 use Rattle.cq_answer.specs.declared.fault.Fault.TheVariants as fault
-use Rattle.cq_planning.specs.Refusals.{refusal_of}
+use Rattle.cq_planning.specs.Refusals.{refusal_of, refusal_of_write}
 use Rattle.cq_planning.specs.Touched.{touched}
 use Rattle.cq_history.specs.Run.{Environment, Rules}
 
@@ -32,6 +33,10 @@ abbrev pub unless_built : Bool → Option Fault → Option Fault
 unless_built built (Some f) = Some f
 unless_built true None = None
 unless_built false None = Some fault.NotBuilt
+
+-- of a write, by the catalogue alone
+abbrev pub write_refusal : Contents → ShardOp → Option Fault
+write_refusal c op = unless_built (is_built c (statement.Write op)) (option_map (λ why. fault.Unsupported why) (refusal_of_write c op))
 
 -- what planning doesn't support comes before what isn't built
 abbrev pub refusal_in : Environment → Statement → Option Fault

@@ -12,7 +12,7 @@ use Rattle.cq_coordinator.proofs.coordinator.Coordinator.answer_supported.Goals 
 pub returns-else-has_shards-clause-answered : goal.returns-else-has_shards-clause-answered
 returns-else-has_shards-clause-answered g c = λ entry are.
     (refusal_is_answered rules (run_of c.args.self.now.cluster.nodes entry) (environment c.args.self.now) c.args.who (journals c.args.self.now) fault.NotBuilt).1
-    c.args.statement.now (not_built c.args.self.now.cluster.catalog c.args.statement.now c.requires.supported
+    c.args.statement.now (not_built (environment c.args.self.now) c.args.statement.now c.requires.supported
     (ap (is_built c.args.self.now.cluster.catalog) c.in-Write.is ∙ (sym c.has_shards.ensures ∙ c.if-has_shards.false)))
 
 pub returns-in-Copy-clause-answered : goal.returns-in-Copy-clause-answered
@@ -33,7 +33,7 @@ returns-in-Copy-clause-answered g c =
     ] in
     λ entry are.
     (refusal_is_answered rules (run_of c.args.self.now.cluster.nodes entry) (environment c.args.self.now) c.args.who (journals c.args.self.now) fault.NotBuilt).1
-    c.args.statement.now (not_built k c.args.statement.now c.requires.supported unbuilt)
+    c.args.statement.now (not_built (environment c.args.self.now) c.args.statement.now c.requires.supported unbuilt)
 
 pub returns-else-has_shards-clause-accounted : goal.returns-else-has_shards-clause-accounted
 returns-else-has_shards-clause-accounted g c = λ answers a is all.

@@ -12,7 +12,7 @@ pub answer_query-requires-clause-shaped : goal.answer_query-requires-clause-shap
 answer_query-requires-clause-shaped g c = are_shaped g.S.Store.state c.args.self.now.cluster c.requires.sound
 
 pub returns-clause-answered : goal.returns-clause-answered
-returns-clause-answered g c = λ entry. c.answer_query.ensures.answered (run_of c.args.self.now.cluster.nodes entry) c.args.self.now.settings refl
+returns-clause-answered g c = λ entry. c.answer_query.ensures.answered (run_of c.args.self.now.cluster.nodes entry) c.args.self.now.settings refl c.requires.runs
 
 pub returns-clause-accounted : goal.returns-clause-accounted
 returns-clause-accounted g c = λ answers a is all.
