@@ -83,10 +83,10 @@ read_is_answered rules run e who old new q rows runs narrows h grows same =
     (none_there old) grows same refl refl
 
 pub large_is_answered : LargeIsAnswered
-large_is_answered rules run e who old new q runs narrows h grows same =
+large_is_answered rules run e who old new q runs large grows same =
     let touched = rules.touched e.catalog (statement.Select q) in
     deed_is_answered rules run e e who old new [] (in_each touched (λ g. entry.Read)) (Some (statement.Select q)) (answer.Failed (fault.Limit what.Rows most_rows))
-    (large_does rules run e (deed_over who old (look_at [] old) (in_each touched (λ g. entry.Read))) (journal_in old) q (record { runs = runs; made = makes_each who old (look_at [] old) touched (λ g. entry.Read) }) narrows h)
+    (large_does rules run e (deed_over who old (look_at [] old) (in_each touched (λ g. entry.Read))) (journal_in old) q (record { runs = runs; made = makes_each who old (look_at [] old) touched (λ g. entry.Read) }) large)
     (none_there old) grows same refl refl
 
 pub read_lacks_memory : ReadLacksMemory

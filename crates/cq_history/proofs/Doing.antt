@@ -220,8 +220,8 @@ read_does rules run e d seen q rows r narrows h =
     read_by rules run e d seen q r (answer.Table (out-Query q).names rows) (refl, read_entries rules run e d seen q r, read_wherever rules run e d seen q r (λ db. Answers q db rows) narrows h)
 
 pub large_does : LargeDoes
-large_does rules run e d seen q r narrows h =
-    read_by rules run e d seen q r (answer.Failed (fault.Limit what.Rows most_rows)) (refl, read_entries rules run e d seen q r, λ simple. read_wherever rules run e d seen q r (IsLarge q) (narrows simple) h)
+large_does rules run e d seen q r large =
+    read_by rules run e d seen q r (answer.Failed (fault.Limit what.Rows most_rows)) (refl, read_entries rules run e d seen q r, λ alone simple. let l = large alone simple in read_wherever rules run e d seen q r (IsLarge q) l.0 l.1)
 
 -- ---- entries in some groups and then in others
 

@@ -69,7 +69,7 @@ module _ (v w : View) (made : (g : ℕ) (P : List Step → Type 0) → v.made g 
   runs_map touched run e (statement.Reference table) a h = (enters none h.0, h.1)
   runs_map touched run e (statement.Setting which value) a h = (enters none h.0, h.1)
   runs_map touched run e (statement.Select q) (answer.Table names rows) h = (h.0, enters (reads touched) h.1, wherever (λ db. Answers q db rows) h.2)
-  runs_map touched run e (statement.Select q) (answer.Failed (fault.Limit what.Rows n)) h = (h.0, enters (reads touched) h.1, λ simple. wherever _ (h.2 simple))
+  runs_map touched run e (statement.Select q) (answer.Failed (fault.Limit what.Rows n)) h = (h.0, enters (reads touched) h.1, λ alone simple. wherever _ (h.2 alone simple))
   runs_map touched run e (statement.Select q) (answer.Failed (fault.Worker node shard before after)) h = read_fault_map run e.catalog touched node shard before after h
   runs_map touched run e (statement.Select q) (answer.Failed fault.Memory) h = (h.0, h.1, enters (reads h.0) h.2)
   runs_map touched run e (statement.Write op) (answer.Tag t) h = (h.0, h.1, made_map e.catalog touched op h.0 h.2)

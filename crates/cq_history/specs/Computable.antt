@@ -1,5 +1,5 @@
 -- What the binder makes sure of, so that a statement can be computed and planned.
-use Rattle.std.specs.Prelude.{◌≡◌, ◌<◌, ◌^◌, ⊤, ℕ, true, List, [], map}
+use Rattle.std.specs.Prelude.{◌≡◌, ◌<◌, ◌^◌, ⊤, ℕ, true, false, List, map}
 use Rattle.std.specs.List.{AllByRecursion}
 use Rattle.cq_value.specs.Tables.{Pair}
 use Rattle.cq_tree.specs.declared.query.Query.{Query}
@@ -11,7 +11,8 @@ use Rattle.cq_meaning.specs.Values.{Row, Tables, table_rows}
 use Rattle.cq_meaning.specs.Widths.{AllWithin, Within, bits_of_kind}
 use Rattle.cq_meaning.specs.Safety.{IsSafeQuery}
 use Rattle.cq_meaning.specs.Effects.{IsSafeWrite, table_of}
-use Rattle.cq_meaning.specs.Results.{Answers}
+use Rattle.cq_meaning.specs.Results.{results_of, Answers}
+use Rattle.cq_meaning_laws.specs.WholeRules.{steps_of, no_results, has_large_step, AreSafeSteps}
 use Rattle.cq_catalog.specs.Contents.{Contents}
 use Rattle.cq_catalog.specs.Placement.{place_at}
 use Rattle.cq_catalog.specs.declared.info.Place.TheVariants.{Local}
@@ -26,11 +27,13 @@ use Rattle.cq_history.specs.Refusals.{is_alone}
 abbrev pub column_bits : Contents → ℕ → List ℕ
 column_bits c table = map bits_of_kind (shape_in c table).kinds
 
--- a query that is safe over all rows within their columns' widths, and for which the groups that it doesn't touch don't matter
+-- a query that is safe over all rows within their columns' widths, with the steps before it, and for which the groups that it doesn't touch don't
+-- matter
 pub record IsReadable (c : Contents) (q : Query) : Type 0 where
-  pub safe : is_alone q ≡ true → (db : Tables) → ((t : ℕ) → AllWithin (column_bits c t) (table_rows db t)) → IsSafeQuery q db []
+  pub safe : (db : Tables) → ((t : ℕ) → AllWithin (column_bits c t) (table_rows db t)) →
+      AreSafeSteps db (no_results q) (steps_of q) × (has_large_step db (no_results q) (steps_of q) ≡ false → IsSafeQuery q db (results_of q db))
   pub narrows : (rows : List Row) → Narrows c (touched c (statement.Select q)) (λ db. Answers q db rows)
-  pub large : GivesSimply c q → Narrows c (touched c (statement.Select q)) (IsLarge q)
+  pub large : is_alone q ≡ true → GivesSimply c q → Narrows c (touched c (statement.Select q)) (IsLarge q)
 
 -- the rows of an INSERT fit their table, and an UPDATE sets values of its columns' sorts
 abbrev pub FitsTable : Contents → ShardOp → Type 0

@@ -165,7 +165,7 @@ ReadDoes = (rules : Rules) (run : Run) (e : Environment) (d : Deed) (seen : ℕ 
 
 abbrev pub LargeDoes : Type 0
 LargeDoes = (rules : Rules) (run : Run) (e : Environment) (d : Deed) (seen : ℕ → Journal) (q : Query) → IsReading rules e d seen q →
-    (GivesSimply e.catalog q → Narrows e.catalog (rules.touched e.catalog (statement.Select q)) (IsLarge q)) → IsLarge q (seen_whole e.catalog (rules.touched e.catalog (statement.Select q)) seen) →
+    (is_alone q ≡ true → GivesSimply e.catalog q → Narrows e.catalog (rules.touched e.catalog (statement.Select q)) (IsLarge q) × IsLarge q (seen_whole e.catalog (rules.touched e.catalog (statement.Select q)) seen)) →
     Does rules run e d (Some (statement.Select q)) (answer.Failed (fault.Limit what.Rows most_rows))
 
 -- a query without CTE and IN subquery has no results to find first, and depends on the rows of its tables alone
@@ -339,7 +339,7 @@ ReadIsAnswered = (rules : Rules) (run : Run) (e : Environment) (who : Who) (old 
 abbrev pub LargeIsAnswered : Type 0
 LargeIsAnswered = (rules : Rules) (run : Run) (e : Environment) (who : Who) (old new : List Journal) (q : Query) → rules.refusal e (statement.Select q) ≡ None →
     let touched = rules.touched e.catalog (statement.Select q) in
-    (GivesSimply e.catalog q → Narrows e.catalog touched (IsLarge q)) → IsLarge q (seen_whole e.catalog touched (journal_in old)) →
+    (is_alone q ≡ true → GivesSimply e.catalog q → Narrows e.catalog touched (IsLarge q) × IsLarge q (seen_whole e.catalog touched (journal_in old))) →
     Grows who (in_each touched (λ g. entry.Read)) old new → length new ≡ length old →
     IsAnswered rules run e e who old new (Some (statement.Select q)) (answer.Failed (fault.Limit what.Rows most_rows))
 

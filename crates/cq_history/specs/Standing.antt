@@ -39,6 +39,7 @@ use Rattle.cq_planning.specs.Touched.{among}
 use Rattle.cq_journal.specs.Records.{Journal}
 use Rattle.cq_history.specs.Journals.{journal_in, cut, held_in, Kinds, none, in_each, TakesPlaces, Step, steps_of, kinds_in, IsLook}
 use Rattle.cq_history.specs.Whole.{held_at}
+use Rattle.cq_history.specs.Refusals.{is_alone}
 use Rattle.cq_history.specs.Faults.{IsShardIn, IsOnNode, near, node_read, below}
 use Rattle.cq_store.specs.Stores.{Rose}
 
@@ -179,7 +180,8 @@ Yields None done a = done a
 -- ---- all statements
 
 -- what the answer of a statement that runs says. Want of memory leaves a query at most one Read in each touched group, and all else no entry.
--- Of a query in which a subquery that is given a set groups a LEFT JOIN, a limit of rows is not said to be passed by a group of the whole
+-- Of a query with CTEs or IN subqueries, or in which a subquery that is given a set groups a LEFT JOIN, a limit of rows is not said to be passed by
+-- a group of the whole
 abbrev pub Runs : List ℕ → Run → Environment → View → Statement → Answer → Type 0
 Runs touched run e v (statement.CreateTable name columns key) a = Enters v none × Yields (creation_fault e name columns) (λ (b : Answer). b ≡ answer.Tag tag.CreateTable) a
 Runs touched run e v (statement.Distribute table column count beside) a =
@@ -188,7 +190,7 @@ Runs touched run e v (statement.Reference table) a = Enters v none × Yields (re
 Runs touched run e v (statement.Setting which value) a = Enters v none × Yields None (λ (b : Answer). b ≡ answer.Tag tag.Setting) a
 Runs touched run e v (statement.Select q) (answer.Table names rows) = (names ≡ (out-Query q).names) × Enters v (reads touched) × v.wherever (λ db. Answers q db rows)
 Runs touched run e v (statement.Select q) (answer.Failed (fault.Limit what.Rows n)) =
-    (n ≡ most_rows) × Enters v (reads touched) × (GivesSimply e.catalog q → v.wherever (IsLarge q))
+    (n ≡ most_rows) × Enters v (reads touched) × (is_alone q ≡ true → GivesSimply e.catalog q → v.wherever (IsLarge q))
 Runs touched run e v (statement.Select q) (answer.Failed (fault.Worker node shard before after)) = IsReadFault run e.catalog touched v node shard before after
 Runs touched run e v (statement.Select q) (answer.Failed fault.Memory) = (groups : List ℕ) × AreAmong groups touched × Enters v (reads groups)
 Runs touched run e v (statement.Write op) (answer.Tag t) = (n : ℕ) × (t ≡ tag_of op n) × IsMadeIn e.catalog touched v op n
