@@ -1,5 +1,5 @@
 -- Which tables a query reads in which groups, and all rows that were read of a table.
-use Rattle.std.specs.Prelude.{◌≡◌, ℕ, true, false, Option, Some, None, List, [], ◌∷◌, ◌++◌, map, filter, fold, Bool, not, ◌&&◌, if◌then◌else◌, nat_eq, slice_get}
+use Rattle.std.specs.Prelude.{ℕ, Option, Some, None, List, [], ◌∷◌, ◌++◌, map, filter, fold, Bool, not, ◌&&◌, if◌then◌else◌, nat_eq, slice_get}
 use Rattle.cq_store.specs.Stores.{has_values}
 use Rattle.cq_meaning.specs.Values.{Row, Tables}
 use Rattle.cq_catalog.specs.Contents.{Contents}
