@@ -4,6 +4,7 @@ pub mod NearLaws
 pub mod ReadLaws
 pub mod GatherLaws
 pub mod LookLaws
+pub mod StepLaws
 pub mod QueryLaws
 pub mod AloneLaws
 pub mod Nodes

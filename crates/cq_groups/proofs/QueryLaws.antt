@@ -1,19 +1,17 @@
 -- The answer of a query that was computed over its looks.
-use Rattle.std.proofs.Common.{◌≡◌, ◌<◌, ◌≤◌, ℕ, true, List, [], ◌∷◌, length, refl, sym, ◌∙◌, ap, subst, Some, None, Option}
-use Rattle.std.specs.Prelude.{◌&&◌}
-use Rattle.std.specs.List.{AllByRecursion, flat_map}
+use Rattle.std.proofs.Common.{◌≡◌, ◌<◌, ◌≤◌, inl, inr, ℕ, true, List, [], ◌∷◌, length, refl, sym, ◌∙◌, ap, subst, Some, None, Option}
+use Rattle.std.specs.List.{AllByRecursion}
 use Rattle.cq_tree.specs.declared.journal.Who.{Who}
 use Rattle.cq_tree.specs.declared.journal.EntryKind.TheVariants.{Read}
 use Rattle.cq_tree.specs.declared.query.Query.{Query, out-Query}
 use Rattle.cq_tree.specs.declared.statement.Statement.TheVariants as statement
 use Rattle.cq_meaning.specs.Values.{Tables, table_rows}
-use Rattle.cq_meaning.specs.Safety.{IsSafeQuery}
+use Rattle.cq_whole.specs.Tables.{tables_of_statement}
+use Rattle.cq_whole.proofs.TableLaws.{tables_suffice}
 use Rattle.cq_journal.specs.Records.{Journal}
 use Rattle.cq_catalog.specs.Contents.{Contents}
-use Rattle.cq_planning.specs.Occurrences.{occurrences_in}
 use Rattle.cq_planning.specs.Reaching.{IsAscendingFrom}
-use Rattle.cq_planning.specs.Routing.{fits_router, touched_in_block}
-use Rattle.cq_planning.specs.Touched.{among, groups_of, touched}
+use Rattle.cq_planning.specs.Touched.{among, touched}
 use Rattle.cq_answer.specs.declared.answer.Answer.{Answer}
 use Rattle.cq_answer.specs.declared.answer.Answer.TheVariants as answer
 use Rattle.cq_answer.specs.declared.answered.Settings.{Settings}
@@ -33,23 +31,21 @@ use Rattle.cq_history.specs.Journals.{journal_in}
 use Rattle.cq_history.specs.Legality.{IsLegal}
 use Rattle.cq_history.specs.Deeds.{in_deed}
 use Rattle.cq_history.specs.Log.{IsAnswered}
-use Rattle.cq_history.specs.Looks.{tables_in, Agree}
 use Rattle.cq_history.specs.Laws.{seen_whole, idle}
-use Rattle.cq_history.specs.Refusals.{rules, refusal_in, is_alone, unless_built}
-use Rattle.cq_history.proofs.Alone.{touched_alone}
-use Rattle.cq_history.proofs.Answering.{read_is_answered, large_is_answered, read_lacks_memory, refusal_is_answered}
+use Rattle.cq_history.specs.Refusals.{rules, refusal_in}
+use Rattle.cq_history.proofs.Answering.{read_is_answered, large_is_answered, read_lacks_memory}
 use Rattle.cq_history.proofs.Growing.{none_grow}
 use Rattle.cq_history.proofs.Faults.{read_fails}
 use Rattle.cq_history.specs.Faults.{below, node_read, near as near_by_rule}
 use Rattle.cq_history.proofs.Script.{idle_is_answered}
 use Rattle.cq_history.specs.Standing.{RunsUnless}
-use Rattle.cq_history.proofs.Looks.{tables_suffice, alone_answers, alone_large}
 use Rattle.cq_history.proofs.Sums.{among_here, among_more}
-use Rattle.cq_groups.specs.Reads.{Look, CanLook, captured_by, groups_in, AreRead, AreReadInPart, AreShaped, Computes, IsReadError, FailsAmong, StopsReads, fault_by, IsComputed, done, stopped, failed}
-use Rattle.cq_groups.specs.Looking.{looks_of, merged, IsPlan, environment_at}
+use Rattle.cq_groups.specs.Reads.{Look, CanLook, captured_by, groups_in, AreRead, AreReadInPart, AreShaped, IsComputable, Computes, IsReadError, FailsAmong, StopsReads, fault_by, IsComputed, done, stopped, failed}
+use Rattle.cq_groups.specs.Looking.{looks_of, merged, environment_at}
 use Rattle.cq_groups.proofs.GatherLaws.{gathered_whole}
 use Rattle.cq_groups.proofs.LookLaws.{can_look_at, in_order_ascends, in_order_below, has_shapes, groups_looked, merged_within}
 use Rattle.cq_groups.proofs.Failing.{fault_is_placed, named}
+use Rattle.cq_groups.proofs.StepLaws.{no_large_step}
 use Rattle.cq_groups.proofs.Growth.{length_map}
 use Rattle.cq_groups.proofs.ReadLaws.{nothing_read, among_one, below_one}
 
@@ -57,57 +53,53 @@ each_of : (P : ℕ → Type 0) (xs : List ℕ) → ((t : ℕ) → among t xs ≡
 each_of P [] f = tt
 each_of P (x ∷ xs) f = (f x (among_here x xs), each_of P xs (λ t m. f t (among_more t x xs m)))
 
-module _ {X : Type 0} (c : Contents) (q : Query) (groups : List (GroupState X)) {nodes : ℕ} (shaped : AreShaped c nodes groups) (alone : is_alone q ≡ true) where
+module _ {X : Type 0} (c : Contents) (q : Query) (groups : List (GroupState X)) {nodes : ℕ} (shaped : AreShaped c nodes groups) where
   -- what was read, each table once
   abbrev pub read_of : Tables
   read_of = merged (captured_by groups (looks_of c q))
 
-  agrees : Agree (tables_in q) (seen_whole c (touched c (statement.Select q)) (journal_in (journals_of groups))) read_of
+  agrees : AllByRecursion (λ t. table_rows (seen_whole c (touched c (statement.Select q)) (journal_in (journals_of groups))) t ≡ table_rows read_of t) (tables_of_statement q)
   agrees =
-      let gs = flat_map (groups_of c) (occurrences_in c q []) in
-      each_of (λ t. table_rows (seen_whole c (touched c (statement.Select q)) (journal_in (journals_of groups))) t ≡ table_rows read_of t) (tables_in q) (λ t m.
-      ap (λ v. table_rows (seen_whole c v (journal_in (journals_of groups))) t) (touched_alone c q alone)
-      ∙ sym (gathered_whole c groups (tables_in q) t m (touched_in_block c q) (in_order_ascends c gs) (λ g a. has_shapes c groups shaped (tables_in q) g (in_order_below c gs g a))))
+      let gs = touched_by_query c q in
+      each_of (λ t. table_rows (seen_whole c (touched c (statement.Select q)) (journal_in (journals_of groups))) t ≡ table_rows read_of t) (tables_of_statement q) (λ t m.
+      sym (gathered_whole c groups (tables_of_statement q) t m (touched c (statement.Select q)) (in_order_ascends c gs) (λ g a. has_shapes c groups shaped (tables_of_statement q) g (in_order_below c gs g a))))
 
   -- it can be computed
-  pub can_compute : IsReadable c q → ((g : ℕ) → IsLegal c g (journal_in (journals_of groups) g)) → IsSafeQuery q read_of []
-  can_compute readable legal = readable.safe alone read_of (merged_within c groups shaped (tables_in q) legal (flat_map (groups_of c) (occurrences_in c q [])))
+  pub can_compute : IsReadable c q → ((g : ℕ) → IsLegal c g (journal_in (journals_of groups) g)) → IsComputable q read_of
+  can_compute readable legal = readable.safe read_of (merged_within c groups shaped (tables_of_statement q) legal (touched_by_query c q))
 
   -- and its looks can be made
   pub plan_there : (node : ℕ) → 0 < node → node ≤ nodes → (looks : List Look) → looks ≡ looks_of c q → AllByRecursion (CanLook node groups) looks
-  plan_there node some few looks is = subst (λ ls. AllByRecursion (CanLook node groups) ls) (sym is) (can_look_at c groups shaped (tables_in q) node some few (flat_map (groups_of c) (occurrences_in c q [])))
+  plan_there node some few looks is = subst (λ ls. AllByRecursion (CanLook node groups) ls) (sym is) (can_look_at c groups shaped (tables_of_statement q) node some few (touched_by_query c q))
 
   pub plan_ascends : (looks : List Look) → looks ≡ looks_of c q → IsAscendingFrom 0 (groups_in looks)
   plan_ascends looks is =
-      subst (λ gs. IsAscendingFrom 0 gs) (sym (ap groups_in is ∙ groups_looked c (tables_in q) (touched_in_block c q))) (in_order_ascends c (flat_map (groups_of c) (occurrences_in c q [])))
+      subst (λ gs. IsAscendingFrom 0 gs) (sym (ap groups_in is ∙ groups_looked c (tables_of_statement q) (touched c (statement.Select q)))) (in_order_ascends c (touched_by_query c q))
 
-  pub plan_safe : (looks : List Look) → looks ≡ looks_of c q → IsReadable c q → ((g : ℕ) → IsLegal c g (journal_in (journals_of groups) g)) → IsSafeQuery q (merged (captured_by groups looks)) []
-  plan_safe looks is readable legal = subst (λ ls. IsSafeQuery q (merged (captured_by groups ls)) []) (sym is) (can_compute readable legal)
+  pub plan_safe : (looks : List Look) → looks ≡ looks_of c q → IsReadable c q → ((g : ℕ) → IsLegal c g (journal_in (journals_of groups) g)) → IsComputable q (merged (captured_by groups looks))
+  plan_safe looks is readable legal = subst (λ ls. IsComputable q (merged (captured_by groups ls))) (sym is) (can_compute readable legal)
 
-  module _ (routed : fits_router c q ≡ true) where
-    not_refused : refusal_in c (statement.Select q) ≡ None
-    not_refused = ap (λ b. unless_built b None) ((λ i. alone i && routed i))
-
+  module _ (not_refused : refusal_in c (statement.Select q) ≡ None) where
     module _ (run : Run) (settings : Settings) (who : Who) (new : List (GroupState X)) (count : length (journals_of new) ≡ length (journals_of groups)) where
       abbrev pub the_environment : Environment
       the_environment = record { catalog = c; settings = settings }
 
       the_groups : groups_in (looks_of c q) ≡ touched c (statement.Select q)
-      the_groups = groups_looked c (tables_in q) (touched_in_block c q) ∙ sym (touched_alone c q alone)
+      the_groups = groups_looked c (tables_of_statement q) (touched c (statement.Select q))
 
       -- the answer that was computed
       pub query_answered : IsReadable c q → AreRead who (groups_in (looks_of c q)) groups new → (a : Answer) → Computes q read_of (out-Query q).names a →
           IsAnswered rules run the_environment the_environment who (journals_of groups) (journals_of new) (Some (statement.Select q)) a
       query_answered readable grows (answer.Table ns rows) h =
-          let suffices = tables_suffice q (seen_whole c (touched c (statement.Select q)) (journal_in (journals_of groups))) read_of alone agrees in
+          let suffices = tables_suffice q (seen_whole c (touched c (statement.Select q)) (journal_in (journals_of groups))) read_of agrees in
           subst (λ (v : List (List ℕ)). IsAnswered rules run the_environment the_environment who (journals_of groups) (journals_of new) (Some (statement.Select q)) (answer.Table v rows)) (sym h.0)
           (read_is_answered rules run the_environment who (journals_of groups) (journals_of new) q rows not_refused (readable.narrows rows)
-          (suffices.1 rows (alone_answers q read_of rows alone h.1)) (subst (λ gs. AreRead who gs groups new) the_groups grows) count)
+          (suffices.1 rows h.1) (subst (λ gs. AreRead who gs groups new) the_groups grows) count)
       query_answered readable grows (answer.Failed (fault.Limit what.Rows n)) h =
-          let suffices = tables_suffice q (seen_whole c (touched c (statement.Select q)) (journal_in (journals_of groups))) read_of alone agrees in
+          let suffices = tables_suffice q (seen_whole c (touched c (statement.Select q)) (journal_in (journals_of groups))) read_of agrees in
           subst (λ v. IsAnswered rules run the_environment the_environment who (journals_of groups) (journals_of new) (Some (statement.Select q)) (answer.Failed (fault.Limit what.Rows v))) (sym h.0)
-          (large_is_answered rules run the_environment who (journals_of groups) (journals_of new) q not_refused readable.large
-          (suffices.2 (alone_large q read_of alone ∙ h.1)) (subst (λ gs. AreRead who gs groups new) the_groups grows) count)
+          (large_is_answered rules run the_environment who (journals_of groups) (journals_of new) q not_refused
+          (λ alone simple. (readable.large alone simple, elim h.1 [ inl big ↦ absurd (no_large_step q read_of alone big) | inr large ↦ suffices.3 large ])) (subst (λ gs. AreRead who gs groups new) the_groups grows) count)
       query_answered readable grows (answer.Failed fault.Memory) h =
           read_lacks_memory rules run the_environment who (journals_of groups) (journals_of new) q (touched c (statement.Select q)) not_refused (λ g m. m) (subst (λ gs. AreRead who gs groups new) the_groups grows) count
       query_answered readable grows a h = absurd h
@@ -181,10 +173,6 @@ module _ (run : Run) (c : Contents) (settings : Settings) (who : Who) (js : List
       by_refusal (Some f) r =
           idle_is_answered rules run (environment_at c settings) who js (Some (statement.Select q)) (answer.Failed fault.Memory)
           (subst (λ (o : Option Fault). RunsUnless o (touched c (statement.Select q)) run (environment_at c settings) (in_deed c idle) (statement.Select q) (answer.Failed fault.Memory)) (sym r) (λ g. refl, tt)) refl
-
-  -- it isn't built
-  pub query_not_built : IsPlan c q None → IsAnswered rules run (environment_at c settings) (environment_at c settings) who js js (Some (statement.Select q)) (answer.Failed fault.NotBuilt)
-  query_not_built left = (refusal_is_answered rules run (environment_at c settings) who js fault.NotBuilt).1 (statement.Select q) (ap (λ b. unless_built b None) left)
 
 -- the same of equal tables and names
 pub computes_as : (q : Query) (db dc : Tables) (names ns : List (List ℕ)) (a : Answer) → db ≡ dc → names ≡ ns → Computes q db names a → Computes q dc ns a

@@ -1,17 +1,18 @@
 -- Which tables a query reads in which groups, and all rows that were read of a table.
-use Rattle.std.specs.Prelude.{◌≡◌, ℕ, true, false, Option, Some, None, List, [], ◌∷◌, ◌++◌, map, filter, fold, Bool, not, ◌&&◌, if◌then◌else◌, nat_eq, slice_get}
+use Rattle.std.specs.Prelude.{ℕ, Option, Some, None, List, [], ◌∷◌, ◌++◌, map, filter, fold, Bool, not, ◌&&◌, if◌then◌else◌, nat_eq, slice_get}
 use Rattle.cq_store.specs.Stores.{has_values}
 use Rattle.cq_meaning.specs.Values.{Row, Tables}
 use Rattle.cq_catalog.specs.Contents.{Contents}
 use Rattle.cq_tree.specs.declared.query.FromTree.{FromTree, Table}
 use Rattle.cq_tree.specs.declared.query.Query.{Query, out-Query}
-use Rattle.cq_planning.specs.Routing.{fits_router, touched_in_block}
-use Rattle.cq_planning.specs.Touched.{among}
+use Rattle.cq_tree.specs.declared.statement.Statement.TheVariants as statement
+use Rattle.cq_planning.specs.Touched.{among, touched}
 use Rattle.cq_answer.specs.declared.answered.Settings.{Settings}
 use Rattle.cq_history.specs.Run.{Environment}
 use Rattle.cq_history.specs.Refusals.{is_alone}
 use Rattle.cq_history.specs.Demands.{demands}
-use Rattle.cq_history.specs.Looks.{tables_in, has_shard}
+use Rattle.cq_history.specs.Looks.{has_shard}
+use Rattle.cq_whole.specs.Tables.{tables_of_statement}
 use Rattle.cq_group.specs.declared.group.GroupState.{GroupState}
 use Rattle.cq_groups.specs.declared.shard.Shard.{Shard}
 use Rattle.cq_groups.specs.Reads.{Look, rows_in}
@@ -29,17 +30,16 @@ looks_by c tables groups = map (λ g. (g, tables_there c g tables)) groups
 
 -- the looks of a query
 abbrev pub looks_of : Contents → Query → List Look
-looks_of c q = looks_by c (tables_in q) (touched_in_block c q)
-
--- the looks of a query that runs
-abbrev pub IsPlan : Contents → Query → Option (List Look) → Type 0
-IsPlan c q None = (is_alone q && fits_router c q) ≡ false
-IsPlan c q (Some looks) = (is_alone q ≡ true) × (fits_router c q ≡ true) × (looks ≡ looks_of c q)
+looks_of c q = looks_by c (tables_of_statement q) (touched c (statement.Select q))
 
 -- the only shard that looks are at, where the FROM is its table
 abbrev pub one_shard : FromTree → List Look → Option Shard
 one_shard (Table t n) ((g, u ∷ []) ∷ []) = if nat_eq u t then Some (record { group = g; table = t }) else None
 one_shard f looks = None
+
+-- the same, of a query without CTEs and IN subqueries
+abbrev pub shard_alone : Query → List Look → Option Shard
+shard_alone q looks = if is_alone q then one_shard (out-Query q).from looks else None
 
 -- the look at a shard
 abbrev pub look_at : Shard → Look

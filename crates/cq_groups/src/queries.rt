@@ -1,8 +1,7 @@
-ghost use Rattle.std.specs.Prelude.{◌≡◌, ◌<◌, ℕ, [], ◌∷◌, Some, IfOk};
+ghost use Rattle.std.specs.Prelude.{◌≡◌, ◌<◌, ℕ, [], ◌∷◌, Some, None, IfOk};
 ghost use Rattle.std.specs.List.{AllByRecursion};
 ghost use Rattle.cq_tree.specs.declared.query.Query.{out-Query};
 ghost use Rattle.cq_tree.specs.declared.statement.Statement.TheVariants as statement;
-ghost use Rattle.cq_meaning.specs.Safety.{IsSafeQuery};
 ghost use Rattle.cq_planning.specs.Reaching.{IsAscendingFrom};
 ghost use Rattle.cq_answer.specs.declared.answer.Answer.TheVariants as answer;
 ghost use Rattle.cq_answer.specs.declared.answered.Settings.{Settings};
@@ -11,57 +10,46 @@ ghost use Rattle.cq_history.specs.Run.{Run};
 ghost use Rattle.cq_history.specs.Computable.{IsReadable};
 ghost use Rattle.cq_history.specs.Journals.{journal_in};
 ghost use Rattle.cq_history.specs.Legality.{IsLegal};
-ghost use Rattle.cq_history.specs.Refusals.{rules};
+ghost use Rattle.cq_history.specs.Refusals.{rules, refusal_in};
 ghost use Rattle.cq_history.specs.Log.{IsAnswered};
 ghost use Rattle.cq_group.specs.Resting.{journals_of, AreResting, GoOn, HasFailed};
-ghost use Rattle.cq_groups.specs.Reads.{captured_by, groups_in, CanLook, AreShaped, Computes, IsComputed, fault_by};
-ghost use Rattle.cq_groups.specs.Looking.{merged, look_at, wanted_of, IsPlan, environment_at};
+ghost use Rattle.cq_groups.specs.Reads.{captured_by, groups_in, CanLook, AreShaped, IsComputable, Computes, IsComputed, fault_by};
+ghost use Rattle.cq_groups.specs.Looking.{merged, look_at, wanted_of, looks_of, environment_at};
 
-use crate::alone::is_alone;
 use crate::gathering::gather;
 use crate::looks::looks_at;
 use crate::near::near_node;
 use crate::reads::{Look, Looks, pick_group, read_groups};
-use crate::shard::{Shard, one_shard};
-use crate::tables::tables_of;
+use crate::shard::{Shard, shard_alone};
 use crate::wanted::wanted_by;
 use cq_answer::{Answer, Fault, What};
 use cq_catalog::Catalog;
 use cq_group::{GroupError, GroupState, Tables};
-use cq_queries::run_query;
-use cq_router::router;
+use cq_plan::touched_by_query;
 use cq_store::Store;
 use cq_tree::{Query, QueryError, Who};
-use cq_value::{Names, NoMemory, Results};
+use cq_value::{Names, NoMemory};
+use cq_whole::{run_statement, tables_of};
 use std::alloc::Global;
 
 /// The most rows of a group of a query.
 const MOST_ROWS: u64 = 2147483648;
 
-/// The looks of a query that runs: one without CTEs and IN subqueries, which the router takes.
-fn plan(alloc: Global, catalog: &Catalog, query: &Query) -> Result<Option<Looks>, NoMemory>
-    ensures { IfOk result (IsPlan catalog.now query.now) }
+/// The looks of a query: in each group that it touches, those of its tables that have a shard there.
+fn plan(alloc: Global, catalog: &Catalog, query: &Query) -> Result<Looks, NoMemory>
+    ensures { IfOk result (λ looks. looks ≡ looks_of catalog.now query.now) }
 {
-    if !is_alone(query) {
-        return Ok(None);
-    }
-    match router(alloc, query, catalog)? {
-        Some(routed) => {
-            let tables = tables_of(alloc, query)?;
-            let looks = looks_at(alloc, catalog, tables.as_slice(), routed.touched.as_slice())?;
-            Ok(Some(looks))
-        }
-        None => Ok(None),
-    }
+    let groups = touched_by_query(alloc, catalog, query)?;
+    let tables = tables_of(alloc, query)?;
+    looks_at(alloc, catalog, tables.as_slice(), groups.as_slice())
 }
 
 /// The answer of a query over the rows of its tables.
 fn compute(alloc: Global, query: &Query, names: Names, tables: &Tables) -> Answer
-    requires { IsSafeQuery query.now tables.now [] }
+    requires { IsComputable query.now tables.now }
     ensures { Computes query.now tables.now names result }
 {
-    let none = Results::new(alloc);
-    match run_query(alloc, query, tables, &none) {
+    match run_statement(alloc, query, tables) {
         Ok(rows) => Answer::Table { names, rows },
         Err(QueryError::Rows) => Answer::Failed(Fault::Limit {
             what: What::Rows,
@@ -103,7 +91,7 @@ fn look_and_compute<S: Store>(
     requires resting { AreResting S.state groups.old.items }
     requires there { AllByRecursion (CanLook near groups.old.items) looks.now }
     requires ascending { IsAscendingFrom 0 (groups_in looks.now) }
-    requires safe { IsSafeQuery query.now (merged (captured_by groups.old.items looks.now)) [] }
+    requires safe { IsComputable query.now (merged (captured_by groups.old.items looks.now)) }
     ensures computed { IsComputed S.state who near query.now looks.now (merged (captured_by groups.old.items looks.now)) groups.old.items groups.new.items result }
     ensures goes_on { GoOn S.state groups.old.items groups.new.items }
 {
@@ -131,7 +119,7 @@ fn pick_and_compute<S: Store>(
 ) -> Answer
     requires resting { AreResting S.state groups.old.items }
     requires there { CanLook near groups.old.items (look_at shard) }
-    requires safe { IsSafeQuery query.now (wanted_of groups.old.items query.now shard) [] }
+    requires safe { IsComputable query.now (wanted_of groups.old.items query.now shard) }
     ensures computed { IsComputed S.state who near query.now (look_at shard ∷ []) (wanted_of groups.old.items query.now shard) groups.old.items groups.new.items result }
     ensures goes_on { GoOn S.state groups.old.items groups.new.items }
 {
@@ -167,18 +155,16 @@ pub fn answer_query<S: Store>(
     requires some { 0 < nodes }
     requires legal { (g : ℕ) → IsLegal catalog.now g (journal_in (journals_of groups.old.items) g) }
     requires computable { IsReadable catalog.now query.now }
+    requires runs { refusal_in catalog.now (statement.Select query.now) ≡ None }
     ensures answered { (run : Run) (settings : Settings) → run.workers ≡ nodes → IsAnswered rules run (environment_at catalog.now settings) (environment_at catalog.now settings) who (journals_of groups.old.items) (journals_of groups.new.items) (Some (statement.Select query.now)) result }
     ensures blamed { (node shard before after : ℕ) → result ≡ answer.Failed (fault.Worker node shard before after) → HasFailed S.state node shard before after groups.old.items groups.new.items }
     ensures goes_on { GoOn S.state groups.old.items groups.new.items }
 {
-    let Ok(planned) = plan(alloc, catalog, query) else {
+    let Ok(looks) = plan(alloc, catalog, query) else {
         return Answer::Failed(Fault::Memory);
     };
-    let Some(looks) = planned else {
-        return Answer::Failed(Fault::NotBuilt);
-    };
     let near = near_node(catalog, nodes, looks.as_slice());
-    match one_shard(query, looks.as_slice()) {
+    match shard_alone(query, looks.as_slice()) {
         Some(shard) => pick_and_compute(alloc, groups, who, near, query, shard),
         None => look_and_compute(alloc, groups, who, near, query, looks.as_slice()),
     }

@@ -1,7 +1,8 @@
 ghost use Rattle.std.specs.Prelude.{◌≡◌};
 ghost use Rattle.cq_tree.specs.declared.query.Query.{out-Query};
-ghost use Rattle.cq_groups.specs.Looking.{one_shard as one_shard_by_rule};
+ghost use Rattle.cq_groups.specs.Looking.{one_shard as one_shard_by_rule, shard_alone as shard_alone_by_rule};
 
+use crate::alone::is_alone;
 use crate::reads::Look;
 use cq_tree::{FromTree, Query};
 
@@ -13,7 +14,7 @@ pub struct Shard {
 }
 
 /// The only shard that a query reads by its looks, where its FROM is one table.
-pub fn one_shard(query: &Query, looks: &[Look]) -> Option<Shard>
+fn one_shard(query: &Query, looks: &[Look]) -> Option<Shard>
     ensures { result ≡ one_shard_by_rule (out-Query query.now).from looks.now }
 {
     let FromTree::Table(table, _) = &query.from else {
@@ -30,6 +31,17 @@ pub fn one_shard(query: &Query, looks: &[Look]) -> Option<Shard>
             group: *group,
             table: *table,
         })
+    } else {
+        None
+    }
+}
+
+/// The only shard that a query reads by its looks, where its FROM is one table and it has neither CTEs nor IN subqueries.
+pub fn shard_alone(query: &Query, looks: &[Look]) -> Option<Shard>
+    ensures { result ≡ shard_alone_by_rule query.now looks.now }
+{
+    if is_alone(query) {
+        one_shard(query, looks)
     } else {
         None
     }

@@ -32,8 +32,8 @@ fn joined_groups(alloc: Global, touches: Items<Touch>) -> Result<Positions, NoMe
     Ok(groups)
 }
 
-/// The groups that a query touches.
-fn touched_by_query(alloc: Global, catalog: &Catalog, q: &Query) -> Result<Positions, NoMemory>
+/// The groups that a query touches, in ascending order.
+pub fn touched_by_query(alloc: Global, catalog: &Catalog, q: &Query) -> Result<Positions, NoMemory>
     ensures { IfOk result (λ groups. groups ≡ touched_by_rule catalog.now (statement.Select q.now)) }
 {
     let groups = joined_groups(alloc, touches(alloc, catalog, q)?)?;
