@@ -20,7 +20,7 @@ use Rattle.cq_planning.specs.Database.{shape_in}
 use Rattle.cq_planning.specs.Parts.{part}
 use Rattle.cq_planning.specs.Touched.{touched, among}
 use Rattle.cq_history.specs.Run.{Run, Environment}
-use Rattle.cq_history.specs.Refusals.{rules, refusal_in}
+use Rattle.cq_history.specs.Refusals.{rules, write_refusal}
 use Rattle.cq_history.specs.Journals.{journal_in, held_in, in_each}
 use Rattle.cq_history.specs.Legality.{IsKeyed}
 use Rattle.cq_history.specs.Standing.{HasIds as HasIdsBy, IsReady}
@@ -92,7 +92,7 @@ module _ {X : Type 0} (c : Contents) (op : ShardOp) (old : List (GroupState X)) 
 
 -- ---- the answer
 
-module _ {X : Type 0} (run : Run) (e : Environment) (who : Who) (op : ShardOp) (old new : List (GroupState X)) (runs : refusal_in e.catalog (statement.Write op) ≡ None) (keyed : IsKeyed e.catalog (table_of op)) (writable : IsWritable e.catalog op) (shards : HasShards e.catalog old (table_of op)) (count : length new ≡ length old) where
+module _ {X : Type 0} (run : Run) (e : Environment) (who : Who) (op : ShardOp) (old new : List (GroupState X)) (runs : write_refusal e.catalog op ≡ None) (keyed : IsKeyed e.catalog (table_of op)) (writable : IsWritable e.catalog op) (shards : HasShards e.catalog old (table_of op)) (count : length new ≡ length old) where
   w : IsWriting rules e op
   w = is_writing e op runs keyed writable
 

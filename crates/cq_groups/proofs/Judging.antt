@@ -26,10 +26,10 @@ use Rattle.cq_journal.specs.Journals.{replay}
 use Rattle.cq_journal.proofs.Fitting.{replay_within}
 use Rattle.cq_planning.specs.Database.{shape_in, IsRowOf}
 use Rattle.cq_planning.specs.Parts.{part}
-use Rattle.cq_planning.specs.Refusals.{changes_distribution, refusal_of}
+use Rattle.cq_planning.specs.Refusals.{changes_distribution, refusal_of_write}
 use Rattle.cq_planning.specs.Touched.{touched, among}
 use Rattle.cq_history.specs.Run.{Environment}
-use Rattle.cq_history.specs.Refusals.{rules, refusal_in, is_built, unless_built}
+use Rattle.cq_history.specs.Refusals.{rules, write_refusal, is_built, unless_built}
 use Rattle.cq_history.specs.Journals.{journal_in}
 use Rattle.cq_history.specs.Legality.{LeavesColumn, IsLegalKind, IsLegal, IsKeyed}
 use Rattle.cq_history.specs.Computable.{column_bits, IsWritable}
@@ -56,9 +56,9 @@ not_local Local e q = cc
 not_local (Distributed at colocation first_shard) e q = cc
 not_local (Reference group shard) e q = cc
 
-module _ (c : Contents) (op : ShardOp) (runs : refusal_in c (statement.Write op) ≡ None) where
-  allowed : (is_built c (statement.Write op) ≡ true) × (refusal_of c (statement.Write op) ≡ None)
-  allowed = unless_none (is_built c (statement.Write op)) (refusal_of c (statement.Write op)) runs
+module _ (c : Contents) (op : ShardOp) (runs : write_refusal c op ≡ None) where
+  allowed : (is_built c (statement.Write op) ≡ true) × (refusal_of_write c op ≡ None)
+  allowed = unless_none (is_built c (statement.Write op)) (refusal_of_write c op) runs
 
   -- its table is a distributed table or a reference table
   pub its_not_local : place_at c (table_of op) ≡ Local → ⊥
@@ -84,11 +84,11 @@ no_refusal : (b : Bool) (why : Unsupported) → cond b (Some why) None ≡ None 
 no_refusal true why e = cc
 no_refusal false why e = refl
 
-module _ (e : Environment) (op : ShardOp) (runs : refusal_in e.catalog (statement.Write op) ≡ None) (keyed : IsKeyed e.catalog (table_of op)) (writable : IsWritable e.catalog op) where
+module _ (e : Environment) (op : ShardOp) (runs : write_refusal e.catalog op ≡ None) (keyed : IsKeyed e.catalog (table_of op)) (writable : IsWritable e.catalog op) where
   fitting : IsFitting e.catalog op
   fitting = by_kind op writable (allowed e.catalog op runs).1
     where
-      by_kind : (w : ShardOp) → IsWritable e.catalog w → refusal_of e.catalog (statement.Write w) ≡ None → IsFitting e.catalog w
+      by_kind : (w : ShardOp) → IsWritable e.catalog w → refusal_of_write e.catalog w ≡ None → IsFitting e.catalog w
       by_kind (Insert table rows) can none = can.fits
       by_kind (Update table filter_ sets) can none = (leaves (place_at e.catalog table) sets (no_refusal (changes_distribution (place_at e.catalog table) sets) unsupported.DistributionColumn none), can.fits)
       by_kind (Remove table filter_) can none = tt

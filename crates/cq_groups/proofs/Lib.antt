@@ -7,7 +7,6 @@ pub mod LookLaws
 pub mod StepLaws
 pub mod QueryLaws
 pub mod AloneLaws
-pub mod Nodes
 pub mod Turning
 pub mod Holding
 pub mod Stopping

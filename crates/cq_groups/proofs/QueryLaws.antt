@@ -79,8 +79,8 @@ module _ {X : Type 0} (c : Contents) (q : Query) (groups : List (GroupState X)) 
   pub plan_safe : (looks : List Look) → looks ≡ looks_of c q → IsReadable c q → ((g : ℕ) → IsLegal c g (journal_in (journals_of groups) g)) → IsComputable q (merged (captured_by groups looks))
   plan_safe looks is readable legal = subst (λ ls. IsComputable q (merged (captured_by groups ls))) (sym is) (can_compute readable legal)
 
-  module _ (not_refused : refusal_in c (statement.Select q) ≡ None) where
-    module _ (run : Run) (settings : Settings) (who : Who) (new : List (GroupState X)) (count : length (journals_of new) ≡ length (journals_of groups)) where
+  module _ (run : Run) (settings : Settings) (not_refused : refusal_in (environment_at c settings) (statement.Select q) ≡ None) where
+    module _ (who : Who) (new : List (GroupState X)) (count : length (journals_of new) ≡ length (journals_of groups)) where
       abbrev pub the_environment : Environment
       the_environment = record { catalog = c; settings = settings }
 
@@ -99,7 +99,7 @@ module _ {X : Type 0} (c : Contents) (q : Query) (groups : List (GroupState X)) 
           let suffices = tables_suffice q (seen_whole c (touched c (statement.Select q)) (journal_in (journals_of groups))) read_of agrees in
           subst (λ v. IsAnswered rules run the_environment the_environment who (journals_of groups) (journals_of new) (Some (statement.Select q)) (answer.Failed (fault.Limit what.Rows v))) (sym h.0)
           (large_is_answered rules run the_environment who (journals_of groups) (journals_of new) q not_refused
-          (λ alone simple. (readable.large alone simple, elim h.1 [ inl big ↦ absurd (no_large_step q read_of alone big) | inr large ↦ suffices.3 large ])) (subst (λ gs. AreRead who gs groups new) the_groups grows) count)
+          (λ alone simple. (readable.large simple, elim h.1 [ inl big ↦ absurd (no_large_step q read_of alone big) | inr large ↦ suffices.3 large ])) (subst (λ gs. AreRead who gs groups new) the_groups grows) count)
       query_answered readable grows (answer.Failed fault.Memory) h =
           read_lacks_memory rules run the_environment who (journals_of groups) (journals_of new) q (touched c (statement.Select q)) not_refused (λ g m. m) (subst (λ gs. AreRead who gs groups new) the_groups grows) count
       query_answered readable grows a h = absurd h
@@ -166,9 +166,9 @@ pick_stops state who near g old new group.Memory f same = tt
 module _ (run : Run) (c : Contents) (settings : Settings) (who : Who) (js : List Journal) (q : Query) where
   -- memory ran out first
   pub query_lacks_memory : IsAnswered rules run (environment_at c settings) (environment_at c settings) who js js (Some (statement.Select q)) (answer.Failed fault.Memory)
-  query_lacks_memory = by_refusal (refusal_in c (statement.Select q)) refl
+  query_lacks_memory = by_refusal (refusal_in (environment_at c settings) (statement.Select q)) refl
     where
-      by_refusal : (o : Option Fault) → refusal_in c (statement.Select q) ≡ o → IsAnswered rules run (environment_at c settings) (environment_at c settings) who js js (Some (statement.Select q)) (answer.Failed fault.Memory)
+      by_refusal : (o : Option Fault) → refusal_in (environment_at c settings) (statement.Select q) ≡ o → IsAnswered rules run (environment_at c settings) (environment_at c settings) who js js (Some (statement.Select q)) (answer.Failed fault.Memory)
       by_refusal None r = read_lacks_memory rules run (environment_at c settings) who js js q [] r (λ g m. cc) (none_grow who (λ g. Read) js) refl
       by_refusal (Some f) r =
           idle_is_answered rules run (environment_at c settings) who js (Some (statement.Select q)) (answer.Failed fault.Memory)

@@ -12,7 +12,6 @@ mod queries;
 mod reads;
 mod shard;
 mod staging;
-mod tables;
 mod wanted;
 mod writes;
 
@@ -22,6 +21,5 @@ pub use laws::fault_laws;
 pub use looks::looks_at;
 pub use queries::answer_query;
 pub use reads::{Look, Looks, pick_group, read_groups};
-pub use tables::tables_of;
 pub use wanted::wanted_by;
 pub use writes::write_groups;

@@ -1,4 +1,4 @@
--- A query without CTE and IN subquery depends on the rows of its tables alone.
+-- A query without CTE and IN subquery has no results to find first.
 use Rattle.std.proofs.Common.{◌≡◌, ◌+◌, ℕ, true, List, [], ◌∷◌, ◌++◌, filter, refl, sym, ◌∙◌, ap, subst, arith}
 use Rattle.std.specs.Prelude.{replicate, ◌||◌}
 use Rattle.std.specs.List.Sorted.{IsPermutation}
@@ -13,61 +13,6 @@ use Rattle.cq_meaning.specs.Queries.{columns_in, joins, item_rows, from_rows, me
 use Rattle.cq_meaning.specs.Results.{results_of, count_of, with_ctes, with_ins, with_ins_from, with_ins_all, ins_in, ins_in_from, ins_in_ctes, ins_in_all, Answers}
 use Rattle.cq_meaning.specs.Limits.{has_large_group, is_large, is_large_from}
 use Rattle.cq_history.specs.Refusals.{is_alone}
-use Rattle.cq_history.specs.Looks.{tables_from, tables_in, Agree}
-use Rattle.cq_history.specs.Laws.{TablesSuffice}
-
--- ---- the rows of a FROM
-
-agree_left : (xs ys : List ℕ) (db dc : Tables) → Agree (xs ++ ys) db dc → Agree xs db dc
-agree_left [] ys db dc a = tt
-agree_left (x ∷ xs) ys db dc a = (a.0, agree_left xs ys db dc a.1)
-
-agree_right : (xs ys : List ℕ) (db dc : Tables) → Agree (xs ++ ys) db dc → Agree ys db dc
-agree_right [] ys db dc a = a
-agree_right (x ∷ xs) ys db dc a = agree_right xs ys db dc a.1
-
-module _ (db dc : Tables) (rs : Results) where
-  mutual
-    pub rows_alike : (f : FromTree) (start : ℕ) → Agree (tables_from f) db dc → from_rows f start db rs ≡ from_rows f start dc rs
-    rows_alike (Table t n) start h = h.0
-    rows_alike (Sub' p (more_of-Query q end_of-Query)) start h = meaning_alike q h
-    rows_alike (Result i n) start h = refl
-    rows_alike (Cross' p (more_of-FromTree a end_of-FromTree) q (more_of-FromTree b end_of-FromTree)) start h =
-        λ i. product (rows_alike a start (agree_left (tables_from a) (tables_from b) db dc h) i) (rows_alike b (start + columns_in a) (agree_right (tables_from a) (tables_from b) db dc h) i)
-    rows_alike (Inner' p (more_of-FromTree a end_of-FromTree) q (more_of-FromTree b end_of-FromTree) on) start h =
-        λ i. filter (joins on rs start) (product (rows_alike a start (agree_left (tables_from a) (tables_from b) db dc h) i) (rows_alike b (start + columns_in a) (agree_right (tables_from a) (tables_from b) db dc h) i))
-    rows_alike (Left' p (more_of-FromTree a end_of-FromTree) q (more_of-FromTree b end_of-FromTree) on) start h =
-        λ i. left_join (joins on rs start) (columns_in b) (rows_alike a start (agree_left (tables_from a) (tables_from b) db dc h) i) (rows_alike b (start + columns_in a) (agree_right (tables_from a) (tables_from b) db dc h) i)
-
-    pub meaning_alike : (q : Query) → Agree (tables_in q) db dc → meaning q db rs ≡ meaning q dc rs
-    meaning_alike (Query' cs ctes ss subs from filter_ grouped keys aggs having items shown distinct order limit offset names) h =
-        λ i. cut shown limit offset (sorted (keys_cmp order) (distinct_if distinct (item_rows filter_ grouped keys aggs having items rs (rows_alike from 0 h i))))
-
-  pub answers_alike : (q : Query) (rows : List Row) → Agree (tables_in q) db dc → AnswersWith q dc rs rows → AnswersWith q db rs rows
-  answers_alike (Query' cs ctes ss subs from filter_ grouped keys aggs having items shown distinct order limit offset names) rows h a = (
-    a.0,
-    subst (λ (v : List Row). IsPermutation (distinct_if distinct (item_rows filter_ grouped keys aggs having items rs v)) a.0) (sym (rows_alike from 0 h)) a.1,
-    a.2,
-    a.3,
-  )
-
-  mutual
-    pub large_from_alike : (f : FromTree) → Agree (tables_from f) db dc → is_large_from f db rs ≡ is_large_from f dc rs
-    large_from_alike (Table t n) h = refl
-    large_from_alike (Sub' p (more_of-Query q end_of-Query)) h = large_alike q h
-    large_from_alike (Result i n) h = refl
-    large_from_alike (Cross' p (more_of-FromTree a end_of-FromTree) q (more_of-FromTree b end_of-FromTree)) h =
-        λ i. large_from_alike a (agree_left (tables_from a) (tables_from b) db dc h) i || large_from_alike b (agree_right (tables_from a) (tables_from b) db dc h) i
-    large_from_alike (Inner' p (more_of-FromTree a end_of-FromTree) q (more_of-FromTree b end_of-FromTree) on) h =
-        λ i. large_from_alike a (agree_left (tables_from a) (tables_from b) db dc h) i || large_from_alike b (agree_right (tables_from a) (tables_from b) db dc h) i
-    large_from_alike (Left' p (more_of-FromTree a end_of-FromTree) q (more_of-FromTree b end_of-FromTree) on) h =
-        λ i. large_from_alike a (agree_left (tables_from a) (tables_from b) db dc h) i || large_from_alike b (agree_right (tables_from a) (tables_from b) db dc h) i
-
-    pub large_alike : (q : Query) → Agree (tables_in q) db dc → is_large q db rs ≡ is_large q dc rs
-    large_alike (Query' cs ctes ss subs from filter_ grouped keys aggs having items shown distinct order limit offset names) h =
-        λ i. large_from_alike from h i || has_large_group filter_ grouped keys rs (rows_alike from 0 h i)
-
--- ---- a query alone has no results
 
 mutual
   no_ins : (q : Query) (db : Tables) (k : ℕ) (rs : Results) → ins_in q ≡ 0 → with_ins q db k rs ≡ rs
@@ -120,7 +65,7 @@ alone_has_none (Query' cs ctes ss subs from filter_ grouped keys aggs having ite
     empty_rows : ℕ → Results
     empty_rows k = replicate k []
 
--- ---- the law
+-- ---- so its answers are those over none
 
 pub alone_answers : (q : Query) (db : Tables) (rows : List Row) → is_alone q ≡ true → AnswersWith q db [] rows → Answers q db rows
 alone_answers q db rows h a = subst (λ (rs : Results). AnswersWith q db rs rows) (sym (alone_has_none q db h)) a
@@ -130,10 +75,3 @@ answers_alone q db rows h a = subst (λ (rs : Results). AnswersWith q db rs rows
 
 pub alone_large : (q : Query) (db : Tables) → is_alone q ≡ true → is_large q db (results_of q db) ≡ is_large q db []
 alone_large q db h = ap (is_large q db) (alone_has_none q db h)
-
-pub tables_suffice : TablesSuffice
-tables_suffice q db dc h agree = (
-  alone_has_none q db h,
-  λ rows a. alone_answers q db rows h (answers_alike db dc [] q rows agree (answers_alone q dc rows h a)),
-  λ l. alone_large q db h ∙ large_alike db dc [] q agree ∙ sym (alone_large q dc h) ∙ l,
-)

@@ -35,7 +35,7 @@ IsSafeStatement q db = AreSafeSteps db (no_results q) (steps_of q) × (has_large
 pub record IsReadable (c : Contents) (q : Query) : Type 0 where
   pub safe : (db : Tables) → ((t : ℕ) → AllWithin (column_bits c t) (table_rows db t)) → IsSafeStatement q db
   pub narrows : (rows : List Row) → Narrows c (touched c (statement.Select q)) (λ db. Answers q db rows)
-  pub large : is_alone q ≡ true → GivesSimply c q → Narrows c (touched c (statement.Select q)) (IsLarge q)
+  pub large : GivesSimply c q → Narrows c (touched c (statement.Select q)) (IsLarge q)
 
 -- the rows of an INSERT fit their table, and an UPDATE sets values of its columns' sorts
 abbrev pub FitsTable : Contents → ShardOp → Type 0

@@ -44,7 +44,6 @@ use Rattle.cq_journal.specs.Records.{Journal}
 use Rattle.cq_history.specs.Journals.{none, Kinds, journal_in, held_in, in_each, with_entries}
 use Rattle.cq_history.specs.Legality.{LeavesColumn, IsLegal, IsKeyed}
 use Rattle.cq_history.specs.Refusals.{is_alone}
-use Rattle.cq_history.specs.Looks.{tables_in, Agree}
 use Rattle.cq_history.specs.Demands.{demands, rows_with}
 use Rattle.cq_history.specs.Standing.{most_rows, AreAmong, counted, reply_in, HasIds, IsReady, tag_of, StandsIn, Stands}
 use Rattle.cq_store.specs.Stores.{StoreState, Rose}
@@ -167,11 +166,6 @@ abbrev pub LargeDoes : Type 0
 LargeDoes = (rules : Rules) (run : Run) (e : Environment) (d : Deed) (seen : ℕ → Journal) (q : Query) → IsReading rules e d seen q →
     (is_alone q ≡ true → GivesSimply e.catalog q → Narrows e.catalog (rules.touched e.catalog (statement.Select q)) (IsLarge q) × IsLarge q (seen_whole e.catalog (rules.touched e.catalog (statement.Select q)) seen)) →
     Does rules run e d (Some (statement.Select q)) (answer.Failed (fault.Limit what.Rows most_rows))
-
--- a query without CTE and IN subquery has no results to find first, and depends on the rows of its tables alone
-abbrev pub TablesSuffice : Type 0
-TablesSuffice = (q : Query) (db dc : Tables) → is_alone q ≡ true → Agree (tables_in q) db dc →
-    (results_of q db ≡ []) × ((rows : List Row) → Answers q dc rows → Answers q db rows) × (IsLarge q dc → IsLarge q db)
 
 -- the second database has of the query's one table the rows alone that WHERE can keep
 abbrev pub HasWanted : Query → ℕ → Tables → Tables → Type 0

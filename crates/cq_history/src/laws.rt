@@ -1,7 +1,7 @@
 ghost use Rattle.cq_history.specs.Laws.{PartsAreMade, PartIsRefused, PartsHaveEffect, MadeDoes, RefusedDoes, LacksDoes, ReadDoes, LargeDoes, OneTableNarrows, GrowsOn, GrowsNone, GrowsEach, GrowsInOne, DeedsStay, GrowsByOther, DeedsStand, BlockIsDone, DoneStands};
 ghost use Rattle.cq_history.specs.Demands.{KeptHasDemands};
 ghost use Rattle.cq_history.specs.Laws.{OtherAccounts, FaultAccounts, NewAccounts};
-ghost use Rattle.cq_history.specs.Laws.{TablesSuffice, WantedSuffice};
+ghost use Rattle.cq_history.specs.Laws.{WantedSuffice};
 ghost use Rattle.cq_history.specs.Laws.{LogBegins, LogGoesOn, AnswersGoOn, IdleIsAnswered, DeedIsAnswered, StaysLaidOut, CatalogGoesOn, LogStands};
 ghost use Rattle.cq_history.specs.Laws.{MadeIsAnswered, RefusedIsAnswered, LacksIsAnswered, ReadIsAnswered, LargeIsAnswered, ReadLacksMemory, ReadFails, WriteFails, WriteLacksMemory, RefusalIsAnswered, OpensLaidOut, CatalogIsAnswered};
 
@@ -27,10 +27,8 @@ pub fn statement_laws()
     ensures grows_in_one { GrowsInOne }
 {}
 
-/// What a query without CTE and subquery in WHERE depends on: the rows of its tables, and of one table those that WHERE can keep. Does
-/// nothing.
+/// On which rows a query of one table without CTE and IN subquery depends: those that WHERE can keep. Does nothing.
 pub fn query_laws()
-    ensures tables { TablesSuffice }
     ensures demands { KeptHasDemands }
     ensures wanted { WantedSuffice }
 {}

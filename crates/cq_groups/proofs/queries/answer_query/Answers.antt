@@ -8,7 +8,7 @@ use Rattle.cq_groups.proofs.ShardLaws.{shard_there, shard_safe, shard_answered}
 use Rattle.cq_groups.proofs.queries.answer_query.Goals as goal
 
 pub returns-in_default-clause-answered : goal.returns-in_default-clause-answered
-returns-in_default-clause-answered g c = λ run settings workers. query_lacks_memory run c.args.catalog.now settings c.args.who (journals_of c.args.groups.now.items) c.args.query.now
+returns-in_default-clause-answered g c = λ run settings workers runs. query_lacks_memory run c.args.catalog.now settings c.args.who (journals_of c.args.groups.now.items) c.args.query.now
 
 pub returns-in_default-clause-goes_on : goal.returns-in_default-clause-goes_on
 returns-in_default-clause-goes_on g c = go_on_itself g.S.Store.state c.args.groups.now.items c.requires.resting
@@ -24,9 +24,9 @@ pick_and_compute-requires-clause-safe g c =
     c.near_node-near.result c.near_node-near.ensures.some c.near_node-near.ensures.few c.requires.computable c.requires.legal
 
 pub returns-in-Some-clause-answered : goal.returns-in-Some-clause-answered
-returns-in-Some-clause-answered g c = λ run settings workers.
+returns-in-Some-clause-answered g c = λ run settings workers runs.
     shard_answered c.args.catalog.now c.args.query.now c.args.groups.now.items c.requires.shaped c.as_slice-2.result.now (c.as_slice-2.ensures ∙ c.in-Ok.ensures) c.in-Some.shard c.in-Some.ensures
-    c.near_node-near.result c.near_node-near.ensures.some c.near_node-near.ensures.few c.requires.runs run settings
+    c.near_node-near.result c.near_node-near.ensures.some c.near_node-near.ensures.few run settings runs
     c.args.who c.pick_and_compute.new.groups.items (as_many g.S.Store.state c.args.groups.now.items c.pick_and_compute.new.groups.items c.pick_and_compute.ensures.goes_on) g.S.Store.state c.requires.resting workers
     (c.near_node-near.ensures.near ∙ ap (λ (ls : List Look). near c.args.catalog.now c.args.nodes (groups_in ls)) (c.as_slice.ensures ∙ c.in-Ok.ensures)) c.requires.computable c.pick_and_compute.result c.pick_and_compute.ensures.computed
 
@@ -43,8 +43,8 @@ look_and_compute-requires-clause-safe g c =
     plan_safe c.args.catalog.now c.args.query.now c.args.groups.now.items c.requires.shaped c.as_slice-in-None.result.now (c.as_slice-in-None.ensures ∙ c.in-Ok.ensures) c.requires.computable c.requires.legal
 
 pub returns-clause-answered : goal.returns-clause-answered
-returns-clause-answered g c = λ run settings workers.
-    query_computed c.args.catalog.now c.args.query.now c.args.groups.now.items c.requires.shaped c.requires.runs run settings c.args.who c.look_and_compute.new.groups.items
+returns-clause-answered g c = λ run settings workers runs.
+    query_computed c.args.catalog.now c.args.query.now c.args.groups.now.items c.requires.shaped run settings runs c.args.who c.look_and_compute.new.groups.items
     (as_many g.S.Store.state c.args.groups.now.items c.look_and_compute.new.groups.items c.look_and_compute.ensures.goes_on) g.S.Store.state c.requires.resting c.near_node-near.result workers
     (c.near_node-near.ensures.near ∙ ap (λ (ls : List Look). near c.args.catalog.now c.args.nodes (groups_in ls)) (c.as_slice.ensures ∙ c.in-Ok.ensures)) c.requires.computable c.as_slice-in-None.result.now _ c.look_and_compute.result (c.as_slice-in-None.ensures ∙ c.in-Ok.ensures) refl
     c.look_and_compute.ensures.computed

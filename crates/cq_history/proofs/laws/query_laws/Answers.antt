@@ -1,9 +1,5 @@
-use Rattle.cq_history.proofs.Looks.{tables_suffice}
 use Rattle.cq_history.proofs.Demands.{kept_has_demands, wanted_suffice}
 use Rattle.cq_history.proofs.laws.query_laws.Goals as goal
-
-pub returns-clause-tables : goal.returns-clause-tables
-returns-clause-tables c = tables_suffice
 
 pub returns-clause-demands : goal.returns-clause-demands
 returns-clause-demands c = kept_has_demands
