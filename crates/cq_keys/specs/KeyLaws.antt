@@ -1,5 +1,6 @@
 -- The order of rows is total, and finds equal only what is one row.
-use Rattle.std.proofs.Common.{◌≡◌, ℕ, ℤ, pos, List, [], ◌∷◌, true, refl, ap, subst, Ordering, Less, Equal, Greater, nat_cmp, int_cmp}
+use Rattle.std.proofs.Common.{◌≡◌, ℕ, ℤ, pos, Bool, true, false, List, [], ◌∷◌, refl, ap, subst, Ordering, Less, Equal, Greater, nat_cmp, int_cmp}
+use Rattle.std.specs.Prelude.{⊤}
 use Rattle.std.specs.Ordering.{is_eq, ordering_then, then_cmp, on}
 use Rattle.std.specs.Cmp.{IsTotalOrder}
 use Rattle.std.specs.Cmp.Lexicographic.{slice_cmp}
@@ -9,6 +10,10 @@ use Rattle.cq_value.specs.declared.value.Value.{Value}
 use Rattle.cq_value.specs.declared.value.Value.TheVariants.{Null, Int, Text}
 use Rattle.cq_value.specs.Order.{value_cmp}
 use Rattle.cq_meaning.specs.Values.{Row, row_cmp, same_row}
+
+abbrev IsFalse : Bool → Type 0
+IsFalse false = ⊤
+IsFalse true = ⊥
 
 -- numbers, texts, NULL
 abbrev class : Value → ℕ
@@ -51,32 +56,35 @@ value_cmp_total = subst IsTotalOrder (λ i x y. is_by_parts x y i) (then_total (
 pub row_cmp_total : IsTotalOrder row_cmp
 row_cmp_total = lists_total value_cmp_total
 
+apart : false ≡ true → ⊥
+apart e = subst IsFalse e tt
+
 one_value : (a b : Value) → value_cmp a b ≡ Equal → a ≡ b
 one_value (Int m) (Int n) e = ap (λ k. Int k) (exact_signed m n e)
-one_value (Int m) (Text t) e = cc
-one_value (Int m) Null e = cc
-one_value (Text s) (Int n) e = cc
+one_value (Int m) (Text t) e = absurd (apart (ap is_eq e))
+one_value (Int m) Null e = absurd (apart (ap is_eq e))
+one_value (Text s) (Int n) e = absurd (apart (ap is_eq e))
 one_value (Text s) (Text t) e = ap (λ k. Text k) (exact_bytes s t e)
-one_value (Text s) Null e = cc
-one_value Null (Int n) e = cc
-one_value Null (Text t) e = cc
+one_value (Text s) Null e = absurd (apart (ap is_eq e))
+one_value Null (Int n) e = absurd (apart (ap is_eq e))
+one_value Null (Text t) e = absurd (apart (ap is_eq e))
 one_value Null Null e = refl
 
 first_tie : (o p : Ordering) → is_eq (ordering_then o p) ≡ true → o ≡ Equal
-first_tie Less p e = cc
+first_tie Less p e = absurd (apart e)
 first_tie Equal p e = refl
-first_tie Greater p e = cc
+first_tie Greater p e = absurd (apart e)
 
 second_tie : (o p : Ordering) → is_eq (ordering_then o p) ≡ true → is_eq p ≡ true
-second_tie Less p e = cc
+second_tie Less p e = absurd (apart e)
 second_tie Equal p e = e
-second_tie Greater p e = cc
+second_tie Greater p e = absurd (apart e)
 
 pub one_row : (a b : Row) → same_row a b ≡ true → a ≡ b
 one_row [] [] e = refl
-one_row [] (y ∷ ys) e = cc
-one_row (x ∷ xs) [] e = cc
+one_row [] (y ∷ ys) e = absurd (apart e)
+one_row (x ∷ xs) [] e = absurd (apart e)
 one_row (x ∷ xs) (y ∷ ys) e =
     let h : x ≡ y = one_value x y (first_tie (value_cmp x y) (row_cmp xs ys) e) in
     let t : xs ≡ ys = one_row xs ys (second_tie (value_cmp x y) (row_cmp xs ys) e) in
-    cc
+    λ i. h i ∷ t i
