@@ -1,10 +1,9 @@
 -- Stores that fail, and where they are.
-use Rattle.std.proofs.Common.{◌≡◌, inl, inr, ℕ, zero, suc, ◌+◌, ◌<◌, ◌≤◌, List, [], ◌∷◌, length, map, refl, sym, ◌∙◌, ap, subst, arith, Some, slice_get}
+use Rattle.std.proofs.Common.{◌≡◌, inl, inr, ℕ, zero, suc, ◌+◌, ◌<◌, ◌≤◌, List, [], ◌∷◌, length, map, refl, sym, ◌∙◌, ap, subst, arith}
 use Rattle.std.specs.Prelude.{nat_eq, if◌then◌else◌}
 use Rattle.std.proofs.lemmas.Bool.Decides.{eqb_tells}
 use Rattle.std.specs.List.{AllZip, AllByRecursion, flat_map}
 use Rattle.cq_value.specs.declared.schema.Shape.{Shape}
-use Rattle.cq_tree.specs.declared.journal.Entry.{Entry}
 use Rattle.cq_answer.specs.declared.answer.Answer.{Answer}
 use Rattle.cq_answer.specs.declared.answer.Answer.TheVariants as answer
 use Rattle.cq_answer.specs.declared.fault.Fault.TheVariants as fault
@@ -14,13 +13,12 @@ use Rattle.cq_journal.specs.Stations.{node_of}
 use Rattle.cq_store.specs.Stores.{StoreState}
 use Rattle.cq_group.specs.declared.group.GroupState.{GroupState}
 use Rattle.cq_group.specs.declared.group.GroupTable.{GroupTable}
-use Rattle.cq_group.specs.Groups.{Outline, outline, outlines, entries_of, stores_of, node_at, copies_of, AreReplicasFrom, IsTableKept}
+use Rattle.cq_group.specs.Groups.{Outline, outline, entries_of, stores_of, node_at, copies_of, AreReplicasFrom, IsTableKept}
 use Rattle.cq_group.specs.Calls.{GoesOn, Lifted, SomeZip, Failed}
-use Rattle.cq_group.specs.Resting.{journals_of, IsResting, GoOn, HasFailedAt}
+use Rattle.cq_group.specs.Resting.{journals_of, GoOn, HasFailedAt}
 use Rattle.cq_history.specs.Faults.{IsShardIn, IsOnNode}
 use Rattle.cq_history.specs.Journals.{journal_in}
 use Rattle.cq_history.proofs.Lists.{all_append}
-use Rattle.cq_groups.specs.Reads.{IsShaped}
 use Rattle.cq_groups.specs.Answers.{FaultIsPlaced}
 use Rattle.cq_groups.proofs.Growth.{got, got_below, journal_at}
 

@@ -1,4 +1,4 @@
-use Rattle.std.proofs.Common.{◌≡◌, List, ap, subst, refl, ◌∙◌}
+use Rattle.std.proofs.Common.{List, ap, subst, refl, ◌∙◌}
 use Rattle.cq_group.specs.Resting.{journals_of}
 use Rattle.cq_history.specs.Faults.{near}
 use Rattle.cq_groups.specs.Reads.{Look, groups_in}
