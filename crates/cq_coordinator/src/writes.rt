@@ -47,12 +47,14 @@ fn answer_of(op: &ShardOp, outcome: Result<Reply, WriteError>) -> Answer
             what: What::Ids,
             number: MOST_IDS,
         }),
-        Err(WriteError::Worker {
-            node,
-            shard,
-            before,
-            after,
-        }) => Answer::Failed(Fault::Worker {
+        Err(
+            WriteError::Worker {
+                node,
+                shard,
+                before,
+                after,
+            },
+        ) => Answer::Failed(Fault::Worker {
             node,
             shard,
             before,

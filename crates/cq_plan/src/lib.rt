@@ -13,6 +13,6 @@ mod writes;
 pub use blocks::{Touched, prune, touches};
 pub use class_lists::{Classes, classes};
 pub use groups::in_order;
-pub use statements::touched;
+pub use statements::{touched, touched_by_query};
 pub use walk::{Touch, put_alone};
 pub use writes::{changes_distribution, groups_of_rows, groups_of_where, row_without_value};

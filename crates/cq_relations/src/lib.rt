@@ -9,8 +9,8 @@ mod relation;
 mod walk;
 
 pub use components::{
-    Block, Distributions, are_one_component, colocated, has_loose, is_one_class, partner_of, partners,
-    plain, staying, stays,
+    Block, Distributions, are_one_component, colocated, has_loose, is_one_class, partner_of,
+    partners, plain, staying, stays,
 };
 pub use places::{distribution_at, place_of, plus};
 pub use relation::{Distribution, OuterJoin, Pushable, Relation};

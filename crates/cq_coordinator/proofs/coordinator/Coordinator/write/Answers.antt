@@ -56,9 +56,9 @@ returns-clause-accounted g c = λ answers a is all.
     let new = c.write_groups.new.groups.items in
     answer_is_accounted state cl new answers a c.requires.sound c.write_groups.ensures.goes_on
     (λ node shard before after e.
-        write_blames (run_of cl.nodes cl.workers.items) (environment c.args.self.now) c.args.who c.args.op.now cl.groups.items new c.requires.runs (c.requires.keyed (table_of c.args.op.now)) c.requires.computable
-        (its_shards state cl c.args.op.now c.requires.sound c.requires.runs) c.write_groups.ensures.goes_on.count state c.in-Ok.divided c.write_groups.result c.write_groups.ensures.written node shard before after
-        (sym c.answer_of.ensures ∙ (sym is ∙ e)))
+    write_blames (run_of cl.nodes cl.workers.items) (environment c.args.self.now) c.args.who c.args.op.now cl.groups.items new c.requires.runs (c.requires.keyed (table_of c.args.op.now)) c.requires.computable
+    (its_shards state cl c.args.op.now c.requires.sound c.requires.runs) c.write_groups.ensures.goes_on.count state c.in-Ok.divided c.write_groups.result c.write_groups.ensures.written node shard before after
+    (sym c.answer_of.ensures ∙ (sym is ∙ e)))
     all
 
 pub returns-clause-sound : goal.returns-clause-sound
