@@ -1,5 +1,5 @@
 -- The answers that name no store: those of statements on the catalogue.
-use Rattle.std.proofs.Common.{◌≡◌, ◌⊎◌, inl, inr, ℕ, zero, suc, ◌+◌, ◌-◌, true, false, cond, List, [], ◌∷◌, sym, ◌∙◌, subst, Some, None, Option}
+use Rattle.std.proofs.Common.{◌≡◌, ◌⊎◌, inl, inr, ℕ, zero, suc, ◌+◌, ◌-◌, [], ◌∷◌, sym, ◌∙◌, subst, Some, None, Option}
 use Rattle.std.specs.Prelude.{option_map, nat_lt}
 use Rattle.cq_catalog.specs.Contents.{Contents}
 use Rattle.cq_catalog.specs.Refusals.{first_of}

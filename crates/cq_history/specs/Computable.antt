@@ -1,5 +1,5 @@
 -- What the binder makes sure of, so that a statement can be computed and planned.
-use Rattle.std.specs.Prelude.{◌≡◌, ◌<◌, ◌^◌, ⊤, ℕ, false, List, [], map}
+use Rattle.std.specs.Prelude.{◌≡◌, ◌<◌, ◌^◌, ⊤, ℕ, false, List, map}
 use Rattle.std.specs.List.{AllByRecursion}
 use Rattle.cq_value.specs.Tables.{Pair}
 use Rattle.cq_tree.specs.declared.query.Query.{Query}

@@ -1,5 +1,5 @@
 -- Stores that fail: which store an answer names, and how its count of faults accounts for the answers that name it.
-use Rattle.std.specs.Prelude.{◌≡◌, ◌≤◌, ◌<◌, ⊤, ℕ, Bool, true, IsTrue, ◌+◌, ◌%◌, ◌&&◌, List, [], ◌∷◌, length, filter, if◌then◌else◌, nat_eq, nat_lt}
+use Rattle.std.specs.Prelude.{◌≡◌, ◌≤◌, ◌<◌, ⊤, ℕ, Bool, IsTrue, ◌+◌, ◌%◌, ◌&&◌, List, [], ◌∷◌, length, filter, if◌then◌else◌, nat_eq, nat_lt}
 use Rattle.std.specs.List.{list_any, flat_map}
 use Rattle.cq_catalog.specs.Contents.{Contents}
 use Rattle.cq_catalog.specs.Placement.{place_at, colocation_at, HasShard, shard_in}

@@ -1,6 +1,6 @@
 -- The journal of a shard group, and the entries of a statement.
-use Rattle.std.specs.Prelude.{◌≡◌, ℕ, Bool, true, false, ◌&&◌, List, [], ◌∷◌, ◌++◌, take, drop, map, filter, length, fold, if◌then◌else◌, nat_eq, Option, Some, None, slice_index_or}
-use Rattle.std.specs.List.{list_any, AllByRecursion}
+use Rattle.std.specs.Prelude.{◌≡◌, ℕ, Bool, true, false, ◌&&◌, List, [], ◌∷◌, ◌++◌, take, drop, map, filter, length, if◌then◌else◌, nat_eq, slice_index_or}
+use Rattle.std.specs.List.{AllByRecursion}
 use Rattle.cq_value.specs.Tables.{Table, empty_table}
 use Rattle.cq_tree.specs.declared.journal.Who.{Who}
 use Rattle.cq_tree.specs.declared.journal.Entry.{Entry}

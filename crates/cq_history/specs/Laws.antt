@@ -13,7 +13,7 @@ use Rattle.cq_tree.specs.declared.query.Query.{Query, Query', out-Query}
 use Rattle.cq_tree.specs.declared.statement.Statement.TheVariants as statement
 use Rattle.cq_value.specs.Tables.{rows_of}
 use Rattle.cq_meaning.specs.Values.{Row, Tables, table_rows}
-use Rattle.cq_meaning.specs.Results.{Answers, count_of, results_of}
+use Rattle.cq_meaning.specs.Results.{Answers, count_of}
 use Rattle.cq_meaning.specs.Effects.{effect, reply_of, table_of, inserts}
 use Rattle.cq_value.specs.declared.schema.Column.{Column}
 use Rattle.cq_value.specs.declared.schema.With.{With}

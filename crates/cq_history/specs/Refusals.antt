@@ -1,5 +1,5 @@
 -- Why a bound statement doesn't run, and the rules of planning by which answers are judged.
-use Rattle.std.specs.Prelude.{ℕ, ◌+◌, Bool, true, false, not, nat_eq, Option, Some, None, option_map}
+use Rattle.std.specs.Prelude.{◌+◌, Bool, true, false, not, nat_eq, Option, Some, None, option_map}
 use Rattle.cq_tree.specs.declared.query.Query.{Query, Query'}
 use Rattle.cq_tree.specs.declared.statement.Statement.{Statement}
 use Rattle.cq_tree.specs.declared.write.ShardOp.{ShardOp}

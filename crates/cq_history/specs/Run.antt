@@ -1,10 +1,9 @@
 -- What a run was given, and the catalogue and the settings in force at a statement.
 use Rattle.std.specs.Prelude.{◌≡◌, ℕ, zero, suc, ◌+◌, ◌-◌, ◌/◌, ◌<◌, Bool, false, ◌&&◌, ◌||◌, not, List, [], ◌∷◌, Option, Some, None, fold, nat_eq, nat_lt, slice_get, if◌then◌else◌}
-use Rattle.cq_value.specs.declared.schema.Shape.{Shape}
 use Rattle.cq_tree.specs.declared.journal.Who.{Who}
 use Rattle.cq_tree.specs.declared.statement.Statement.{Statement}
 use Rattle.cq_tree.specs.declared.statement.Statement.TheVariants.{CreateTable, Distribute, Reference, Setting}
-use Rattle.cq_catalog.specs.Contents.{Contents, nothing, shape_of, count_in}
+use Rattle.cq_catalog.specs.Contents.{Contents, nothing, count_in}
 use Rattle.cq_catalog.specs.Creation.{with_table}
 use Rattle.cq_catalog.specs.Distribution.{decision_of, distributed_by, with_reference}
 use Rattle.cq_catalog.specs.Placement.{place_at, colocation_at, IsDistributed}

@@ -7,7 +7,7 @@ use Rattle.cq_value.specs.declared.schema.With.{With}
 use Rattle.cq_value.specs.Tables.{Table}
 use Rattle.cq_tree.specs.declared.journal.Who.{Who}
 use Rattle.cq_tree.specs.declared.journal.EntryKind.TheVariants.{Read, Write}
-use Rattle.cq_tree.specs.declared.query.Query.{Query, out-Query}
+use Rattle.cq_tree.specs.declared.query.Query.{out-Query}
 use Rattle.cq_tree.specs.declared.write.ShardOp.{ShardOp}
 use Rattle.cq_tree.specs.declared.write.ShardOp.TheVariants.{Insert, Update, Remove}
 use Rattle.cq_tree.specs.declared.write.Reply.{Reply}
