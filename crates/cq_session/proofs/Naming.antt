@@ -55,7 +55,7 @@ binding_named (binding.Value row column) node shard before after w = cc
 binding_named (binding.Limit limited number) node shard before after w = cc
 binding_named binding.Memory node shard before after w = cc
 
-same_error : {A : Type 0} (f g : Fault) → Err {A} f ≡ Err g → f ≡ g
+same_error : {T : Type 0} (f g : Fault) → Path (Result T Fault) (Err f) (Err g) → f ≡ g
 same_error f g e = cc
 
 reading_named : (r : Result Statement BindError) (f : Fault) → of_reading r ≡ Err f → NamesNoStore f
@@ -74,7 +74,15 @@ text_named : (text : List ℕ) (tables : List TableInfo) (f : Fault) → reading
 unfolding reading_of
 text_named text tables f e = tokens_named (tokens text) (length text) tables f e
 
+-- what a text is read as, where it is refused by a store
+reads_worker : (read : Result Statement Fault) (f : Fault) (node shard before after : ℕ) → f ≡ fault.Worker node shard before after → Reads read (Err f) → read ≡ Err (fault.Worker node shard before after)
+reads_worker read f node shard before after e h = subst (λ (v : Fault). Reads read (Err v)) e h
+
+same_failed : (f g : Fault) → answer.Failed f ≡ answer.Failed g → f ≡ g
+same_failed f g e = cc
+
 -- so does the answer to a text that isn't bound
 pub unread_named : (a : Answer) (f : Fault) (text : List ℕ) (tables : List TableInfo) → a ≡ answer.Failed f → Reads (reading_of text tables) (Err f) → NamesNone a
-unread_named a (fault.Worker n s b f) text tables is reads = λ node shard before after e. text_named text tables (fault.Worker n s b f) reads n s b f refl
-unread_named a f text tables is reads = λ node shard before after e. let bad : answer.Failed f ≡ answer.Failed (fault.Worker node shard before after) = sym is ∙ e in cc
+unread_named a f text tables is reads = λ node shard before after e.
+    text_named text tables (fault.Worker node shard before after)
+    (reads_worker (reading_of text tables) f node shard before after (same_failed f (fault.Worker node shard before after) (sym is ∙ e)) reads) node shard before after refl

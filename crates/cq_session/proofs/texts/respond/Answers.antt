@@ -25,4 +25,4 @@ returns-in-Err-clause-reads g c = reads_err c.in-Err.fault (reading_of c.args.te
 pub returns-in-Err-clause-accounted : goal.returns-in-Err-clause-accounted
 returns-in-Err-clause-accounted g c = λ answers a is all.
     other_is_accounted g.S.Store.state c.args.coordinator.now.cluster.catalog c.args.coordinator.now.cluster.groups.items answers a
-    (unread_named a c.in-Err.fault c.args.text.now c.args.coordinator.now.cluster.catalog.tables is c.in-Err.ensures.reading) all
+    (unread_named a.answer c.in-Err.fault c.args.text.now c.args.coordinator.now.cluster.catalog.tables is c.in-Err.ensures.reading) all

@@ -29,5 +29,6 @@ returns-clause-last g c = λ entry s.
     (subst (λ (v : Contents). IsFinal g.S.Store.state cluster.nodes entry v c.close-catalog.new.journals.list c.close-catalog.result.workers.items) (sym c.close-catalog.ensures.catalog) (c.close-catalog.ensures.stores entry workers))
 
 pub returns-clause-accounts : goal.returns-clause-accounts
-returns-clause-accounts g c = λ entry s.
+returns-clause-accounts g c =
+    let s = c.requires.serving.1 in
     subst (λ (n : ℕ). AllAccounted g.S.Store.state n c.args.serving.answers c.close-catalog.result.workers.items) s.nodes (c.close-catalog.ensures.accounted c.args.serving.answers s.accounted)
