@@ -18,3 +18,15 @@ SELECT a.id FROM sales a CROSS JOIN shops b WHERE a.tenant = 1;
 SELECT id FROM sales WHERE tenant = 1 AND id IN (SELECT id FROM shops WHERE id = 1);
 WITH a AS (SELECT id FROM sales WHERE tenant = 1) SELECT id FROM sales WHERE tenant = 1;
 WITH a AS (SELECT id FROM sales WHERE tenant = 1) SELECT id FROM a;
+
+-- Each reads more than one shard, or would.
+SELECT id FROM sales;
+SELECT count(*) FROM sales WHERE id = 1;
+SELECT id FROM sales WHERE tenant > 1;
+SELECT id FROM sales WHERE tenant = 1 + 0;
+SELECT id FROM sales WHERE tenant = - -1;
+SELECT id FROM sales WHERE tenant + 0 = 1;
+SELECT id FROM sales WHERE tenant = id;
+SELECT id FROM sales WHERE NOT tenant <> 1;
+SELECT id FROM sales WHERE tenant = 1 OR id = 1;
+SELECT id FROM sales WHERE tenant BETWEEN 1 AND 1;
