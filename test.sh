@@ -76,8 +76,10 @@ for crate in $(sed -n 's/^\([a-z_]*\):.*/\1/p' crates.txt); do
 done
 
 # The main job.
-./run.sh examples/tenants.sql >"$work/out" 2>"$work/err" || { cat "$work/err"; fail 'run.sh: the example has another status than 0'; }
-diff examples/tenants.out "$work/out" || fail 'run.sh: another output than examples/tenants.out'
+for example in tenants dashboard; do
+    ./run.sh "examples/$example.sql" >"$work/out" 2>"$work/err" || { cat "$work/err"; fail "run.sh: examples/$example.sql has another status than 0"; }
+    diff "examples/$example.out" "$work/out" || fail "run.sh: another output than examples/$example.out"
+done
 
 # A script of one byte too many is no file of tests/sql.
 head -c 16777217 /dev/zero | tr '\0' ' ' | "$program" >"$work/out"
