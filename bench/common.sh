@@ -12,11 +12,11 @@ fail() {
     exit 1
 }
 
-# The table of all statements. Words: its name and columns, as they stand after CREATE TABLE, and the call that distributes it.
+# A table of the statements. Words: its name and columns, as they stand after CREATE TABLE, and the call that distributes it.
 on_table() {
-    echo "CREATE TABLE $1;" >"$work/sqlite3.head"
-    echo "CREATE TEMPORARY TABLE $1;" >"$work/psql.head"
-    { cat "$work/sqlite3.head"; echo "$2;"; } >"$work/citus_run.head"
+    echo "CREATE TABLE $1;" >>"$work/sqlite3.head"
+    echo "CREATE TEMPORARY TABLE $1;" >>"$work/psql.head"
+    { echo "CREATE TABLE $1;"; echo "$2;"; } >>"$work/citus_run.head"
 }
 
 run_sqlite3() { sqlite3 -bail -nullvalue '\N'; }
@@ -66,10 +66,10 @@ best_of_three() {
     echo "$best"
 }
 
-# The rows that a program answered in its last run. citus_run writes each row before `(1 row)`, and first that of the distribution.
+# The rows that a program answered in its last run. citus_run writes each row before `(1 row)`, and an empty one for a distribution.
 rows_of() {
     case $1 in
-        citus_run) awk '$0 == "(1 row)" && tables++ { print row } { row = $0 }' "$work/$1.out" ;;
+        citus_run) awk '$0 == "(1 row)" && row != "" { print row } { row = $0 }' "$work/$1.out" ;;
         *) cat "$work/$1.out" ;;
     esac
 }

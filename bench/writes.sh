@@ -25,10 +25,10 @@ awk -v tenants="$tenants" -v rows="$rows" 'BEGIN {
         print ";"
     }
 }' >"$work/inserts"
-for_each 20 'UPDATE orders SET amount = amount + 1 WHERE tenant = %d AND id = %d' >"$work/updates"
+for_each 100 'UPDATE orders SET amount = amount + 1 WHERE tenant = %d AND id = %d' >"$work/updates"
 for_each 10 'UPDATE orders SET amount = amount + 1 WHERE tenant = %d AND id >= %d' >"$work/wide_updates"
-for_each 20 'DELETE FROM orders WHERE tenant = %d AND id = %d' >"$work/deletes"
-for_each 5 'SELECT a.amount, b.customer FROM orders a JOIN orders b ON b.tenant = a.tenant AND b.id = a.id WHERE a.tenant = %d AND a.id = %d' \
+for_each 100 'DELETE FROM orders WHERE tenant = %d AND id = %d' >"$work/deletes"
+for_each 100 'SELECT a.amount, b.customer FROM orders a JOIN orders b ON b.tenant = a.tenant AND b.id = a.id WHERE a.tenant = %d AND a.id = %d' \
     >"$work/joins"
 
 prepare
