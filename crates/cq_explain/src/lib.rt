@@ -1,4 +1,7 @@
 //! The plan of a query as EXPLAIN shows it, and its text. Each function gives what the definitions of `cq_outline` give.
 #![tactic(auto)]
 
+mod lines;
 mod shards;
+
+pub use lines::{Lines, text};
