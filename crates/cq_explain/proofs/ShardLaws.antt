@@ -1,5 +1,5 @@
 -- Lists of names, item by item.
-use Rattle.std.proofs.Common.{◌≡◌, ℕ, List, [], ◌∷◌, ◌++◌, refl, ap, ◌∙◌, append_assoc, append-nil, sym}
+use Rattle.std.proofs.Common.{◌≡◌, ℕ, List, [], ◌∷◌, ◌++◌, ap, ◌∙◌, append_assoc, append-nil, sym}
 use Rattle.std.specs.Prelude.{codes}
 use Rattle.cq_outline.specs.Texts.{enumerated}
 use Rattle.cq_explain.specs.Enumerated.{behind_commas}

@@ -2,6 +2,8 @@
 #![tactic(auto)]
 
 mod lines;
+mod rows;
 mod shards;
 
 pub use lines::{Lines, text};
+pub use rows::rows_of;
