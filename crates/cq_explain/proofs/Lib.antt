@@ -1,0 +1,2 @@
+pub mod ShardLaws
+pub mod PlanLaws

@@ -1,6 +1,9 @@
 //! The plan of a query as EXPLAIN shows it, and its text. Each function gives what the definitions of `cq_outline` give.
 #![tactic(auto)]
 
-mod stub;
+mod lines;
+mod rows;
+mod shards;
 
-pub use stub::{explain, rows_of};
+pub use lines::{Lines, text};
+pub use rows::rows_of;
