@@ -1,2 +1,8 @@
 //! The plan of a query as EXPLAIN shows it, and its text. Each function gives what the definitions of `cq_outline` give.
 #![tactic(auto)]
+
+mod block;
+mod tasking;
+
+pub use block::block_by;
+pub use tasking::{groups_in, shares_rows};
