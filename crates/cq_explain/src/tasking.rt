@@ -1,11 +1,12 @@
-ghost use Rattle.std.specs.Prelude.{◌≡◌, IfOk, map, not, take};
+ghost use Rattle.std.specs.Prelude.{◌≡◌, ◌||◌, IfOk, take};
 ghost use Rattle.std.specs.List.{list_any};
-ghost use Rattle.cq_tree.specs.declared.query.Query.{out-Query};
+ghost use Rattle.cq_tree.specs.declared.plan.Planner.TheVariants as planners;
 ghost use Rattle.cq_planning.specs.Conjuncts.{column_of};
 ghost use Rattle.cq_planning.specs.Components.{is_of_class};
 ghost use Rattle.cq_planning.specs.Pushable.{column_behind};
 ghost use Rattle.cq_shape.specs.Labels.{label};
 ghost use Rattle.cq_outline.specs.Tasking.{groups_in as groups_by_rule, group_tasks as group_tasks_by_rule, bucket_tasks as bucket_tasks_by_rule, tasks_by as tasks_by_rule, shown_planner as shown_by_rule, shares_rows as shares_by_rule, combine_by as combine_by_rule};
+ghost use Rattle.cq_explain.specs.Shares.{shares_keys as keys_by_rule, shares_outputs as outputs_by_rule};
 
 use cq_catalog::Catalog;
 use cq_plan::Touch;
@@ -50,7 +51,7 @@ fn bucket_tasks(alloc: Global, count: u32) -> Result<Tasks, NoMemory>
 
 /// One in each group that the tables touch.
 fn tasks_in_groups(alloc: Global, catalog: &Catalog, touches: &[Touch]) -> Result<Tasks, NoMemory>
-    ensures { IfOk result (λ v. v ≡ tasks_by_rule catalog.now Pushdown 0 touches.now) }
+    ensures { IfOk result (λ v. v ≡ tasks_by_rule catalog.now planners.Pushdown 0 touches.now) }
 {
     let groups = groups_in(alloc, catalog, touches)?;
     group_tasks(alloc, first_group(catalog, touches), groups.as_slice())
@@ -58,7 +59,7 @@ fn tasks_in_groups(alloc: Global, catalog: &Catalog, touches: &[Touch]) -> Resul
 
 /// At most one, in the group that the tables touch.
 fn single_task(alloc: Global, catalog: &Catalog, touches: &[Touch]) -> Result<Tasks, NoMemory>
-    ensures { IfOk result (λ v. v ≡ tasks_by_rule catalog.now Router 0 touches.now) }
+    ensures { IfOk result (λ v. v ≡ tasks_by_rule catalog.now planners.Router 0 touches.now) }
 {
     let groups = groups_in(alloc, catalog, touches)?;
     tasks_by(
@@ -125,10 +126,17 @@ fn first_ones(items: &[Expr], shown: u32) -> &[Expr]
 
 /// Whether a query has DISTINCT and no output that is such a column.
 fn shares_outputs(labels: &[u32], at: u64, q: &Query) -> bool
-    ensures { result ≡ ((out-Query q.now).distinct && not (list_any (λ e. is_of_class (label labels.now) at (column_behind (out-Query q.now).grouped (out-Query q.now).keys (column_of e))) (take (out-Query q.now).shown (out-Query q.now).items))) }
+    ensures { result ≡ outputs_by_rule (label labels.now) at q.now }
 {
     let outputs = first_ones(q.items.as_slice(), q.shown);
     q.distinct && !has_class_output(labels, at, q.grouped, q.keys.as_slice(), outputs)
+}
+
+/// Whether rows of several tasks can share a group or be one row, by these labels.
+fn shares_either(labels: &[u32], at: u64, q: &Query) -> bool
+    ensures { result ≡ (keys_by_rule (label labels.now) at q.now || outputs_by_rule (label labels.now) at q.now) }
+{
+    !keeps_class(labels, at, q.grouped, q.keys.as_slice()) || shares_outputs(labels, at, q)
 }
 
 /// Whether rows of several tasks of a query can share a group, or with DISTINCT be one row, where they are parted by the class of a column.
@@ -136,10 +144,7 @@ pub fn shares_rows(alloc: Global, q: &Query, at: u64) -> Result<bool, NoMemory>
     ensures { IfOk result (λ b. b ≡ shares_by_rule at q.now) }
 {
     let labels = labels_in(alloc, &q.from, &q.filter)?;
-    Ok(
-        !keeps_class(labels.as_slice(), at, q.grouped, q.keys.as_slice())
-            || shares_outputs(labels.as_slice(), at, q),
-    )
+    Ok(shares_either(labels.as_slice(), at, q))
 }
 
 /// How the rows of so many tasks become those of their block.
