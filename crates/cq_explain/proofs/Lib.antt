@@ -1,2 +1,3 @@
 pub mod ShardLaws
 pub mod PlanLaws
+pub mod TaskLaws

@@ -1,2 +1,3 @@
 pub mod Enumerated
 pub mod Subplans
+pub mod Shares
