@@ -1,2 +1,9 @@
 //! The plan of a query as EXPLAIN shows it, and its text. Each function gives what the definitions of `cq_outline` give.
 #![tactic(auto)]
+
+mod leaving;
+
+mod planner;
+mod stub;
+
+
