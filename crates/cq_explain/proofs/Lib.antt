@@ -1,1 +1,4 @@
 pub mod PlannerLaws
+pub mod OutlineNodes
+pub mod PieceLaws
+pub mod OutlineLaws

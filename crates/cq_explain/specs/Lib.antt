@@ -1,1 +1,2 @@
 pub mod Planners
+pub mod Pieces

@@ -2,8 +2,6 @@
 #![tactic(auto)]
 
 mod leaving;
-
+mod pieces;
 mod planner;
 mod stub;
-
-
