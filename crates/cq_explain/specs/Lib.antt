@@ -1,3 +1,5 @@
 pub mod Enumerated
 pub mod Subplans
 pub mod Shares
+pub mod Planners
+pub mod Pieces

@@ -2,10 +2,17 @@
 #![tactic(auto)]
 
 mod block;
+mod explaining;
+mod leaving;
 mod lines;
+mod outline;
+mod pieces;
+mod planner;
 mod rows;
 mod shards;
+mod stub;
 mod tasking;
 
-pub use lines::{Lines, text};
+pub use explaining::explain;
+pub use lines::Lines;
 pub use rows::rows_of;

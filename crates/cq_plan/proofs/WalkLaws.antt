@@ -26,7 +26,7 @@ use Rattle.cq_plan.proofs.BegunLaws.{nothing_narrows, left_found}
 use Rattle.cq_plan.proofs.FromNodes.{occurrences_is, distribution_sub, begun_sub, begun_cross, begun_inner, begun_left, occurrences_sub, occurrences_cross, occurrences_inner, occurrences_left}
 
 -- the values of a table's distribution column
-key_is : (sets : ℕ → ValueSet) (start : ℕ) (p : Place) → key_values sets start p ≡ set_of sets (distribution_at start p)
+pub key_is : (sets : ℕ → ValueSet) (start : ℕ) (p : Place) → key_values sets start p ≡ set_of sets (distribution_at start p)
 key_is sets start Local = refl
 key_is sets start (Distributed column colocation first_shard) = refl
 key_is sets start (Reference group shard) = refl
@@ -41,7 +41,7 @@ given_is sets start None = refl
 given_is sets start (Some p) = refl
 
 -- a right side is one relation
-as_one_is : (c : Contents) (sets : ℕ → ValueSet) (f : FromTree) (start : ℕ) → as_one f start (begun c sets f start) ≡ one_begun start (distribution_in c f start) (set_of sets (distribution_in c f start))
+pub as_one_is : (c : Contents) (sets : ℕ → ValueSet) (f : FromTree) (start : ℕ) → as_one f start (begun c sets f start) ≡ one_begun start (distribution_in c f start) (set_of sets (distribution_in c f start))
 as_one_is c sets (Table t n) start = refl
 as_one_is c sets (Sub' p q) start = refl
 as_one_is c sets (Result i n) start = refl
@@ -81,7 +81,7 @@ module _ (c : Contents) where
       let m : (list ++ more ≡ begun c B a start ++ begun c B b (start + columns_in a)) × (f2 ≡ f0 ++ map (touches c) (occurrences_from c B a start ++ occurrences_from c B b (start + columns_in a))) = both_parts B a b start behind list more f0 f1 f2 e p' q' in
       subst (λ X. Walked X (Inner a b on) start all f0 f2) (sym s) (r ∙ (m.0 ∙ sym (begun_inner c B start a b on)), m.1 ∙ ap (λ os. f0 ++ map (touches c) os) (sym (occurrences_inner c B start a b on)))
 
-  under_is : (B L : ℕ → ValueSet) (d : Option Distribution) (start behind : ℕ) (on : Cond) → sets_under B L start (equalities (conjuncts on)) d behind ≡ right_sets B L d start behind on
+  pub under_is : (B L : ℕ → ValueSet) (d : Option Distribution) (start behind : ℕ) (on : Cond) → sets_under B L start (equalities (conjuncts on)) d behind ≡ right_sets B L d start behind on
   under_is B L d start behind on = λ i y. right_sets B L d start behind on y
 
   left_here : (B Sb : ℕ → ValueSet) (a b : FromTree) (on : Cond) (start : ℕ) (list side more all : List Begun) (pairs : List (ℕ × ℕ)) (f0 f1 f2 : List (ℕ × List ℕ)) →

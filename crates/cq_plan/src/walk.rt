@@ -28,7 +28,7 @@ use std::alloc::Global;
 pub type Touch = (u32, Positions);
 
 /// One relation.
-fn one(
+pub fn one(
     alloc: Global,
     start: u64,
     distribution: Option<Distribution>,
@@ -46,7 +46,7 @@ fn one(
 }
 
 /// The relations of two parts of a FROM.
-fn joined(list: BegunList, more: BegunList) -> Result<BegunList, NoMemory>
+pub fn joined(list: BegunList, more: BegunList) -> Result<BegunList, NoMemory>
     ensures { IfOk result (λ all. all ≡ list ++ more) }
 {
     let mut all = list;
@@ -57,7 +57,7 @@ fn joined(list: BegunList, more: BegunList) -> Result<BegunList, NoMemory>
 }
 
 /// A right side as one relation.
-fn as_one_relation(
+pub fn as_one_relation(
     alloc: Global,
     side: &FromTree,
     start: u64,
@@ -74,7 +74,7 @@ fn as_one_relation(
 }
 
 /// No LEFT JOIN: nothing is narrowed.
-fn nothing<'a>() -> Right<'a>
+pub fn nothing<'a>() -> Right<'a>
     ensures { result.pairs.now ≡ [] }
 {
     Right {
@@ -98,7 +98,7 @@ fn given(alloc: Global, way: Option<Pushable>, set: &ValueSet) -> Result<Items<S
 }
 
 /// The equalities of columns among the conjuncts of an ON.
-fn equalities_of(alloc: Global, on: &Cond) -> Result<Items<(u32, u32)>, NoMemory>
+pub fn equalities_of(alloc: Global, on: &Cond) -> Result<Items<(u32, u32)>, NoMemory>
     ensures { IfOk result (λ pairs. pairs ≡ equalities (conjuncts on.now)) }
 {
     let mut pairs = Items::new(alloc);
@@ -108,7 +108,7 @@ fn equalities_of(alloc: Global, on: &Cond) -> Result<Items<(u32, u32)>, NoMemory
 
 /// A table in a FROM: the groups that it touches, and the relation that it is.
 #[tactic(auto, using(crate::proofs::WalkLaws::table_groups))]
-fn table_in(
+pub fn table_in(
     alloc: Global,
     catalog: &Catalog,
     base: Base<'_>,
@@ -128,7 +128,7 @@ fn table_in(
 
 /// A subquery in a FROM: what it is given from outside, and the relation that it is.
 #[tactic(auto, using(crate::proofs::WalkLaws::given_is))]
-fn below(
+pub fn below(
     alloc: Global,
     catalog: &Catalog,
     base: Base<'_>,
@@ -208,7 +208,7 @@ fn walk(
 
 /// Puts what the tables of a query touch last, without those of its CTEs and IN subqueries, where this is said of its columns from outside.
 #[cycle(walk)]
-fn put_query(
+pub fn put_query(
     alloc: Global,
     catalog: &Catalog,
     q: &Query,

@@ -60,7 +60,7 @@ fn plan_of(
 }
 
 /// Whether the router takes a block that reads this.
-fn is_routed(alloc: Global, catalog: &Catalog, reads: &[Touch]) -> Result<bool, NoMemory>
+pub fn is_routed(alloc: Global, catalog: &Catalog, reads: &[Touch]) -> Result<bool, NoMemory>
     ensures { IfOk result (λ b. b ≡ are_routed_among catalog.now reads.now) }
 {
     let groups = groups_of_distributed(alloc, catalog, reads)?;

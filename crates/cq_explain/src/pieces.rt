@@ -1,0 +1,179 @@
+ghost use Rattle.std.specs.Prelude.{◌≡◌, ◌++◌, ◌∷◌, [], IfOk, OnOk, map};
+ghost use Rattle.cq_catalog.specs.Placement.{place_at};
+ghost use Rattle.cq_planning.specs.Occurrences.{occurrence_of, key_values};
+ghost use Rattle.cq_planning.specs.Relations.{distribution_at as distribution_by_place};
+ghost use Rattle.cq_planning.specs.Routing.{is_one_value as is_one_by_rule};
+ghost use Rattle.cq_planning.specs.ValueSets.{class_set as class_set_by_rule};
+ghost use Rattle.cq_shape.specs.Labels.{label};
+ghost use Rattle.cq_plan.specs.Begun.{set_at as set_at_by_rule, set_of, sets_under, one_begun};
+ghost use Rattle.cq_outline.specs.declared.outline.Piece.TheVariants.{Asks};
+ghost use Rattle.cq_outline.specs.Tasking.{groups_in as groups_in_by_rule};
+ghost use Rattle.cq_outline.specs.Outlines.{lone_by, piece_of_table};
+ghost use Rattle.cq_explain.specs.Pieces.{first_set, planner_by, lone_touch, piece_of_touch};
+
+use crate::leaving::leaves;
+use crate::block::block_by;
+use crate::tasking::groups_in;
+use cq_catalog::Catalog;
+use cq_outline::{Joined, Leaving, Outline, Outlines, Piece, Pieces};
+use cq_plan::{Base, Begun, BegunList, Right, table_in};
+use cq_relations::{OuterJoin, Relation, distribution_at, place_of};
+use cq_shape::{Said, ValueSet};
+use cq_tree::{Planner, Steps};
+use cq_value::{Items, NoMemory, Positions};
+use std::alloc::Global;
+
+/// Of a block or a subquery that stays in one: which relations don't stay, and the relations of its FROM.
+#[derive(Clone, Copy)]
+pub struct Frame<'a> {
+    pub leaving: Leaving,
+    pub relations: &'a [Relation],
+}
+
+/// A right side that is planned by itself, of all its columns.
+pub fn lone(
+    alloc: Global,
+    catalog: &Catalog,
+    planner: Planner,
+    pieces: Pieces,
+) -> Result<Outline, NoMemory>
+    ensures { IfOk result (λ o. o ≡ lone_by catalog.now planner pieces) }
+{
+    let parting = Joined {
+        columns: Positions::new(alloc),
+        class: 0,
+        count: 0,
+        steps: Steps::new(alloc),
+    };
+    block_by(alloc, catalog, planner, parting, false, Outlines::new(alloc), pieces)
+}
+
+fn is_one_value(set: &ValueSet) -> bool
+    ensures { result ≡ is_one_by_rule set.now }
+{
+    match set {
+        Some(values) => values.len() == 1,
+        None => false,
+    }
+}
+
+/// Whether the value set of the first of these relations is one value.
+fn is_one(relations: &[Begun]) -> bool
+    ensures { result ≡ is_one_by_rule (first_set relations.now) }
+{
+    match relations {
+        [relation, ..] => is_one_value(&relation.set),
+        [] => false,
+    }
+}
+
+/// The planner of a table that is planned by itself.
+fn table_planner(
+    alloc: Global,
+    catalog: &Catalog,
+    table: u32,
+    groups: &Positions,
+    is_one: bool,
+) -> Result<Planner, NoMemory>
+    ensures { IfOk result (λ p. p ≡ planner_by is_one (groups_in_by_rule catalog.now ((table, groups.now) ∷ []))) }
+{
+    if is_one {
+        return Ok(Planner::FastPath);
+    }
+    let mut touches = Items::new(alloc);
+    touches.put((table, groups.copy(alloc)?))?;
+    let all = groups_in(alloc, catalog, touches.as_slice())?;
+    if all.len() < 2 {
+        Ok(Planner::Router)
+    } else {
+        Ok(Planner::Pushdown)
+    }
+}
+
+/// A table that is planned by itself, and the groups that it touches.
+fn lone_table(
+    alloc: Global,
+    catalog: &Catalog,
+    table: u32,
+    groups: Positions,
+    is_one: bool,
+) -> Result<Outline, NoMemory>
+    ensures { IfOk result (λ o. o ≡ lone_touch catalog.now (table, groups) is_one) }
+{
+    let planner = table_planner(alloc, catalog, table, &groups, is_one)?;
+    let mut pieces = Pieces::new(alloc);
+    pieces.put(Piece::Stays(table, groups))?;
+    lone(alloc, catalog, planner, pieces)
+}
+
+/// A table of a FROM, and the groups that it touches.
+fn table_piece(
+    alloc: Global,
+    catalog: &Catalog,
+    frame: Frame<'_>,
+    relation: &Relation,
+    table: u32,
+    groups: Positions,
+    is_one: bool,
+) -> Result<Piece, NoMemory>
+    ensures { IfOk result (λ p. p ≡ piece_of_touch catalog.now frame.entry.leaving frame.entry.relations.now relation.now (table, groups) is_one) }
+{
+    if leaves(frame.leaving, frame.relations, relation) {
+        Ok(Piece::Leaves(lone_table(alloc, catalog, table, groups, is_one)?))
+    } else {
+        Ok(Piece::Stays(table, groups))
+    }
+}
+
+/// Puts a table of a FROM last, whose first column has the number `start`, and of which `outer` is the LEFT JOIN where it is a right side; and
+/// gives the relation that it is, with the value set of its distribution column.
+#[tactic(auto, using(crate::proofs::PieceLaws::table_put))]
+pub fn put_table(
+    alloc: Global,
+    catalog: &Catalog,
+    frame: Frame<'_>,
+    base: Base<'_>,
+    right: Right<'_>,
+    table: u32,
+    start: u64,
+    outer: Option<OuterJoin>,
+    found: &mut Pieces,
+) -> Result<BegunList, NoMemory>
+    ensures { IfOk result (λ rs.
+        (rs ≡ one_begun start (distribution_by_place start (place_at catalog.now table)) (set_of (sets_under (class_set_by_rule (label base.entry.labels.now) base.entry.said.now) (set_at_by_rule (class_set_by_rule (label base.entry.labels.now) base.entry.said.now) right.entry.relations.now) right.entry.low right.entry.pairs.now (distribution_by_place start (place_at catalog.now table)) start) (distribution_by_place start (place_at catalog.now table))))
+        × (found.new ≡ found.old ++ piece_of_table catalog.now frame.entry.leaving frame.entry.relations.now (record { start = start; distribution = distribution_by_place start (place_at catalog.now table); outer = outer })
+            (occurrence_of catalog.now (sets_under (class_set_by_rule (label base.entry.labels.now) base.entry.said.now) (set_at_by_rule (class_set_by_rule (label base.entry.labels.now) base.entry.said.now) right.entry.relations.now) right.entry.low right.entry.pairs.now (distribution_by_place start (place_at catalog.now table)) start) start table)
+            (key_values (sets_under (class_set_by_rule (label base.entry.labels.now) base.entry.said.now) (set_at_by_rule (class_set_by_rule (label base.entry.labels.now) base.entry.said.now) right.entry.relations.now) right.entry.low right.entry.pairs.now (distribution_by_place start (place_at catalog.now table)) start) start (place_at catalog.now table)) ∷ [])) }
+{
+    let distribution = distribution_at(start, place_of(catalog, table))?;
+    let relation = Relation {
+        start,
+        distribution,
+        outer,
+    };
+    let (groups, list) = table_in(alloc, catalog, base, right, table, start)?;
+    let one = is_one(list.as_slice());
+    found.put(table_piece(alloc, catalog, frame, &relation, table, groups, one)?)?;
+    Ok(list)
+}
+
+/// Puts the plans of IN subqueries last.
+pub fn put_asked(plans: Outlines, found: &mut Pieces) -> Result<(), NoMemory>
+    ensures { OnOk result (found.new ≡ found.old ++ map Asks plans) }
+{
+    for plan in plans.into_vec() {
+        found.put(Piece::Asks(plan))?;
+    }
+    Ok(())
+}
+
+/// An equal list.
+pub fn copy_said(alloc: Global, said: &[Said]) -> Result<Items<Said>, NoMemory>
+    ensures { IfOk result (λ list. list ≡ said.now) }
+{
+    let mut list = Items::new(alloc);
+    for pair in said {
+        list.put((pair.0, pair.1.copy(alloc)?))?;
+    }
+    Ok(list)
+}
