@@ -1,33 +1,19 @@
 -- A query of one table depends on the rows alone that have all that its WHERE demands.
-use Rattle.std.proofs.Common.{◌≡◌, inl, inr, ℕ, Bool, true, false, List, [], ◌∷◌, ◌++◌, filter, refl, sym, ◌∙◌, ap, subst, Ordering, Less, Equal, Greater}
-use Rattle.std.specs.Ordering.{is_eq}
+use Rattle.std.proofs.Common.{◌≡◌, ℕ, Bool, true, false, List, [], filter, refl, sym, ◌∙◌, ap, subst}
 use Rattle.std.specs.List.Sorted.{IsPermutation}
-use Rattle.std.proofs.lemmas.Map.Lookups.{exact_signed, exact_bytes}
-use Rattle.cq_value.specs.declared.value.Value.{Value}
-use Rattle.cq_value.specs.declared.value.Value.TheVariants.{Null, Int, Text}
-use Rattle.cq_value.specs.declared.value.Truth.{Truth}
-use Rattle.cq_value.specs.declared.value.Truth.TheVariants.{Yes, No, Unknown}
-use Rattle.cq_value.specs.Order.{compared}
-use Rattle.cq_value.proofs.OrderLaws.{value_cmp_same}
-use Rattle.cq_tree.specs.declared.expression.Expr.{Expr, Literal, Column}
-use Rattle.cq_tree.specs.declared.expression.Cond.{Cond, Compare, And', end_of-Cond, more_of-Cond}
-use Rattle.cq_tree.specs.declared.expression.Op.TheVariants.{Eq}
+use Rattle.cq_tree.specs.declared.expression.Expr.{Expr}
+use Rattle.cq_tree.specs.declared.expression.Cond.{Cond}
 use Rattle.cq_tree.specs.declared.query.Agg.{Agg}
 use Rattle.cq_tree.specs.declared.query.FromTree.{Table}
 use Rattle.cq_tree.specs.declared.query.Query.{Query, Query', out-Query}
-use Rattle.cq_meaning.specs.Values.{Row, Tables, column, same_value, table_rows}
-use Rattle.cq_meaning.specs.Logic.{is_yes, and_of, met, meets}
-use Rattle.cq_meaning.specs.Expressions.{truth_of, keeps}
+use Rattle.cq_meaning.specs.Values.{Row, Tables, table_rows}
+use Rattle.cq_meaning.specs.Expressions.{keeps}
 use Rattle.cq_meaning.specs.Groups.{distinct_if}
 use Rattle.cq_meaning.specs.Limits.{has_large_group, is_large}
 use Rattle.cq_meaning.specs.Queries.{item_rows, AnswersWith}
-use Rattle.cq_planning.specs.Conjuncts.{conjuncts}
-use Rattle.cq_history.specs.Demands.{demand_of, demands_of, demands, has_all, rows_with, KeptHasDemands}
+use Rattle.cq_demands.proofs.Kept.{kept_of_demands}
 use Rattle.cq_history.specs.Laws.{HasWanted, WantedSuffice}
-use Rattle.cq_history.proofs.Lists.{two_ways}
 use Rattle.cq_history.proofs.Looks.{alone_answers, answers_alone, alone_large}
-
--- ---- a query depends on the rows that its WHERE keeps
 
 pub items_alike : (f : Cond) (grouped : Bool) (keys : List Expr) (aggs : List Agg) (having : Cond) (items : List Expr) (xs ys : List Row) → filter (keeps f []) xs ≡ filter (keeps f []) ys →
     item_rows f grouped keys aggs having items [] xs ≡ item_rows f grouped keys aggs having items [] ys
