@@ -46,7 +46,7 @@ use Rattle.cq_journal.specs.Records.{Journal}
 use Rattle.cq_history.specs.Journals.{none, Kinds, journal_in, held_in, in_each, with_entries}
 use Rattle.cq_history.specs.Legality.{LeavesColumn, IsLegal, IsKeyed}
 use Rattle.cq_history.specs.Refusals.{is_alone}
-use Rattle.cq_history.specs.Demands.{demands, rows_with}
+use Rattle.cq_demands.specs.Demands.{demands, rows_with}
 use Rattle.cq_history.specs.Standing.{most_rows, AreAmong, counted, reply_in, HasIds, IsReady, tag_of, rows_of_lines, StandsIn, Stands}
 use Rattle.cq_store.specs.Stores.{StoreState, Rose}
 use Rattle.cq_history.specs.Faults.{IsShardIn, IsOnNode, near, node_read, below, range_in, AccountsFor, NamesBelow}

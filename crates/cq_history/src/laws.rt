@@ -1,5 +1,5 @@
 ghost use Rattle.cq_history.specs.Laws.{PartsAreMade, PartIsRefused, PartsHaveEffect, MadeDoes, RefusedDoes, LacksDoes, ReadDoes, LargeDoes, OneTableNarrows, GrowsOn, GrowsNone, GrowsEach, GrowsInOne, DeedsStay, GrowsByOther, DeedsStand, BlockIsDone, DoneStands};
-ghost use Rattle.cq_history.specs.Demands.{KeptHasDemands};
+ghost use Rattle.cq_demands.specs.Demands.{KeptHasDemands};
 ghost use Rattle.cq_history.specs.Laws.{OtherAccounts, FaultAccounts, NewAccounts};
 ghost use Rattle.cq_history.specs.Laws.{WantedSuffice};
 ghost use Rattle.cq_history.specs.Laws.{LogBegins, LogGoesOn, AnswersGoOn, IdleIsAnswered, DeedIsAnswered, StaysLaidOut, CatalogGoesOn, LogStands};

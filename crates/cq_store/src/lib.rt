@@ -8,5 +8,5 @@ mod worker;
 
 pub use fault::FaultStore;
 pub use mem::MemStore;
-pub use store::{BoxedStore, ColumnValues, Store, StoreError};
+pub use store::{BoxedStore, ColumnValues, Pairs, Store, StoreError};
 pub use worker::{TakeError, Worker};

@@ -1,11 +1,12 @@
-ghost use Rattle.std.specs.Prelude.{◌≡◌, [], filter, map, IfOk, OnOk, OnErr};
+ghost use Rattle.std.specs.Prelude.{◌≡◌, [], filter, slice_index_or, IfOk, OnOk, OnErr};
 ghost use Rattle.cq_value.specs.Changes.{Fit, adds_in};
-ghost use Rattle.cq_value.specs.Tables.{rows_of};
-ghost use Rattle.cq_store.specs.Stores.{has_value, has_values, steady_spare};
+ghost use Rattle.cq_value.specs.declared.value.Value.TheVariants.{Null};
+ghost use Rattle.cq_store.specs.Stores.{has_value, has_values, values_at, meets_one, meets_any, steady_spare};
 
-use crate::store::{ColumnValues, Store, StoreError};
+use crate::store::{ColumnValues, Pairs, Store, StoreError};
 use cq_value::{
-    Change, Changes, Duplicate, NoMemory, Numbered, ReservedTable, Row, Rows, Value, order,
+    Change, Changes, Duplicate, NoMemory, Numbered, Positions, ReservedTable, Row, Rows, Value,
+    order,
 };
 use std::alloc::Global;
 use std::marker::Model;
@@ -64,21 +65,54 @@ fn has_wanted(row: &Row, wanted: &[(u32, Value)]) -> bool
         .all(|(column, value)| is_value_in(row, *column, value))
 }
 
-/// Copies of the rows that have each of these values, in order.
+/// Copies of the rows that have each of these values, with their ids, in order.
 fn copy_matches(
     alloc: Global,
     pairs: &[(u64, Row)],
     wanted: &ColumnValues,
-) -> Result<Rows, NoMemory>
-    ensures { IfOk result (λ rows. rows ≡ filter (has_values wanted.now) (map (λ p. p.1) pairs.now)) }
+) -> Result<Pairs, NoMemory>
+    ensures { IfOk result (λ found. found ≡ filter (λ p. has_values wanted.now p.1) pairs.now) }
 {
-    let mut rows = Rows::new(alloc);
-    for pair in pairs {
-        if has_wanted(&pair.1, wanted.as_slice()) {
-            rows.put(pair.1.copy(alloc)?)?;
+    let mut found = Pairs::new(alloc);
+    for (id, row) in pairs {
+        if has_wanted(row, wanted.as_slice()) {
+            found.put((*id, row.copy(alloc)?))?;
         }
     }
-    Ok(rows)
+    Ok(found)
+}
+
+/// A row's value in a column, NULL past the row's end.
+fn value_at(alloc: Global, row: &Row, column: u32) -> Result<Value, NoMemory>
+    ensures { IfOk result (λ value. value ≡ slice_index_or row.now column Null) }
+{
+    match row.get(column as u64) {
+        Some(value) => value.copy(alloc),
+        None => Ok(Value::Null),
+    }
+}
+
+/// A row's values in the columns of a key, each with its column.
+fn key_values(alloc: Global, key: &[u32], row: &Row) -> Result<ColumnValues, NoMemory>
+    ensures { IfOk result (λ values. values ≡ values_at key.now row.now) }
+{
+    let mut values = ColumnValues::new(alloc);
+    for column in key {
+        values.put((*column, value_at(alloc, row, *column)?))?;
+    }
+    Ok(values)
+}
+
+/// Whether one of the pairs' rows has a row's values in the columns of a key.
+fn meets_row(alloc: Global, pairs: &[(u64, Row)], key: &[u32], row: &Row) -> Result<bool, NoMemory>
+    ensures { IfOk result (λ b. b ≡ meets_one pairs.now key.now row.now) }
+{
+    let wanted = key_values(alloc, key, row)?;
+    Ok(
+        pairs
+            .iter()
+            .any(|(_, there)| has_wanted(there, wanted.as_slice())),
+    )
 }
 
 impl MemStore {
@@ -102,11 +136,25 @@ impl MemStore {
         self.rows.copy(self.alloc)
     }
 
-    /// Copies of the rows that have each of these values, in order, without the changes staged.
-    pub(crate) fn read_matches(&self, wanted: &ColumnValues) -> Result<Rows, NoMemory>
-        ensures { IfOk result (λ rows. rows ≡ filter (has_values wanted.now) (rows_of self.now.rows)) }
+    /// Copies of the rows that have each of these values, with their ids, in order, without the changes staged.
+    pub(crate) fn read_matches(&mut self, wanted: &ColumnValues) -> Result<Pairs, NoMemory>
+        ensures pairs { IfOk result (λ pairs. pairs ≡ filter (λ p. has_values wanted.now p.1) self.old.rows.pairs) }
+        ensures same { self.new ≡ self.old }
     {
         copy_matches(self.alloc, self.rows.pairs(), wanted)
+    }
+
+    /// Whether a row has the values of one of these rows in the columns of a key, without the changes staged.
+    pub(crate) fn meets_rows(&mut self, key: &Positions, rows: &Rows) -> Result<bool, NoMemory>
+        ensures met { IfOk result (λ b. b ≡ meets_any self.old.rows.pairs key.now rows.now) }
+        ensures same { self.new ≡ self.old }
+    {
+        for row in rows.as_slice() {
+            if meets_row(self.alloc, self.rows.pairs(), key.as_slice(), row)? {
+                return Ok(true);
+            }
+        }
+        Ok(false)
     }
 
     /// Stages a copy of changes, and makes room for the rows that they add.
@@ -148,8 +196,12 @@ impl Store for MemStore {
         self.read().map_err(|_| StoreError::Memory)
     }
 
-    fn pick(&mut self, wanted: &ColumnValues) -> Result<Rows, StoreError> {
+    fn pick(&mut self, wanted: &ColumnValues) -> Result<Pairs, StoreError> {
         self.read_matches(wanted).map_err(|_| StoreError::Memory)
+    }
+
+    fn meets(&mut self, key: &Positions, rows: &Rows) -> Result<bool, StoreError> {
+        self.meets_rows(key, rows).map_err(|_| StoreError::Memory)
     }
 
     fn stage(&mut self, changes: &Changes) -> Result<(), StoreError> {

@@ -1,5 +1,5 @@
-use Rattle.cq_groups.proofs.WantedLaws.{both_put}
-use Rattle.cq_groups.proofs.wanted.+demands.Goals as goal
+use Rattle.cq_demands.proofs.WantedLaws.{both_put}
+use Rattle.cq_demands.proofs.wanted.+demands.Goals as goal
 
 pub returns-in_ok-put_demands-in-And : goal.returns-in_ok-put_demands-in-And
 returns-in_ok-put_demands-in-And t c =

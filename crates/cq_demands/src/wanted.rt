@@ -2,16 +2,18 @@ ghost use Rattle.std.specs.Prelude.{◌≡◌, [], ◌∷◌, ◌++◌, IfOk, On
 ghost use Rattle.cq_tree.specs.declared.expression.Cond.{Compare};
 ghost use Rattle.cq_tree.specs.declared.expression.Expr.{Column, Literal};
 ghost use Rattle.cq_tree.specs.declared.expression.Op.TheVariants.{Eq};
-ghost use Rattle.cq_history.specs.Demands.{demand_of, demands};
+ghost use Rattle.cq_demands.specs.Demands.{demand_of, demands};
 
-use cq_store::ColumnValues;
 use cq_tree::{Cond, Expr, Op};
-use cq_value::{NoMemory, Value};
+use cq_value::{Items, NoMemory, Value};
 use std::alloc::Global;
+
+/// Values that a row must have, each with the place of its column.
+pub type Wanted = Items<(u32, Value)>;
 
 fn put_value(
     alloc: Global,
-    wanted: &mut ColumnValues,
+    wanted: &mut Wanted,
     column: u32,
     value: &Value,
 ) -> Result<(), NoMemory>
@@ -24,7 +26,7 @@ fn put_value(
 /// Puts what `column = right` demands behind the rest.
 fn put_column(
     alloc: Global,
-    wanted: &mut ColumnValues,
+    wanted: &mut Wanted,
     column: u32,
     right: &Expr,
 ) -> Result<(), NoMemory>
@@ -39,7 +41,7 @@ fn put_column(
 /// Puts what `value = right` demands behind the rest.
 fn put_literal(
     alloc: Global,
-    wanted: &mut ColumnValues,
+    wanted: &mut Wanted,
     value: &Value,
     right: &Expr,
 ) -> Result<(), NoMemory>
@@ -54,7 +56,7 @@ fn put_literal(
 /// Puts what an equality demands behind the rest.
 fn put_equality(
     alloc: Global,
-    wanted: &mut ColumnValues,
+    wanted: &mut Wanted,
     left: &Expr,
     right: &Expr,
 ) -> Result<(), NoMemory>
@@ -76,7 +78,7 @@ fn put_equality(
 
 /// Puts what a condition demands behind the rest.
 #[cycle(demands)]
-fn put_demands(alloc: Global, wanted: &mut ColumnValues, condition: &Cond) -> Result<(), NoMemory>
+fn put_demands(alloc: Global, wanted: &mut Wanted, condition: &Cond) -> Result<(), NoMemory>
     ensures { OnOk result (wanted.new ≡ wanted.old ++ demands condition.now) }
 {
     match condition {
@@ -96,10 +98,10 @@ fn put_demands(alloc: Global, wanted: &mut ColumnValues, condition: &Cond) -> Re
 
 /// The values that a WHERE demands of columns, each with its column's place: those of its conjuncts `column = literal`, either
 /// way round.
-pub fn wanted_by(alloc: Global, filter: &Cond) -> Result<ColumnValues, NoMemory>
+pub fn wanted_by(alloc: Global, filter: &Cond) -> Result<Wanted, NoMemory>
     ensures { IfOk result (λ wanted. wanted ≡ demands filter.now) }
 {
-    let mut wanted = ColumnValues::new(alloc);
+    let mut wanted = Wanted::new(alloc);
     put_demands(alloc, &mut wanted, filter)?;
     Ok(wanted)
 }

@@ -4,16 +4,11 @@ use Rattle.cq_value.specs.declared.value.Value.{Value}
 use denote.Hole.Carrier.{hidden}
 use Rattle.cq_tree.specs.declared.expression.Cond.{Cond, And}
 use Rattle.cq_tree.specs.declared.expression.Cond.TheBlock.{hidden-the_row-Cond-0}
-use Rattle.cq_planning.specs.Conjuncts.{conjuncts}
-use Rattle.cq_history.specs.Demands.{demands_of, demands}
-use Rattle.cq_history.proofs.Demands.{demands_append}
-
-conjuncts_and : (a b : Cond) → conjuncts (And a b) ≡ conjuncts a ++ conjuncts b
-unfolding hidden-the_row-Cond-0 hidden
-conjuncts_and a b = refl
+use Rattle.cq_demands.specs.Demands.{demands}
 
 demands_and : (a b : Cond) → demands (And a b) ≡ demands a ++ demands b
-demands_and a b = ap demands_of (conjuncts_and a b) ∙ demands_append (conjuncts a) (conjuncts b)
+unfolding hidden-the_row-Cond-0 hidden
+demands_and a b = refl
 
 append_twice : {X : Type 0} (xs ys zs : List X) → (xs ++ ys) ++ zs ≡ xs ++ (ys ++ zs)
 append_twice [] ys zs = refl
