@@ -2,6 +2,9 @@
 #![tactic(auto)]
 
 mod leaving;
+mod outline;
 mod pieces;
 mod planner;
 mod stub;
+
+pub use outline::outline_of;
