@@ -109,28 +109,22 @@ module _ (c : Contents) (leaving : Leaving) (rels : List Relation) where
 -- ---- queries
 
 module _ (c : Contents) where
-  pub outline_arm : (q : Query) (planner : Planner) (parting : Joined) (shares : Bool) (leaving : Leaving) (ctes : List Outline) (pieces : List Piece) (plan : Outline) →
+  pub outline_arm : (q : Query) (planner : Planner) (parting : Joined) (shares : Bool) (leaving : Leaving) (ctes : List Outline) (pieces : List Piece) →
       planner ≡ planner_of c q → parting ≡ parting_by c planner q → shares ≡ shares_rows parting.class q → ctes ≡ map (outline_of c) (out-Query q).ctes → leaving ≡ leaving_by planner →
-      pieces ≡ pieces_inside c leaving q [] → plan ≡ block_by c planner parting shares ctes pieces → plan ≡ outline_of c q
-  outline_arm q planner parting shares leaving ctes pieces plan p t s o l i is =
+      pieces ≡ pieces_inside c leaving q [] → block_by c planner parting shares ctes pieces ≡ outline_of c q
+  outline_arm q planner parting shares leaving ctes pieces p t s o l i =
       let t' : parting ≡ parting_by c (planner_of c q) q = t ∙ ap (λ x. parting_by c x q) p in
-      is ∙ ((λ j. block_by c (p j) (t' j) ((s ∙ ap (λ (x : Joined). shares_rows x.class q) t') j) (o j) ((i ∙ ap (λ x. pieces_inside c x q []) (l ∙ ap leaving_by p)) j)) ∙ sym (outline_is c q))
+      (λ j. block_by c (p j) (t' j) ((s ∙ ap (λ (x : Joined). shares_rows x.class q) t') j) (o j) ((i ∙ ap (λ x. pieces_inside c x q []) (l ∙ ap leaving_by p)) j)) ∙ sym (outline_is c q)
 
-  pub inside_arm : (leaving : Leaving) (q : Query) (rels : List Relation) (labels : List ℕ) (outside said : List (ℕ × List Value)) (begun_ones : List Begun) (low : ℕ) (pairs : List (ℕ × ℕ)) (plans : List Outline) (f0 f1 f2 : List Piece) →
+  pub inside_arm : (leaving : Leaving) (q : Query) (rels : List Relation) (labels : List ℕ) (outside said : List (ℕ × List Value)) (begun_ones : List Begun) (low : ℕ) (pairs : List (ℕ × ℕ)) (plans : List Outline) (f0 f1 : List Piece) →
       rels ≡ relations c (out-Query q).from 0 None → label labels ≡ first_of_class (equalities (conjuncts_of (out-Query q).filter (out-Query q).from)) →
       said ≡ outside ++ sets_said (conjuncts_of (out-Query q).filter (out-Query q).from) → pairs ≡ [] →
       f1 ≡ f0 ++ pieces_from c leaving rels (seen c labels said begun_ones low pairs (out-Query q).from 0) (out-Query q).from 0 None →
-      plans ≡ map (outline_of c) (out-Query q).subs → f2 ≡ f1 ++ map Asks plans → f2 ≡ f0 ++ pieces_inside c leaving q outside
-  inside_arm leaving q rels labels outside said begun_ones low pairs plans f0 f1 f2 r l s e f o put =
+      plans ≡ map (outline_of c) (out-Query q).subs → f1 ++ map Asks plans ≡ f0 ++ pieces_inside c leaving q outside
+  inside_arm leaving q rels labels outside said begun_ones low pairs plans f0 f1 r l s e f o =
       let sets : seen c labels said begun_ones low pairs (out-Query q).from 0 ≡ value_set outside (conjuncts_of (out-Query q).filter (out-Query q).from) =
       free (class_set (label labels) said) (set_at (class_set (label labels) said) begun_ones) low pairs (distribution_in c (out-Query q).from 0) 0 e
       ∙ (ap (λ first. class_set first said) l ∙ ap (class_set (first_of_class (equalities (conjuncts_of (out-Query q).filter (out-Query q).from)))) s) in
-      put ∙ (ap (λ (ps : List Piece). ps ++ map Asks plans) f
+      ap (λ (ps : List Piece). ps ++ map Asks plans) f
       ∙ (append_assoc f0 (pieces_from c leaving rels (seen c labels said begun_ones low pairs (out-Query q).from 0) (out-Query q).from 0 None) (map Asks plans)
-      ∙ ap (λ (ps : List Piece). f0 ++ ps) ((λ i. pieces_from c leaving (r i) (sets i) (out-Query q).from 0 None ++ map Asks (o i)) ∙ sym (inside_is c leaving outside q))))
-
-  pub lone_arm : (q : Query) (given said : List (ℕ × List Value)) (planner : Planner) (leaving : Leaving) (pieces : List Piece) (plan : Outline) →
-      said ≡ given → planner ≡ subquery_planner c (occurrences_in c q said) → leaving ≡ leaving_by planner → pieces ≡ pieces_inside c leaving q given → plan ≡ lone_by c planner pieces → plan ≡ lone_query c q given
-  lone_arm q given said planner leaving pieces plan s p l i is =
-      let p' : planner ≡ subquery_planner c (occurrences_in c q given) = p ∙ ap (λ x. subquery_planner c (occurrences_in c q x)) s in
-      is ∙ (λ j. lone_by c (p' j) ((i ∙ ap (λ x. pieces_inside c x q given) (l ∙ ap leaving_by p')) j))
+      ∙ ap (λ (ps : List Piece). f0 ++ ps) ((λ i. pieces_from c leaving (r i) (sets i) (out-Query q).from 0 None ++ map Asks (o i)) ∙ sym (inside_is c leaving outside q)))
