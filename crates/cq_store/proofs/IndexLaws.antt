@@ -12,13 +12,14 @@ use Rattle.std.proofs.Math.Nat.{mod-lt}
 use Rattle.cq_value.specs.declared.value.Value.{Value}
 use Rattle.cq_value.specs.declared.value.Value.TheVariants.{Null}
 use Rattle.cq_value.specs.Order.{value_cmp}
+use Rattle.cq_value.specs.declared.change.Change.{Change}
 use Rattle.cq_value.specs.Changes.{changed, applied}
 use Rattle.cq_value.specs.Tables.{Pair, Table, IsAscending, with_row, with_new_row, without_row}
 use Rattle.cq_value.proofs.OrderLaws.{value_cmp_same}
 use Rattle.cq_value.proofs.TableLaws.{rising}
 use Rattle.cq_store.specs.declared.index.Index.{Index}
 use Rattle.cq_store.specs.Stores.{has_value, has_values}
-use Rattle.cq_store.specs.Indexes.{mixed, row_number, wanted_number, bucket, is_in, Rises, Holds, Covers, with_id, named, Splits}
+use Rattle.cq_store.specs.Indexes.{mixed, row_number, wanted_number, bucket, is_in, Rises, Holds, Covers, with_id, Notes, named, Splits}
 
 -- values that are found make the number of the row that has them
 equal : (o : Ordering) → is_eq o ≡ true → o ≡ Equal
@@ -332,3 +333,17 @@ below_next ps next place p up within read = subst (λ (q : Pair). q.0 < next) (s
     at [] k h l = absurd (omega (arith, l))
     at (q ∷ qs) zero h l = h.0
     at (q ∷ qs) (suc k) h l = at qs k h.2 (omega (arith, l))
+
+-- changes one after the other
+pub notes_none : (index : Index) → Notes index index []
+notes_none index t h = h
+
+applied_more : (cs : List Change) (k : ℕ) (d : Change) (t : Table) → k < length cs → applied t (take (k + 1) cs) ≡ changed (applied t (take k cs)) (get_or cs k d)
+applied_more [] k d t l = absurd (omega (arith, l))
+applied_more (c ∷ cs) zero d t l = refl
+applied_more (c ∷ cs) (suc k) d t l = let e : suc k + 1 ≡ suc (k + 1) = omega arith in rw e (applied_more cs k d (changed t c) (omega (arith, l)))
+
+pub notes_more : (before index after : Index) (cs : List Change) (k : ℕ) (c : Change) → Notes before index (take k cs) → k < length cs → c ≡ get_or cs k c → Notes index after (c ∷ []) →
+    Notes before after (take (k + 1) cs)
+notes_more before index after cs k c old within read new t h =
+    subst (λ (u : Table). Holds after u.pairs) (sym (applied_more cs k c t within ∙ ap (λ x. changed (applied t (take k cs)) x) (sym read))) (new (applied t (take k cs)) (old t h))

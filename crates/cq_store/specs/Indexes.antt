@@ -5,7 +5,9 @@ use Rattle.std.specs.Int.{w32, cast_unsigned}
 use Rattle.cq_value.specs.declared.value.Value.{Value}
 use Rattle.cq_value.specs.declared.value.Value.TheVariants.{Null}
 use Rattle.cq_value.specs.Placement.{token_of}
-use Rattle.cq_value.specs.Tables.{Pair}
+use Rattle.cq_value.specs.declared.change.Change.{Change}
+use Rattle.cq_value.specs.Changes.{applied}
+use Rattle.cq_value.specs.Tables.{Pair, Table}
 use Rattle.cq_store.specs.declared.index.Index.{Index}
 use Rattle.cq_store.specs.Stores.{has_values}
 
@@ -48,6 +50,10 @@ pub record Covers (index : Index) (wanted : List (ℕ × Value)) (pairs : List P
 abbrev pub with_id : Index → ℕ → List Value → Index
 with_id index id row = let place = row_number index.columns row % length index.buckets in
     record index { upto = id + 1; buckets = slice_set index.buckets place (slice_index_or index.buckets place [] ++ id ∷ []) }
+
+-- what holds of one index before changes holds of another after them
+abbrev pub Notes : Index → Index → List Change → Type 0
+Notes before after changes = (t : Table) → Holds before t.pairs → Holds after (applied t changes).pairs
 
 -- the rows with an id
 abbrev pub named : ℕ → List Pair → List Pair

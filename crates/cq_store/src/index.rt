@@ -1,10 +1,11 @@
-ghost use Rattle.std.specs.Prelude.{◌≡◌, ◌<◌, ◌≤◌, ◌+◌, ◌^◌, [], true, map, length, OnOk, OnErr, MatchOption, ◌∷◌, List};
+ghost use Rattle.std.specs.Prelude.{◌≡◌, ◌<◌, ◌≤◌, ◌+◌, ◌^◌, [], true, map, length, OnOk, OnErr, IfOk, MatchOption, ◌∷◌, ◌++◌, List, ℕ, slice_index_or, slice_set};
+ghost use Rattle.cq_value.specs.declared.value.Value.{Value};
+ghost use Rattle.cq_value.specs.declared.value.Value.TheVariants.{Null};
 ghost use Rattle.std.specs.List.{All};
 ghost use Rattle.std.specs.Int.{w32, cast_unsigned};
 ghost use Rattle.cq_value.specs.Placement.{token_of};
-ghost use Rattle.cq_value.specs.Changes.{changed, applied};
-ghost use Rattle.cq_value.specs.Tables.{Pair, Table};
-ghost use Rattle.cq_store.specs.Indexes.{mixed as mixed_of, row_number as number_of_row, wanted_number as number_of_wanted, bucket, is_in, Holds, Covers, with_id, named, Splits};
+ghost use Rattle.cq_value.specs.Tables.{Pair};
+ghost use Rattle.cq_store.specs.Indexes.{mixed as mixed_of, row_number as number_of_row, wanted_number as number_of_wanted, bucket, is_in, Holds, Covers, with_id, Notes, named, Splits};
 
 use cq_value::{Change, Changes, Items, NoMemory, Positions, ReservedTable, Row, Value, token};
 use std::alloc::Global;
@@ -29,14 +30,23 @@ fn mixed(number: u32, value: &Value) -> u32
         .wrapping_add(token(value).cast_unsigned())
 }
 
+/// The number of a row's values up to the one in a column, from the number of those before it.
+fn mixed_at(number: u32, row: &Row, column: u32) -> u32
+    ensures { result ≡ mixed_of number (slice_index_or row.now column Null) }
+{
+    match row.get(u64::from(column)) {
+        Some(value) => mixed(number, value),
+        None => mixed(number, &Value::Null),
+    }
+}
+
 /// The number that a row's values in the columns make.
 fn row_number(columns: &[u32], row: &Row) -> u32
     ensures { result ≡ number_of_row columns.now row.now }
 {
     let mut number = 0;
     for column in columns {
-        let value = row.get(u64::from(*column)).unwrap_or(&Value::Null);
-        number = mixed(number, value);
+        number = mixed_at(number, row, *column);
     }
     number
 }
@@ -85,6 +95,54 @@ fn find(rows: &ReservedTable, id: u64) -> Option<&(u64, Row)>
     if pair.0 == id { Some(pair) } else { None }
 }
 
+/// Whether these are the columns of the values.
+fn are_columns(columns: &[u32], wanted: &[(u32, Value)]) -> bool
+    ensures { result ≡ true → columns.now ≡ map (λ (p : ℕ × Value). p.0) wanted.now }
+{
+    if columns.len() != wanted.len() {
+        return false;
+    }
+    for place in 0..columns.len() {
+        if columns[place] != wanted[place].0 {
+            return false;
+        }
+    }
+    true
+}
+
+/// The columns of the values.
+fn columns_of(alloc: Global, wanted: &[(u32, Value)]) -> Result<Positions, NoMemory>
+    ensures { IfOk result (λ columns. columns ≡ map (λ (p : ℕ × Value). p.0) wanted.now) }
+{
+    let mut columns = Positions::new(alloc);
+    for (column, _) in wanted {
+        columns.put(*column)?;
+    }
+    Ok(columns)
+}
+
+/// So many buckets, with no id.
+fn empty_buckets(alloc: Global, count: u64) -> Result<Items<Ids>, NoMemory>
+    ensures count { IfOk result (λ buckets. length buckets ≡ count) }
+    ensures empty { IfOk result (λ buckets. All (λ ids. ids ≡ []) buckets) }
+{
+    let mut buckets = Items::new(alloc);
+    for _ in 0..count {
+        buckets.put(Ids::new(alloc))?;
+    }
+    Ok(buckets)
+}
+
+/// Puts an id last in a bucket.
+fn put_in(buckets: &mut Items<Ids>, place: u64, id: u64) -> Result<(), NoMemory>
+    requires { place < length buckets.old }
+    ensures ok { OnOk result (buckets.new ≡ slice_set buckets.old place (slice_index_or buckets.old place [] ++ id ∷ [])) }
+    ensures err { OnErr result (buckets.new ≡ buckets.old) }
+{
+    let ids = buckets.get_mut(place).unwrap();
+    ids.put(id)
+}
+
 impl Index {
     /// The index of no columns, up to no id.
     pub(crate) fn new(alloc: Global) -> Index
@@ -94,6 +152,140 @@ impl Index {
             columns: Positions::new(alloc),
             upto: 0,
             buckets: Items::new(alloc),
+        }
+    }
+
+    /// The index of the columns of these values, up to no id, with so many buckets.
+    fn of_columns(alloc: Global, wanted: &[(u32, Value)], count: u64) -> Result<Index, NoMemory>
+        ensures holds { IfOk result (λ index. (pairs : List Pair) → Holds index pairs) }
+        ensures columns { IfOk result (λ index. index.columns ≡ map (λ (p : ℕ × Value). p.0) wanted.now) }
+        ensures count { IfOk result (λ index. length index.buckets ≡ count) }
+    {
+        let columns = columns_of(alloc, wanted)?;
+        let buckets = empty_buckets(alloc, count)?;
+        Ok(Index {
+            columns,
+            upto: 0,
+            buckets,
+        })
+    }
+
+    /// The ids in the bucket of a number.
+    fn ids(&self, number: u32) -> &[u64]
+        ensures { result.now ≡ bucket self.now.buckets number }
+    {
+        if self.buckets.len() == 0 {
+            return &[];
+        }
+        let place = u64::from(number) % self.buckets.len();
+        match self.buckets.get(place) {
+            Some(ids) => ids.as_slice(),
+            None => &[],
+        }
+    }
+
+    /// Names one more row.
+    fn add(&mut self, id: u64, row: &Row) -> Result<(), NoMemory>
+        requires some { 0 < length self.old.buckets }
+        requires fits { id + 1 < 2 ^ 64 }
+        ensures ok { OnOk result (self.new ≡ with_id self.old id row.now) }
+        ensures err { OnErr result (self.new ≡ self.old) }
+    {
+        let number = row_number(self.columns.as_slice(), row);
+        let place = u64::from(number) % self.buckets.len();
+        put_in(&mut self.buckets, place, id)?;
+        self.upto = id + 1;
+        Ok(())
+    }
+
+    /// Names the rows from the bound on.
+    fn catch_up(&mut self, rows: &ReservedTable) -> Result<(), NoMemory>
+        requires holds { Holds self.old rows.now.table.pairs }
+        requires some { 0 < length self.old.buckets }
+        ensures holds { Holds self.new rows.now.table.pairs }
+        ensures columns { self.new.columns ≡ self.old.columns }
+        ensures some { length self.new.buckets ≡ length self.old.buckets }
+        ensures all { OnOk result (All (λ (p : Pair). p.0 < self.new.upto) rows.now.table.pairs) }
+    {
+        rows.ids_ascend();
+        let _next = rows.next();
+        let pairs = rows.pairs();
+        let mut place = place_of(rows, self.upto);
+        while place < pairs.len() {
+            let pair = &pairs[place];
+            self.add(pair.0, &pair.1)?;
+            place += 1;
+        }
+        Ok(())
+    }
+
+    /// Becomes an index of the columns of these values with enough buckets, if it is none.
+    fn suit(&mut self, alloc: Global, wanted: &[(u32, Value)], rows: u64) -> Result<(), NoMemory>
+        ensures holds { (pairs : List Pair) → Holds self.old pairs → Holds self.new pairs }
+        ensures columns { OnOk result (self.new.columns ≡ map (λ (p : ℕ × Value). p.0) wanted.now) }
+        ensures some { OnOk result (0 < length self.new.buckets) }
+    {
+        let count = self.buckets.len();
+        if count > 0 && rows / 8 <= count && are_columns(self.columns.as_slice(), wanted) {
+            return Ok(());
+        }
+        *self = Index::of_columns(alloc, wanted, rows / 2 + 1)?;
+        Ok(())
+    }
+
+    /// Comes to name all rows by their values in the columns of these values. Gives whether it does; else there was no memory.
+    pub(crate) fn cover(
+        &mut self,
+        alloc: Global,
+        rows: &ReservedTable,
+        wanted: &[(u32, Value)],
+    ) -> bool
+        requires { Holds self.old rows.now.table.pairs }
+        ensures holds { Holds self.new rows.now.table.pairs }
+        ensures covers { result ≡ true → Covers self.new wanted.now rows.now.table.pairs }
+    {
+        if self.suit(alloc, wanted, rows.len()).is_err() {
+            return false;
+        }
+        self.catch_up(rows).is_ok()
+    }
+
+    /// Whether it holds after a change too.
+    fn stays(&self, change: &Change) -> bool
+        ensures { result ≡ true → Notes self.now self.now (change.now ∷ []) }
+    {
+        match change {
+            Change::Add(id, _) => self.upto <= *id,
+            Change::Put(id, row) => self.names(*id, row),
+            Change::Drop(_) => true,
+        }
+    }
+
+    /// Whether an id isn't below the bound, or stands in the bucket of a row.
+    fn names(&self, id: u64, row: &Row) -> bool
+        ensures { result ≡ true → id < self.now.upto → is_in (bucket self.now.buckets (number_of_row self.now.columns row.now)) id ≡ true }
+    {
+        if self.upto <= id {
+            return true;
+        }
+        finds(self.ids(row_number(self.columns.as_slice(), row)), id)
+    }
+
+    /// Goes on with a change of the rows: where it wouldn't hold after it, it names no row from then on. Takes no memory.
+    fn note(&mut self, alloc: Global, change: &Change)
+        ensures { Notes self.old self.new (change.now ∷ []) }
+    {
+        if !self.stays(change) {
+            *self = Index::new(alloc);
+        }
+    }
+
+    /// Goes on with changes of the rows, in order. Takes no memory.
+    pub(crate) fn note_all(&mut self, alloc: Global, changes: &Changes)
+        ensures { Notes self.old self.new changes.now }
+    {
+        for change in changes.as_slice() {
+            self.note(alloc, change);
         }
     }
 }
