@@ -1,17 +1,15 @@
 -- What an index names: all rows that have the values which are looked for, in order, also after rows came, changed and went.
-use Rattle.std.proofs.Common.{◌≡◌, ◌≢◌, ◌⊎◌, inl, inr, ℕ, zero, suc, ◌+◌, ◌%◌, ◌<◌, ◌≤◌, Bool, true, false, cond, not, ltb, nat_eq, ◌||◌, ◌&&◌, List, [], ◌∷◌, ◌++◌, take, drop, map, filter, length, get_or, set, All, refl, sym, ap, ◌∙◌, ⊎_elim, arith, subst, zero-le, lt_trans, ltb-true, ltb-false, eq-eqb, ne_eqb, ne_of_lt, le_refl, le_of_lt, eq-or-lt_of_le, Equal}
+use Rattle.std.proofs.Common.{◌≡◌, ◌≢◌, ◌⊎◌, inl, inr, ℕ, zero, suc, ◌+◌, ◌%◌, ◌<◌, ◌≤◌, Bool, true, false, cond, not, ltb, nat_eq, ◌||◌, ◌&&◌, List, [], ◌∷◌, ◌++◌, take, map, filter, length, get_or, set, All, refl, sym, ap, ◌∙◌, ⊎_elim, arith, subst, zero-le, ltb-true, ltb-false, eq-eqb, ne_eqb, le_refl, le_of_lt, eq-or-lt_of_le, Equal}
 use Rattle.std.specs.List.{AllByRecursion, list_any, list_all, fold, flat_map}
 use Rattle.std.specs.Ordering.{is_eq}
 use Rattle.std.specs.declared.cmp.Ordering.{Ordering}
 use Rattle.std.specs.declared.cmp.Ordering.TheVariants.{Less, Greater}
-use Rattle.std.proofs.lemmas.Bool.{eqb-true}
 use Rattle.std.proofs.lemmas.List.{get_or_default, get_or-set_same, get_or-set_other, length-set}
 use Rattle.std.proofs.lemmas.List.Elements.{All-from_recursion, recursion_from_All, All-map, All-filter, filter-append}
 use Rattle.std.proofs.lemmas.List.Folds.{list_any-append}
 use Rattle.std.proofs.Math.Nat.{mod-lt}
 use Rattle.cq_value.specs.declared.value.Value.{Value}
 use Rattle.cq_value.specs.declared.value.Value.TheVariants.{Null}
-use Rattle.cq_value.specs.Order.{value_cmp}
 use Rattle.cq_value.specs.declared.change.Change.{Change}
 use Rattle.cq_value.specs.Changes.{changed, applied}
 use Rattle.cq_value.specs.Tables.{Pair, Table, IsAscending, with_row, with_new_row, without_row}
@@ -58,10 +56,10 @@ raised m n (p ∷ ps) h le = (omega (arith, h.0, le), raised m n ps h.1 le)
 
 split_rest : (p : Pair) (ps : List Pair) (id place : ℕ) → Splits (p ∷ ps) id (suc place) → Splits ps id place
 split_rest p ps id place s = record {
-    within = omega (arith, s.within);
-    below = λ k d lt. s.below (suc k) d (omega (arith, lt));
-    above = λ k d le l. s.above (suc k) d (omega (arith, le)) (omega (arith, l));
-  }
+  within = omega (arith, s.within);
+  below = λ k d lt. s.below (suc k) d (omega (arith, lt));
+  above = λ k d le l. s.above (suc k) d (omega (arith, le)) (omega (arith, l));
+}
 
 -- the row at the place where the ids below an id end is the one with the id, if there is one
 pub named_here : (ps : List Pair) (next id place : ℕ) (d : Pair) → IsAscending ps next → Splits ps id place → place < length ps → (get_or ps place d).0 ≡ id →
@@ -147,10 +145,9 @@ order m n = by_test (ltb m n) refl
 first_named : (id : ℕ) (ids : List ℕ) (ps : List Pair) (next : ℕ) → IsAscending ps next → AllByRecursion (λ i. id < i) ids →
     named id ps ++ filter (λ (p : Pair). is_in ids p.0) ps ≡ filter (λ (p : Pair). is_in (id ∷ ids) p.0) ps
 first_named id ids [] next h up = refl
-first_named id ids (p ∷ ps) next h up = 
+first_named id ids (p ∷ ps) next h up =
     let rest = first_named id ids ps next h.2 up in
     ⊎_elim (λ lt. below_first id ids p ps up lt rest) (λ le. ⊎_elim (at_first id ids p ps next h up) (above_first id ids p ps next h up) (eq-or-lt_of_le le)) (order p.0 id)
-
 
 pub all_named : (ids : List ℕ) (upto : ℕ) (ps : List Pair) (next : ℕ) → IsAscending ps next → Rises ids upto →
     flat_map (λ id. named id ps) ids ≡ filter (λ (p : Pair). is_in ids p.0) ps
@@ -219,9 +216,9 @@ finds_any index wanted ps next up h c =
 -- an index that names no row holds of all rows
 pub holds_none : (index : Index) (ps : List Pair) → index.upto ≡ 0 → All (λ ids. ids ≡ []) index.buckets → Holds index ps
 holds_none index ps e none = record {
-    named = λ k d l lt. absurd (omega (arith, lt, e));
-    rises = λ k d l. subst (λ ids. Rises ids index.upto) (sym (none k d l)) tt;
-  }
+  named = λ k d l lt. absurd (omega (arith, lt, e));
+  rises = λ k d l. subst (λ ids. Rises ids index.upto) (sym (none k d l)) tt;
+}
 
 -- changes of the rows
 all_put : (P : Pair → Type 0) (ps : List Pair) (p : Pair) → AllByRecursion P ps → P p → AllByRecursion P (ps ++ p ∷ [])
@@ -233,21 +230,21 @@ Named index p = p.0 < index.upto → is_in (bucket index.buckets (row_number ind
 
 pub holds_added : (index : Index) (t : Table) (id : ℕ) (row : List Value) → Holds index t.pairs → index.upto ≤ id → Holds index (with_row t id row).pairs
 holds_added index t id row h up = record {
-    named = All-from_recursion (Named index) (t.pairs ++ (id, row) ∷ []) (all_put (Named index) t.pairs (id, row) (recursion_from_All (Named index) t.pairs h.named) (λ lt. absurd (omega (arith, lt, up))));
-    rises = h.rises;
-  }
+  named = All-from_recursion (Named index) (t.pairs ++ (id, row) ∷ []) (all_put (Named index) t.pairs (id, row) (recursion_from_All (Named index) t.pairs h.named) (λ lt. absurd (omega (arith, lt, up))));
+  rises = h.rises;
+}
 
 pub holds_dropped : (index : Index) (t : Table) (id : ℕ) → Holds index t.pairs → Holds index (without_row t id).pairs
 holds_dropped index t id h = record {
-    named = All-filter (λ (p : Pair). not (nat_eq p.0 id)) (Named index) t.pairs h.named;
-    rises = h.rises;
-  }
+  named = All-filter (λ (p : Pair). not (nat_eq p.0 id)) (Named index) t.pairs h.named;
+  rises = h.rises;
+}
 
 pub holds_put : (index : Index) (t : Table) (id : ℕ) (row : List Value) → Holds index t.pairs → Named index (id, row) → Holds index (with_new_row t id row).pairs
 holds_put index t id row h there = record {
-    named = All-map (Named index) (λ (p : Pair). cond (nat_eq p.0 id) (id, row) p) t.pairs (λ k d l. either (get_or t.pairs k d) (h.named k d l));
-    rises = h.rises;
-  }
+  named = All-map (Named index) (λ (p : Pair). cond (nat_eq p.0 id) (id, row) p) t.pairs (λ k d l. either (get_or t.pairs k d) (h.named k d l));
+  rises = h.rises;
+}
   where
     either : (p : Pair) → Named index p → Named index (cond (nat_eq p.0 id) (id, row) p)
     either p old = elim (nat_eq p.0 id) as (λ b. Named index (cond b (id, row) p)) [ true ↦ there | false ↦ old ]
@@ -303,13 +300,13 @@ holds_more index ps next place p up h some s within read =
     let above : index.upto ≤ p.0 = subst (λ (q : Pair). index.upto ≤ q.0) (sym read) (s.above place p (le_refl place) within) in
     record {
       named = λ k d l lt. ⊎_elim (λ before. bucket_kept index.buckets b (row_number index.columns (get_or ps k d).1) (get_or ps k d).0 p.0 in_b (h.named k d l (s.below k d before)))
-        (λ after. ⊎_elim (λ same. subst (λ (q : Pair). is_in (bucket (set index.buckets b ids) (row_number index.columns q.1)) q.0 ≡ true) (read ∙ get_or_default ps place p d within ∙ ap (λ j. get_or ps j d) same) (bucket_new index.buckets n p.0 some))
-        (λ later. let high : p.0 < (get_or ps k d).0 = subst (λ (q : Pair). q.0 < (get_or ps k d).0) (sym (read ∙ get_or_default ps place p d within)) (rising ps next place k d up later l) in absurd (omega (arith, high, lt)))
-        (eq-or-lt_of_le after)) (order k place);
+          (λ after. ⊎_elim (λ same. subst (λ (q : Pair). is_in (bucket (set index.buckets b ids) (row_number index.columns q.1)) q.0 ≡ true) (read ∙ get_or_default ps place p d within ∙ ap (λ j. get_or ps j d) same) (bucket_new index.buckets n p.0 some))
+          (λ later. let high : p.0 < (get_or ps k d).0 = subst (λ (q : Pair). q.0 < (get_or ps k d).0) (sym (read ∙ get_or_default ps place p d within)) (rising ps next place k d up later l) in absurd (omega (arith, high, lt)))
+          (eq-or-lt_of_le after)) (order k place);
       rises = λ k d l. let l' : k < length index.buckets = subst (λ m. k < m) (length-set index.buckets b ids) l in
-        ⊎_elim (λ e. subst (λ j. Rises (get_or (set index.buckets b ids) j d) (p.0 + 1)) (sym e)
+          ⊎_elim (λ e. subst (λ j. Rises (get_or (set index.buckets b ids) j d) (p.0 + 1)) (sym e)
           (rw (get_or-set_same index.buckets b ids d in_b) (rises_put (get_or index.buckets b []) index.upto p.0 (h.rises b [] in_b) above)))
-        (λ ne. rw (get_or-set_other index.buckets b k ids d ne) (rises_up (get_or index.buckets k d) index.upto (p.0 + 1) (h.rises k d l') (omega (arith, above)))) (same_or_not k b);
+          (λ ne. rw (get_or-set_other index.buckets b k ids d ne) (rises_up (get_or index.buckets k d) index.upto (p.0 + 1) (h.rises k d l') (omega (arith, above)))) (same_or_not k b);
     }
 
 -- after it the ids below its next end one place further
@@ -320,10 +317,10 @@ splits_more ps next upto place p up s within read =
     record {
       within = omega (arith, within);
       below = λ k d lt. ⊎_elim (λ before. let low = s.below k d before in omega (arith, low, high))
-        (λ after. let e : k ≡ place = omega (arith, after, lt) in let same : (get_or ps k d).0 ≡ p.0 = ap (λ j. (get_or ps j d).0) e ∙ ap (λ (q : Pair). q.0) (sym (here d)) in omega (arith, same))
-        (order k place);
+          (λ after. let e : k ≡ place = omega (arith, after, lt) in let same : (get_or ps k d).0 ≡ p.0 = ap (λ j. (get_or ps j d).0) e ∙ ap (λ (q : Pair). q.0) (sym (here d)) in omega (arith, same))
+          (order k place);
       above = λ k d le l. let rise : (get_or ps place d).0 < (get_or ps k d).0 = rising ps next place k d up (omega (arith, le)) l in
-        let same : p.0 ≡ (get_or ps place d).0 = ap (λ (q : Pair). q.0) (here d) in omega (arith, rise, same);
+          let same : p.0 ≡ (get_or ps place d).0 = ap (λ (q : Pair). q.0) (here d) in omega (arith, rise, same);
     }
 
 pub below_next : (ps : List Pair) (next place : ℕ) (p : Pair) → IsAscending ps next → place < length ps → p ≡ get_or ps place p → p.0 < next

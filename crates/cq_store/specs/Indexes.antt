@@ -9,7 +9,7 @@ use Rattle.cq_value.specs.declared.change.Change.{Change}
 use Rattle.cq_value.specs.Changes.{applied}
 use Rattle.cq_value.specs.Tables.{Pair, Table}
 use Rattle.cq_store.specs.declared.index.Index.{Index}
-use Rattle.cq_store.specs.Stores.{has_values}
+use Rattle.cq_store.specs.declared.indexes.Indexes.{Indexes}
 
 -- the number of the values up to one, from the number of those before it
 abbrev pub mixed : ℕ → Value → ℕ
@@ -54,6 +54,16 @@ with_id index id row = let place = row_number index.columns row % length index.b
 -- what holds of one index before changes holds of another after them
 abbrev pub Notes : Index → Index → List Change → Type 0
 Notes before after changes = (t : Table) → Holds before t.pairs → Holds after (applied t changes).pairs
+
+-- each of the indexes holds of the rows
+pub record HoldAll (indexes : Indexes) (pairs : List Pair) : Type 0 where
+  pub first : Holds indexes.first pairs
+  pub second : Holds indexes.second pairs
+  pub third : Holds indexes.third pairs
+
+-- what all hold of before changes they hold of after them
+abbrev pub NoteAll : Indexes → Indexes → List Change → Type 0
+NoteAll before after changes = (t : Table) → HoldAll before t.pairs → HoldAll after (applied t changes).pairs
 
 -- the rows with an id
 abbrev pub named : ℕ → List Pair → List Pair

@@ -82,7 +82,7 @@ fn place_of(rows: &ReservedTable, id: u64) -> usize
 }
 
 /// The row with an id, with its id.
-fn find(rows: &ReservedTable, id: u64) -> Option<&(u64, Row)>
+pub(crate) fn find(rows: &ReservedTable, id: u64) -> Option<&(u64, Row)>
     ensures { MatchOption result (named id rows.now.table.pairs ≡ []) (λ p. named id rows.now.table.pairs ≡ p.now ∷ []) }
 {
     rows.ids_ascend();
@@ -170,6 +170,13 @@ impl Index {
         })
     }
 
+    /// The ids in the bucket of these values.
+    pub(crate) fn ids_of(&self, wanted: &[(u32, Value)]) -> &[u64]
+        ensures { result.now ≡ bucket self.now.buckets (number_of_wanted wanted.now) }
+    {
+        self.ids(wanted_number(wanted))
+    }
+
     /// The ids in the bucket of a number.
     fn ids(&self, number: u32) -> &[u64]
         ensures { result.now ≡ bucket self.now.buckets number }
@@ -219,21 +226,38 @@ impl Index {
         Ok(())
     }
 
-    /// Becomes an index of the columns of these values with enough buckets, if it is none.
-    fn suit(&mut self, alloc: Global, wanted: &[(u32, Value)], rows: u64) -> Result<(), NoMemory>
+    /// Gets enough buckets for so many rows.
+    fn widen(&mut self, alloc: Global, wanted: &[(u32, Value)], rows: u64) -> Result<(), NoMemory>
+        requires { self.old.columns ≡ map (λ (p : ℕ × Value). p.0) wanted.now }
         ensures holds { (pairs : List Pair) → Holds self.old pairs → Holds self.new pairs }
-        ensures columns { OnOk result (self.new.columns ≡ map (λ (p : ℕ × Value). p.0) wanted.now) }
+        ensures columns { self.new.columns ≡ self.old.columns }
         ensures some { OnOk result (0 < length self.new.buckets) }
     {
-        let count = self.buckets.len();
-        if count > 0 && rows / 8 <= count && are_columns(self.columns.as_slice(), wanted) {
+        if rows / 8 < self.buckets.len() {
             return Ok(());
         }
         *self = Index::of_columns(alloc, wanted, rows / 2 + 1)?;
         Ok(())
     }
 
-    /// Comes to name all rows by their values in the columns of these values. Gives whether it does; else there was no memory.
+    /// Becomes the index of the columns of these values, up to no id, if there is memory for it.
+    fn start(&mut self, alloc: Global, wanted: &[(u32, Value)])
+        ensures { (pairs : List Pair) → Holds self.old pairs → Holds self.new pairs }
+    {
+        if let Ok(index) = Index::of_columns(alloc, wanted, 0) {
+            *self = index;
+        }
+    }
+
+    /// Whether it is an index of the columns of these values.
+    pub(crate) fn is_of(&self, wanted: &[(u32, Value)]) -> bool
+        ensures { result ≡ true → self.now.columns ≡ map (λ (p : ℕ × Value). p.0) wanted.now }
+    {
+        are_columns(self.columns.as_slice(), wanted)
+    }
+
+    /// Comes to name all rows by their values in the columns of these values, when they are looked for again. Gives whether it
+    /// does: not where they were not looked for before, and not for want of memory.
     pub(crate) fn cover(
         &mut self,
         alloc: Global,
@@ -244,7 +268,11 @@ impl Index {
         ensures holds { Holds self.new rows.now.table.pairs }
         ensures covers { result ≡ true → Covers self.new wanted.now rows.now.table.pairs }
     {
-        if self.suit(alloc, wanted, rows.len()).is_err() {
+        if !self.is_of(wanted) {
+            self.start(alloc, wanted);
+            return false;
+        }
+        if self.widen(alloc, wanted, rows.len()).is_err() {
             return false;
         }
         self.catch_up(rows).is_ok()

@@ -3,6 +3,8 @@
 
 mod fault;
 mod index;
+mod indexes;
+mod lookup;
 mod mem;
 mod store;
 mod worker;

@@ -1,4 +1,4 @@
-use Rattle.std.proofs.Common.{◌<◌, length, ltb, get_or, zero-le, ltb-true, ltb-false, rules}
+use Rattle.std.proofs.Common.{ltb, zero-le, ltb-true, ltb-false, rules}
 use Rattle.std.proofs.lemmas.List.Sorted.{IsPartitionedBy-ltb, IsPartitionPoint-from_clause}
 use Rattle.cq_value.proofs.TableLaws.{rising_or_same}
 use Rattle.cq_value.specs.Tables.{Pair}

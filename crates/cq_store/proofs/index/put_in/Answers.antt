@@ -1,4 +1,4 @@
-use Rattle.std.proofs.Common.{◌≡◌, [], OnErr, Ok, Err, Some, slice_get, set, get_or, sym, ap, ◌∙◌, rules, arith}
+use Rattle.std.proofs.Common.{◌≡◌, [], Some, slice_get, set, get_or, sym, ap, ◌∙◌, rules, arith}
 use Rattle.std.proofs.lemmas.List.{set-get_or}
 use Rattle.std.proofs.lemmas.Option.{get_or_from_slice_get}
 use Rattle.cq_store.proofs.index.put_in.Goals as goal

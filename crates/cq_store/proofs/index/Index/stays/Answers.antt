@@ -1,5 +1,4 @@
-use Rattle.std.proofs.Common.{◌≡◌, ap, sym}
-use Rattle.cq_store.proofs.IndexLaws.{holds_added, holds_put, holds_dropped}
+use Rattle.cq_store.proofs.IndexLaws.{holds_put, holds_dropped}
 use Rattle.cq_store.proofs.index.Index.stays.Goals as goal
 
 pub returns-in-Put : goal.returns-in-Put
