@@ -2,6 +2,9 @@
 #![tactic(auto)]
 
 mod fault;
+mod index;
+mod indexes;
+mod lookup;
 mod mem;
 mod store;
 mod worker;
