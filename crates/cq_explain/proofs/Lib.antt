@@ -1,2 +1,2 @@
 pub mod ShardLaws
-pub mod PlanLaws
+pub mod LineLaws
