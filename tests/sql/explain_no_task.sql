@@ -1,4 +1,4 @@
--- EXPLAIN of queries that no task reads anything for.
+-- EXPLAIN of queries without a task, and of those with a part that has none.
 CREATE TABLE orders (customer bigint, id bigint, product bigint, price bigint, PRIMARY KEY (customer, id));
 CREATE TABLE customers (id bigint PRIMARY KEY, name text, region bigint);
 CREATE TABLE products (product bigint PRIMARY KEY, label text, maker bigint);
@@ -15,7 +15,7 @@ EXPLAIN SELECT DISTINCT product FROM orders WHERE customer IN (NULL) AND id = 3;
 EXPLAIN SELECT o.id, c.name FROM orders o JOIN customers c ON o.customer = c.id WHERE o.customer = 3 AND c.id = 4;
 EXPLAIN SELECT s.n FROM (SELECT customer, count(*) AS n FROM orders GROUP BY customer) s WHERE s.customer IN (1, 2) AND s.customer = 5;
 
--- One table of two is read nowhere.
+-- A right side without a value stays in the tasks of its left side.
 EXPLAIN SELECT o.id, c.name FROM customers c LEFT JOIN orders o ON o.customer = c.id WHERE o.customer = NULL;
 
 -- Intermediate results alone.

@@ -1,5 +1,5 @@
 pub mod ShardLaws
-pub mod PlanLaws
+pub mod LineLaws
 pub mod TaskLaws
 pub mod PlannerLaws
 pub mod OutlineNodes

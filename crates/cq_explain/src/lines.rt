@@ -54,7 +54,7 @@ fn combine_words(combine: Combine) -> &'static str
 }
 
 /// Words behind so many blanks.
-#[tactic(auto, using(crate::proofs::PlanLaws::blanks))]
+#[tactic(auto, using(crate::proofs::LineLaws::blanks))]
 fn line(alloc: Global, depth: u64, words: &str) -> Result<Text, NoMemory>
     ensures { IfOk result (λ t. t ≡ texts.line depth words.now) }
 {

@@ -1,7 +1,7 @@
 use Rattle.std.proofs.Common.{rules, arith, ap, ◌+◌, ◌++◌, ◌∙◌}
 use Rattle.cq_outline.specs.Texts.{subplans_in, lines_from}
 use Rattle.cq_explain.specs.Subplans.{nodes_by}
-use Rattle.cq_explain.proofs.PlanLaws.{count_is, plan_lines, one_more, count_more}
+use Rattle.cq_explain.proofs.LineLaws.{count_is, plan_lines, one_more, count_more}
 use Rattle.cq_explain.proofs.lines.+lines.Goals as goal
 
 pub put_plan-returns-clause-lines : goal.put_plan-returns-clause-lines

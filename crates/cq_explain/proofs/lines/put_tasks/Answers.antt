@@ -2,7 +2,7 @@ use Rattle.std.proofs.Common.{◌≡◌, subst}
 use Rattle.std.specs.Prelude.{OnOk}
 use Rattle.cq_outline.specs.declared.outline.Outline.{out-Outline}
 use Rattle.cq_explain.specs.Subplans.{nodes_by}
-use Rattle.cq_explain.proofs.PlanLaws.{none_put, first_put}
+use Rattle.cq_explain.proofs.LineLaws.{none_put, first_put}
 use Rattle.cq_explain.proofs.lines.put_tasks.Goals as goal
 
 pub returns-in_ok-put_shown-in-Some : goal.returns-in_ok-put_shown-in-Some
