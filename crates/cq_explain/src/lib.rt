@@ -2,6 +2,11 @@
 #![tactic(auto)]
 
 mod block;
+mod classes;
+mod component;
+mod components;
+mod joining;
+mod next;
 mod tasking;
 
 pub use block::block_by;

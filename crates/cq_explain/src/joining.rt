@@ -1,0 +1,115 @@
+ghost use Rattle.std.specs.Prelude.{◌≡◌, ◌<◌, ◌++◌, ◌∷◌, [], length, IfOk};
+ghost use Rattle.cq_shape.specs.Labels.{label};
+ghost use Rattle.cq_planning.specs.Joins.{plain_in, relations_of as relations_by_rule};
+ghost use Rattle.cq_outline.specs.Joining.{ranges_of as ranges_by_rule, started as started_by_rule, joined_with as joined_with_by_rule, join_all as join_all_by_rule, join_of as join_of_by_rule, nothing_joined, joined_in as joined_in_by_rule};
+ghost use Rattle.cq_outline.specs.Tasking.{parting_by, first_column as first_column_by_rule};
+ghost use Rattle.cq_explain.specs.Components.{IsThere, AreThere};
+
+use crate::classes::has_class;
+use crate::component::{Component, put_columns};
+use crate::components::put_relations as put_to_components;
+use crate::next::{Candidate, Chosen, next_in};
+use cq_catalog::Catalog;
+use cq_outline::Joined;
+use cq_relations::{Distribution, Relation, count_columns, plain, put_relations};
+use cq_shape::labels_in;
+use cq_tree::{Planner, Query, Step, Steps};
+use cq_value::{Items, NoMemory, Positions};
+use std::alloc::Global;
+
+/// How many ranges the co-location group of a component has.
+fn ranges_of(catalog: &Catalog, p: &Component) -> u32
+    requires { IsThere catalog.now p.now }
+    ensures { result ≡ ranges_by_rule catalog.now p.now.home }
+{
+    catalog.colocation(p.home.colocation).count
+}
+
+/// What is joined first.
+fn started(alloc: Global, catalog: &Catalog, p: Component) -> Joined
+    requires { IsThere catalog.now p }
+    ensures { result ≡ started_by_rule catalog.now p }
+{
+    let count = ranges_of(catalog, &p);
+    let Component { home, columns } = p;
+    Joined {
+        columns,
+        class: home.column,
+        count,
+        steps: Steps::new(alloc),
+    }
+}
+
+/// What is joined with more columns by a step, after which the rows are parted by this class, into so many ranges or buckets.
+fn extended(
+    joined: Joined,
+    more: Positions,
+    class: u64,
+    count: u32,
+    step: Step,
+) -> Result<Joined, NoMemory>
+    ensures { IfOk result (λ j. j ≡ record { columns = joined.columns ++ more; class = class; count = count; steps = joined.steps ++ step ∷ [] }) }
+{
+    let Joined {
+        mut columns,
+        mut steps,
+        ..
+    } = joined;
+    put_columns(&mut columns, more)?;
+    steps.put(step)?;
+    Ok(Joined {
+        columns,
+        class,
+        count,
+        steps,
+    })
+}
+
+/// What is joined with one component more, where this is the first class that both share.
+fn joined_with(
+    catalog: &Catalog,
+    labels: &[u32],
+    joined: Joined,
+    p: Component,
+    shared: u64,
+) -> Result<Joined, NoMemory>
+    requires { IsThere catalog.now p }
+    ensures { IfOk result (λ j. j ≡ joined_with_by_rule (label labels.now) catalog.now joined p shared) }
+{
+    let class = joined.class;
+    let count = joined.count;
+    let home = p.home.column;
+    if has_class(labels, class, p.columns.as_slice()) {
+        extended(joined, p.columns, class, count, Step::Single)
+    } else if has_class(labels, home, joined.columns.as_slice()) {
+        let ranges = ranges_of(catalog, &p);
+        extended(joined, p.columns, home, ranges, Step::Single)
+    } else {
+        extended(joined, p.columns, shared, count, Step::Dual)
+    }
+}
+
+/// So many of these components joined, one after another, as long as one shares a class with what is joined.
+fn join_all(
+    alloc: Global,
+    catalog: &Catalog,
+    labels: &[u32],
+    more: u64,
+    joined: Joined,
+    components: Items<Component>,
+) -> Result<Joined, NoMemory>
+    requires { AreThere catalog.now components }
+    ensures { IfOk result (λ j. j ≡ join_all_by_rule (label labels.now) catalog.now more joined components) }
+{
+    if more == 0 {
+        return Ok(joined);
+    }
+    let Chosen { next, others } = next_in(alloc, labels, joined.columns.as_slice(), components)?;
+    match next {
+        Some(Candidate { component, class }) => {
+            let wider = joined_with(catalog, labels, joined, component, class)?;
+            join_all(alloc, catalog, labels, more - 1, wider, others)
+        }
+        None => Ok(joined),
+    }
+}
