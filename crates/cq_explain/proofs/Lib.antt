@@ -4,4 +4,6 @@ pub mod JoinLaws
 pub mod MarkLaws
 pub mod NextLaws
 pub mod NumberLaws
+pub mod PartLaws
 pub mod TaskLaws
+pub mod ThereLaws

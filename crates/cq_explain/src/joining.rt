@@ -1,8 +1,9 @@
 ghost use Rattle.std.specs.Prelude.{◌≡◌, ◌<◌, ◌++◌, ◌∷◌, [], length, IfOk};
+ghost use Rattle.cq_tree.specs.declared.plan.Planner.TheVariants as planners;
 ghost use Rattle.cq_shape.specs.Labels.{label};
-ghost use Rattle.cq_planning.specs.Joins.{plain_in, relations_of as relations_by_rule};
-ghost use Rattle.cq_outline.specs.Joining.{ranges_of as ranges_by_rule, started as started_by_rule, joined_with as joined_with_by_rule, join_all as join_all_by_rule, join_of as join_of_by_rule, nothing_joined, joined_in as joined_in_by_rule};
-ghost use Rattle.cq_outline.specs.Tasking.{parting_by, first_column as first_column_by_rule};
+ghost use Rattle.cq_planning.specs.Joins.{relations_of as relations_by_rule};
+ghost use Rattle.cq_outline.specs.Joining.{ranges_of as ranges_by_rule, started as started_by_rule, joined_with as joined_with_by_rule, join_all as join_all_by_rule, join_of as join_of_by_rule, nothing_joined, components_with, joined_in as joined_in_by_rule};
+ghost use Rattle.cq_outline.specs.Tasking.{parting_by as parting_by_rule, first_column as first_column_by_rule};
 ghost use Rattle.cq_explain.specs.Components.{IsThere, AreThere};
 
 use crate::classes::has_class;
@@ -111,5 +112,121 @@ fn join_all(
             join_all(alloc, catalog, labels, more - 1, wider, others)
         }
         None => Ok(joined),
+    }
+}
+
+/// Nothing is joined.
+fn nothing(alloc: Global) -> Joined
+    ensures { result ≡ nothing_joined }
+{
+    Joined {
+        columns: Positions::new(alloc),
+        class: 0,
+        count: 0,
+        steps: Steps::new(alloc),
+    }
+}
+
+/// The join of components, which begins with the first.
+fn join_of(
+    alloc: Global,
+    catalog: &Catalog,
+    labels: &[u32],
+    components: Vec<Component>,
+) -> Result<Joined, NoMemory>
+    requires { AreThere catalog.now components.items }
+    ensures { IfOk result (λ j. j ≡ join_of_by_rule (label labels.now) catalog.now components.items) }
+{
+    let mut others = components;
+    if others.is_empty() {
+        return Ok(nothing(alloc));
+    }
+    let first = others.remove(0);
+    let more = others.len() as u64;
+    let joined = started(alloc, catalog, first);
+    join_all(
+        alloc,
+        catalog,
+        labels,
+        more,
+        joined,
+        Items::from_vec(others),
+    )
+}
+
+/// The relations of the FROM of a query.
+fn relations_of(alloc: Global, catalog: &Catalog, q: &Query) -> Result<Items<Relation>, NoMemory>
+    ensures { IfOk result (λ rs. rs ≡ relations_by_rule catalog.now q.now) }
+{
+    let mut relations = Items::new(alloc);
+    put_relations(alloc, catalog, &mut relations, &q.from, 0, None)?;
+    Ok(relations)
+}
+
+/// The components of a FROM of so many columns.
+fn components_of(
+    alloc: Global,
+    labels: &[u32],
+    relations: &[Relation],
+    width: u64,
+) -> Result<Vec<Component>, NoMemory>
+    ensures { IfOk result (λ v. v.items ≡ components_with (label labels.now) width [] relations.now) }
+{
+    let mut components = Vec::new(alloc);
+    put_to_components(alloc, labels, &mut components, relations, width)?;
+    Ok(components)
+}
+
+/// The join of the components of a query, in the order of its FROM.
+fn joined_in(alloc: Global, catalog: &Catalog, q: &Query) -> Result<Joined, NoMemory>
+    ensures { IfOk result (λ j. j ≡ joined_in_by_rule catalog.now q.now) }
+{
+    let relations = relations_of(alloc, catalog, q)?;
+    let labels = labels_in(alloc, &q.from, &q.filter)?;
+    let width = count_columns(&q.from)?;
+    let components = components_of(alloc, labels.as_slice(), relations.as_slice(), width)?;
+    // Each co-location group of a table, and so of a relation, is the catalogue's.
+    let _whole = catalog.tables();
+    join_of(alloc, catalog, labels.as_slice(), components)
+}
+
+/// The distribution column of the first of these.
+fn first_column(plain_ones: &[Distribution]) -> u64
+    ensures { result ≡ first_column_by_rule plain_ones.now }
+{
+    match plain_ones {
+        [first, ..] => first.column,
+        [] => 0,
+    }
+}
+
+/// A parting by the class of the distribution column of the first distributed relation that isn't a right side.
+fn parting_by_first(alloc: Global, catalog: &Catalog, q: &Query) -> Result<Joined, NoMemory>
+    ensures { IfOk result (λ j. j ≡ parting_by_rule catalog.now planners.Pushdown q.now) }
+{
+    let relations = relations_of(alloc, catalog, q)?;
+    let plain_ones = plain(alloc, relations.as_slice())?;
+    Ok(Joined {
+        columns: Positions::new(alloc),
+        class: first_column(plain_ones.as_slice()),
+        count: 0,
+        steps: Steps::new(alloc),
+    })
+}
+
+/// How the rows of a block that this planner takes are parted among its tasks: by the steps of a repartition, or by the class of that column.
+pub fn parting_of(
+    alloc: Global,
+    catalog: &Catalog,
+    q: &Query,
+    planner: Planner,
+) -> Result<Joined, NoMemory>
+    ensures { IfOk result (λ j. j ≡ parting_by_rule catalog.now planner q.now) }
+{
+    match planner {
+        Planner::Repartition => joined_in(alloc, catalog, q),
+        Planner::FastPath | Planner::Router | Planner::Pushdown | Planner::Coordinator => {
+            parting_by_first(alloc, catalog, q)
+        }
     }
 }

@@ -10,4 +10,5 @@ mod next;
 mod tasking;
 
 pub use block::block_by;
+pub use joining::parting_of;
 pub use tasking::{groups_in, shares_rows};
