@@ -1,8 +1,8 @@
 -- The first class that two components share, by marks on the classes of the one.
-use Rattle.std.proofs.Common.{◌≡◌, ◌⊎◌, inl, inr, ◌<◌, ◌≤◌, ℕ, zero, suc, min, Bool, true, false, cond, ◌&&◌, ◌||◌, List, [], ◌∷◌, map, filter, fold, Option, None, Some, refl, sym, ap, ◌∙◌, arith, nat_eq, eq-eqb, if◌then◌else◌}
+use Rattle.std.proofs.Common.{◌≡◌, ◌⊎◌, inl, inr, ◌≤◌, ℕ, min, Bool, true, false, cond, ◌&&◌, ◌||◌, List, [], ◌∷◌, map, filter, fold, Option, None, Some, refl, sym, ap, ◌∙◌, arith, nat_eq, eq-eqb, if◌then◌else◌}
 use Rattle.cq_planning.specs.Touched.{among}
 use Rattle.cq_outline.specs.Joining.{has_class, lesser, shared_class}
-use Rattle.cq_explain.specs.Components.{mark_at, AreOn, least_of, with_class, least_marked}
+use Rattle.cq_explain.specs.Components.{AreOn, least_of, with_class, least_marked}
 use Rattle.cq_explain.proofs.NumberLaws.{two_ways, same_number}
 
 -- ---- the least of numbers
@@ -51,7 +51,7 @@ any_last true b e = refl
 any_last false b e = e
 
 -- it is one of them
-pub is_one : (m : ℕ) (xs : List ℕ) → among (fold min m xs) (m ∷ xs) ≡ true
+is_one : (m : ℕ) (xs : List ℕ) → among (fold min m xs) (m ∷ xs) ≡ true
 is_one m [] = any_first (nat_eq m m) false (eq-eqb m m refl)
 is_one m (x ∷ xs) =
     let v : ℕ = fold min (min m x) xs in

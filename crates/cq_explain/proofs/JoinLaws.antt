@@ -1,13 +1,11 @@
 -- Components joined one after another, and that their co-location groups are the catalogue's.
-use Rattle.std.proofs.Common.{◌≡◌, ◌<◌, ℕ, zero, suc, ◌-◌, Bool, true, false, List, [], ◌∷◌, ◌++◌, length, Option, None, Some, refl, sym, ap, ◌∙◌, subst, arith, if◌then◌else◌}
-use Rattle.cq_tree.specs.declared.plan.Step.{Step}
+use Rattle.std.proofs.Common.{◌≡◌, ℕ, zero, suc, ◌-◌, List, [], ◌∷◌, Option, None, Some, refl, sym, ap, ◌∙◌, subst, arith}
 use Rattle.cq_catalog.specs.Contents.{Contents}
 use Rattle.cq_outline.specs.declared.joining.Joined.{Joined}
 use Rattle.cq_outline.specs.Joining.{Component, Next, behind, next_if, next_of, if_next, shared_class, joined_with, join_all}
 use Rattle.cq_explain.specs.declared.next.Candidate.{Candidate}
-use Rattle.cq_explain.specs.declared.next.Chosen.{Chosen}
 use Rattle.cq_explain.specs.Components.{IsThere, AreThere}
-use Rattle.cq_explain.specs.Choices.{choice, chosen_next}
+use Rattle.cq_explain.specs.Choices.{choice}
 
 -- ---- one after another
 

@@ -1,7 +1,6 @@
 -- Marks on numbers.
-use Rattle.std.proofs.Common.{◌≡◌, ◌⊎◌, inl, inr, ◌<◌, ℕ, zero, suc, ◌+◌, Bool, true, false, ◌||◌, List, [], ◌∷◌, ◌++◌, length, refl, sym, ap, ◌∙◌, arith, nat_eq, eq-eqb}
-use Rattle.std.specs.Prelude.{slice_set, slice_index_or}
-use Rattle.cq_planning.specs.Touched.{among}
+use Rattle.std.proofs.Common.{◌≡◌, inl, inr, ◌<◌, ℕ, zero, suc, Bool, true, false, ◌||◌, List, [], ◌∷◌, ◌++◌, length, refl, sym, ap, ◌∙◌, arith, nat_eq, eq-eqb}
+use Rattle.std.specs.Prelude.{slice_set}
 use Rattle.cq_explain.specs.Components.{mark_at, AreSame, IsMarked, AreOn}
 use Rattle.cq_explain.proofs.NumberLaws.{two_ways, same_number, among_last}
 

@@ -3,8 +3,8 @@ use Rattle.std.proofs.Common.{◌≡◌, ℕ, Bool, List, [], ◌∷◌, ◌++�
 use Rattle.cq_outline.specs.Joining.{Component, Next, behind, next_if, next_of, shared_class}
 use Rattle.cq_explain.specs.declared.next.Candidate.{Candidate}
 use Rattle.cq_explain.specs.declared.next.Chosen.{Chosen}
-use Rattle.cq_explain.specs.Components.{AreOn, least_marked}
-use Rattle.cq_explain.specs.Choices.{not_chosen, if_shared, choose, with_component, choice, chosen_next}
+use Rattle.cq_explain.specs.Components.{AreOn}
+use Rattle.cq_explain.specs.Choices.{not_chosen, if_shared, with_component, chosen_next}
 use Rattle.cq_explain.proofs.ClassLaws.{marked_is}
 
 -- with these components before the others, none of which is chosen

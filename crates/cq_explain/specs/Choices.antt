@@ -1,5 +1,5 @@
 -- The choice of the next component, one after another.
-use Rattle.std.specs.Prelude.{ℕ, List, [], ◌∷◌, ◌++◌, fold, Bool, Option, None, Some}
+use Rattle.std.specs.Prelude.{ℕ, List, [], ◌∷◌, ◌++◌, Bool, Option, None, Some}
 use Rattle.cq_outline.specs.Joining.{Component, Next}
 use Rattle.cq_explain.specs.declared.next.Candidate.{Candidate}
 use Rattle.cq_explain.specs.declared.next.Chosen.{Chosen}

@@ -18,7 +18,7 @@ use cq_tree::{Planner, Query, Step, Steps};
 use cq_value::{Items, NoMemory, Positions};
 use std::alloc::Global;
 
-/// How many ranges the co-location group of a component has.
+/// How many ranges the co-location group of a component has, which is one of the catalogue's.
 fn ranges_of(catalog: &Catalog, p: &Component) -> u32
     requires { IsThere catalog.now p.now }
     ensures { result ≡ ranges_by_rule catalog.now p.now.home }
@@ -26,7 +26,7 @@ fn ranges_of(catalog: &Catalog, p: &Component) -> u32
     catalog.colocation(p.home.colocation).count
 }
 
-/// What is joined first.
+/// What is joined first: a component of a co-location group of the catalogue's.
 fn started(alloc: Global, catalog: &Catalog, p: Component) -> Joined
     requires { IsThere catalog.now p }
     ensures { result ≡ started_by_rule catalog.now p }
@@ -66,7 +66,7 @@ fn extended(
     })
 }
 
-/// What is joined with one component more, where this is the first class that both share.
+/// What is joined with one component more, of a co-location group of the catalogue's, where this is the first class that both share.
 fn joined_with(
     catalog: &Catalog,
     labels: &[u32],
@@ -90,7 +90,8 @@ fn joined_with(
     }
 }
 
-/// So many of these components joined, one after another, as long as one shares a class with what is joined.
+/// So many of these components joined, one after another, as long as one shares a class with what is joined. Their co-location groups are the
+/// catalogue's.
 fn join_all(
     alloc: Global,
     catalog: &Catalog,
@@ -116,7 +117,7 @@ fn join_all(
 }
 
 /// Nothing is joined.
-fn nothing(alloc: Global) -> Joined
+pub fn nothing(alloc: Global) -> Joined
     ensures { result ≡ nothing_joined }
 {
     Joined {
@@ -127,7 +128,7 @@ fn nothing(alloc: Global) -> Joined
     }
 }
 
-/// The join of components, which begins with the first.
+/// The join of components, which begins with the first. Their co-location groups are the catalogue's.
 fn join_of(
     alloc: Global,
     catalog: &Catalog,

@@ -1,4 +1,4 @@
-use Rattle.std.proofs.Common.{rules, arith}
+use Rattle.std.proofs.Common.{arith}
 use Rattle.std.proofs.lemmas.Grind.{common_steps}
 use Rattle.cq_shape.specs.Labels.{label}
 use Rattle.cq_explain.proofs.ComponentLaws.{put_here, put_last}

@@ -1,7 +1,7 @@
-use Rattle.std.proofs.Common.{◌≡◌, ◌<◌, ℕ, Option, Some, IfOk, sym, ap, ◌∙◌, subst, arith}
+use Rattle.std.proofs.Common.{◌≡◌, Option, IfOk, sym, ap, ◌∙◌, subst, arith}
 use Rattle.cq_shape.specs.Labels.{label}
 use Rattle.cq_outline.specs.declared.joining.Joined.{Joined}
-use Rattle.cq_outline.specs.Joining.{next_of, join_all}
+use Rattle.cq_outline.specs.Joining.{next_of}
 use Rattle.cq_explain.specs.declared.next.Candidate.{Candidate}
 use Rattle.cq_explain.specs.Choices.{choice}
 use Rattle.cq_explain.proofs.JoinLaws.{chosen_there, join_more}
