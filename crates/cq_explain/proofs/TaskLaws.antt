@@ -1,13 +1,10 @@
 -- The tasks of a block, as code makes them, and what rows of several can share.
-use Rattle.std.proofs.Common.{◌≡◌, ℕ, zero, suc, ◌+◌, Bool, true, false, not, ◌&&◌, ◌||◌, List, [], ◌∷◌, ◌++◌, map, take, None, refl, sym, ap, ◌∙◌, arith, add-one}
-use Rattle.std.specs.List.{list_any}
+use Rattle.std.proofs.Common.{◌≡◌, ℕ, zero, suc, ◌+◌, Bool, true, false, not, ◌&&◌, ◌||◌, List, [], ◌∷◌, ◌++◌, map, None, refl, sym, ap, ◌∙◌, arith, add-one}
 use Rattle.std.proofs.lemmas.List.{map-append}
 use Rattle.cq_tree.specs.declared.plan.Task.{Task}
 use Rattle.cq_tree.specs.declared.query.Query.{Query, Query', out-Query}
 use Rattle.cq_planning.specs.Classes.{first_of_class}
-use Rattle.cq_planning.specs.Conjuncts.{conjuncts_of, equalities, column_of}
-use Rattle.cq_planning.specs.Components.{is_of_class}
-use Rattle.cq_planning.specs.Pushable.{column_behind}
+use Rattle.cq_planning.specs.Conjuncts.{conjuncts_of, equalities}
 use Rattle.cq_planning.specs.Touched.{numbers}
 use Rattle.cq_outline.specs.Tasking.{bucket_tasks, shares_rows}
 use Rattle.cq_explain.specs.Shares.{shares_keys, shares_outputs}

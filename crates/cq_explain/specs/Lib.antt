@@ -1,5 +1,7 @@
+pub mod Choices
+pub mod Components
 pub mod Enumerated
-pub mod Subplans
-pub mod Shares
-pub mod Planners
 pub mod Pieces
+pub mod Planners
+pub mod Shares
+pub mod Subplans

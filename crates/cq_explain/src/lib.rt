@@ -2,15 +2,19 @@
 #![tactic(auto)]
 
 mod block;
+mod classes;
+mod component;
+mod components;
 mod explaining;
+mod joining;
 mod leaving;
 mod lines;
+mod next;
 mod outline;
 mod pieces;
 mod planner;
 mod rows;
 mod shards;
-mod stub;
 mod tasking;
 
 pub use explaining::explain;

@@ -7,7 +7,7 @@ use crate::leaving::{inside, leaves_subquery, leaving_by};
 use crate::pieces::{Frame, copy_said, lone, put_asked, put_table};
 use crate::planner::{planner_of, subquery_planner};
 use crate::block::block_by;
-use crate::stub::parting_of;
+use crate::joining::parting_of;
 use crate::tasking::shares_rows;
 use cq_catalog::Catalog;
 use cq_outline::{Leaving, Outline, Outlines, Piece, Pieces};
