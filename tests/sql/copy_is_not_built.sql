@@ -1,4 +1,4 @@
--- COPY and EXPLAIN that are bound, and that are not built.
+-- COPY that is bound, and that is not built; and EXPLAIN beside it.
 CREATE TABLE t (k bigint, v integer, s text, PRIMARY KEY (k));
 CREATE TABLE u (k bigint, w bigint, name text);
 CREATE TABLE r (id bigint, name text, PRIMARY KEY (id));
