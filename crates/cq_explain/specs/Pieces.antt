@@ -9,7 +9,6 @@ use Rattle.cq_planning.specs.ValueSets.{ValueSet}
 use Rattle.cq_planning.specs.Relations.{OuterJoin, Relation}
 use Rattle.cq_planning.specs.Pushable.{pushable, distribution_by}
 use Rattle.cq_planning.specs.Occurrences.{occurrences_in}
-use Rattle.cq_planning.specs.Routing.{is_one_value}
 use Rattle.cq_plan.specs.declared.sets.Begun.{Begun}
 use Rattle.cq_outline.specs.declared.outline.Leaving.{Leaving}
 use Rattle.cq_outline.specs.declared.outline.Outline.{Outline}

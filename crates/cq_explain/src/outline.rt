@@ -30,7 +30,14 @@ pub fn outline_of(alloc: Global, catalog: &Catalog, q: &Query) -> Result<Outline
     let shares = shares_rows(alloc, q, parting.class)?;
     let ctes = outlines(alloc, catalog, q.ctes.as_slice())?;
     let mut pieces = Pieces::new(alloc);
-    put_inside(alloc, catalog, leaving_by(planner), q, Items::new(alloc), &mut pieces)?;
+    put_inside(
+        alloc,
+        catalog,
+        leaving_by(planner),
+        q,
+        Items::new(alloc),
+        &mut pieces,
+    )?;
     block_by(alloc, catalog, planner, parting, shares, ctes, pieces)
 }
 
@@ -71,7 +78,17 @@ fn put_inside(
         labels: labels.as_slice(),
         said: said.as_slice(),
     };
-    walk(alloc, catalog, frame, base, nothing(), &q.from, 0, None, found)?;
+    walk(
+        alloc,
+        catalog,
+        frame,
+        base,
+        nothing(),
+        &q.from,
+        0,
+        None,
+        found,
+    )?;
     let plans = outlines(alloc, catalog, q.subs.as_slice())?;
     put_asked(plans, found)
 }

@@ -44,7 +44,15 @@ pub fn lone(
         count: 0,
         steps: Steps::new(alloc),
     };
-    block_by(alloc, catalog, planner, parting, false, Outlines::new(alloc), pieces)
+    block_by(
+        alloc,
+        catalog,
+        planner,
+        parting,
+        false,
+        Outlines::new(alloc),
+        pieces,
+    )
 }
 
 fn is_one_value(set: &ValueSet) -> bool
@@ -141,8 +149,8 @@ pub fn put_table(
     ensures { IfOk result (λ rs.
         (rs ≡ one_begun start (distribution_by_place start (place_at catalog.now table)) (set_of (sets_under (class_set_by_rule (label base.entry.labels.now) base.entry.said.now) (set_at_by_rule (class_set_by_rule (label base.entry.labels.now) base.entry.said.now) right.entry.relations.now) right.entry.low right.entry.pairs.now (distribution_by_place start (place_at catalog.now table)) start) (distribution_by_place start (place_at catalog.now table))))
         × (found.new ≡ found.old ++ piece_of_table catalog.now frame.entry.leaving frame.entry.relations.now (record { start = start; distribution = distribution_by_place start (place_at catalog.now table); outer = outer })
-            (occurrence_of catalog.now (sets_under (class_set_by_rule (label base.entry.labels.now) base.entry.said.now) (set_at_by_rule (class_set_by_rule (label base.entry.labels.now) base.entry.said.now) right.entry.relations.now) right.entry.low right.entry.pairs.now (distribution_by_place start (place_at catalog.now table)) start) start table)
-            (key_values (sets_under (class_set_by_rule (label base.entry.labels.now) base.entry.said.now) (set_at_by_rule (class_set_by_rule (label base.entry.labels.now) base.entry.said.now) right.entry.relations.now) right.entry.low right.entry.pairs.now (distribution_by_place start (place_at catalog.now table)) start) start (place_at catalog.now table)) ∷ [])) }
+        (occurrence_of catalog.now (sets_under (class_set_by_rule (label base.entry.labels.now) base.entry.said.now) (set_at_by_rule (class_set_by_rule (label base.entry.labels.now) base.entry.said.now) right.entry.relations.now) right.entry.low right.entry.pairs.now (distribution_by_place start (place_at catalog.now table)) start) start table)
+        (key_values (sets_under (class_set_by_rule (label base.entry.labels.now) base.entry.said.now) (set_at_by_rule (class_set_by_rule (label base.entry.labels.now) base.entry.said.now) right.entry.relations.now) right.entry.low right.entry.pairs.now (distribution_by_place start (place_at catalog.now table)) start) start (place_at catalog.now table)) ∷ [])) }
 {
     let distribution = distribution_at(start, place_of(catalog, table))?;
     let relation = Relation {
