@@ -67,28 +67,16 @@ fn put_inside(
 {
     let mut relations = Items::new(alloc);
     put_relations(alloc, catalog, &mut relations, &q.from, 0, None)?;
-    let frame = Frame {
-        leaving,
-        relations: relations.as_slice(),
-    };
     let labels = labels_in(alloc, &q.from, &q.filter)?;
     let mut said = outside;
     put_all_said(alloc, &mut said, &q.from, &q.filter)?;
-    let base = Base {
+    let frame = Frame {
+        leaving,
+        relations: relations.as_slice(),
         labels: labels.as_slice(),
         said: said.as_slice(),
     };
-    walk(
-        alloc,
-        catalog,
-        frame,
-        base,
-        nothing(),
-        &q.from,
-        0,
-        None,
-        found,
-    )?;
+    walk(alloc, catalog, frame, nothing(), &q.from, 0, None, found)?;
     let plans = outlines(alloc, catalog, q.subs.as_slice())?;
     put_asked(plans, found)
 }
@@ -100,7 +88,6 @@ fn walk(
     alloc: Global,
     catalog: &Catalog,
     frame: Frame<'_>,
-    base: Base<'_>,
     right: Right<'_>,
     from: &FromTree,
     start: u64,
@@ -108,14 +95,18 @@ fn walk(
     found: &mut Pieces,
 ) -> Result<BegunList, NoMemory>
     ensures { IfOk result (λ rs.
-        (rs ≡ begun catalog.now (seen catalog.now base.entry.labels.now base.entry.said.now right.entry.relations.now right.entry.low right.entry.pairs.now from.now start) from.now start)
-        × (found.new ≡ found.old ++ pieces_from catalog.now frame.entry.leaving frame.entry.relations.now (seen catalog.now base.entry.labels.now base.entry.said.now right.entry.relations.now right.entry.low right.entry.pairs.now from.now start) from.now start outer)) }
+        (rs ≡ begun catalog.now (seen catalog.now frame.entry.labels.now frame.entry.said.now right.entry.relations.now right.entry.low right.entry.pairs.now from.now start) from.now start)
+        × (found.new ≡ found.old ++ pieces_from catalog.now frame.entry.leaving frame.entry.relations.now (seen catalog.now frame.entry.labels.now frame.entry.said.now right.entry.relations.now right.entry.low right.entry.pairs.now from.now start) from.now start outer)) }
 {
     match from {
-        FromTree::Table(table, _) => put_table(
-            alloc, catalog, frame, base, right, *table, start, outer, found,
-        ),
+        FromTree::Table(table, _) => {
+            put_table(alloc, catalog, frame, right, *table, start, outer, found)
+        }
         FromTree::Sub(q) => {
+            let base = Base {
+                labels: frame.labels,
+                said: frame.said,
+            };
             let (said, list) = below(alloc, catalog, base, right, q.get(), start)?;
             put_subquery(alloc, catalog, frame, q.get(), start, outer, said, found)?;
             Ok(list)
@@ -126,7 +117,6 @@ fn walk(
                 alloc,
                 catalog,
                 frame,
-                base,
                 nothing(),
                 a.get(),
                 start,
@@ -138,7 +128,6 @@ fn walk(
                 alloc,
                 catalog,
                 frame,
-                base,
                 nothing(),
                 b.get(),
                 behind,
@@ -153,7 +142,6 @@ fn walk(
                 alloc,
                 catalog,
                 frame,
-                base,
                 nothing(),
                 a.get(),
                 start,
@@ -165,7 +153,6 @@ fn walk(
                 alloc,
                 catalog,
                 frame,
-                base,
                 nothing(),
                 b.get(),
                 behind,
@@ -180,7 +167,6 @@ fn walk(
                 alloc,
                 catalog,
                 frame,
-                base,
                 nothing(),
                 a.get(),
                 start,
@@ -194,16 +180,15 @@ fn walk(
                 relations: list.as_slice(),
                 pairs: pairs.as_slice(),
             };
-            let join = outer_join(alloc, start, on)?;
+            let join = Some(outer_join(alloc, start, on)?);
             let side = walk(
                 alloc,
                 catalog,
                 frame,
-                base,
                 narrowing,
                 b.get(),
                 behind,
-                Some(join),
+                join,
                 found,
             )?;
             let more = as_one_relation(alloc, b.get(), behind, side)?;

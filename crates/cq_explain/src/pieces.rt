@@ -22,11 +22,14 @@ use cq_tree::{Planner, Steps};
 use cq_value::{Items, NoMemory, Positions};
 use std::alloc::Global;
 
-/// Of a block or a subquery that stays in one: which relations don't stay, and the relations of its FROM.
+/// Of a block, or of a subquery that stays in one: which relations don't stay, the relations of its FROM, and what the value sets of their
+/// columns are made of: the labels of the columns, and what is said of them.
 #[derive(Clone, Copy)]
 pub struct Frame<'a> {
     pub leaving: Leaving,
     pub relations: &'a [Relation],
+    pub labels: &'a [u32],
+    pub said: &'a [Said],
 }
 
 /// A right side that is planned by itself, of all its columns.
@@ -139,7 +142,6 @@ pub fn put_table(
     alloc: Global,
     catalog: &Catalog,
     frame: Frame<'_>,
-    base: Base<'_>,
     right: Right<'_>,
     table: u32,
     start: u64,
@@ -147,16 +149,20 @@ pub fn put_table(
     found: &mut Pieces,
 ) -> Result<BegunList, NoMemory>
     ensures { IfOk result (λ rs.
-        (rs ≡ one_begun start (distribution_by_place start (place_at catalog.now table)) (set_of (sets_under (class_set_by_rule (label base.entry.labels.now) base.entry.said.now) (set_at_by_rule (class_set_by_rule (label base.entry.labels.now) base.entry.said.now) right.entry.relations.now) right.entry.low right.entry.pairs.now (distribution_by_place start (place_at catalog.now table)) start) (distribution_by_place start (place_at catalog.now table))))
+        (rs ≡ one_begun start (distribution_by_place start (place_at catalog.now table)) (set_of (sets_under (class_set_by_rule (label frame.entry.labels.now) frame.entry.said.now) (set_at_by_rule (class_set_by_rule (label frame.entry.labels.now) frame.entry.said.now) right.entry.relations.now) right.entry.low right.entry.pairs.now (distribution_by_place start (place_at catalog.now table)) start) (distribution_by_place start (place_at catalog.now table))))
         × (found.new ≡ found.old ++ piece_of_table catalog.now frame.entry.leaving frame.entry.relations.now (record { start = start; distribution = distribution_by_place start (place_at catalog.now table); outer = outer })
-        (occurrence_of catalog.now (sets_under (class_set_by_rule (label base.entry.labels.now) base.entry.said.now) (set_at_by_rule (class_set_by_rule (label base.entry.labels.now) base.entry.said.now) right.entry.relations.now) right.entry.low right.entry.pairs.now (distribution_by_place start (place_at catalog.now table)) start) start table)
-        (key_values (sets_under (class_set_by_rule (label base.entry.labels.now) base.entry.said.now) (set_at_by_rule (class_set_by_rule (label base.entry.labels.now) base.entry.said.now) right.entry.relations.now) right.entry.low right.entry.pairs.now (distribution_by_place start (place_at catalog.now table)) start) start (place_at catalog.now table)) ∷ [])) }
+        (occurrence_of catalog.now (sets_under (class_set_by_rule (label frame.entry.labels.now) frame.entry.said.now) (set_at_by_rule (class_set_by_rule (label frame.entry.labels.now) frame.entry.said.now) right.entry.relations.now) right.entry.low right.entry.pairs.now (distribution_by_place start (place_at catalog.now table)) start) start table)
+        (key_values (sets_under (class_set_by_rule (label frame.entry.labels.now) frame.entry.said.now) (set_at_by_rule (class_set_by_rule (label frame.entry.labels.now) frame.entry.said.now) right.entry.relations.now) right.entry.low right.entry.pairs.now (distribution_by_place start (place_at catalog.now table)) start) start (place_at catalog.now table)) ∷ [])) }
 {
     let distribution = distribution_at(start, place_of(catalog, table))?;
     let relation = Relation {
         start,
         distribution,
         outer,
+    };
+    let base = Base {
+        labels: frame.labels,
+        said: frame.said,
     };
     let (groups, list) = table_in(alloc, catalog, base, right, table, start)?;
     let one = is_one(list.as_slice());
