@@ -32,6 +32,9 @@ use Rattle.cq_explain.proofs.OutlineNodes.{outline_is, inside_is, pieces_sub, pi
 
 -- ---- a FROM
 
+abbrev pub join_by : ℕ → List (ℕ × ℕ) → OuterJoin
+join_by low pairs = record { left = low; equalities = pairs }
+
 module _ (c : Contents) (leaving : Leaving) (rels : List Relation) where
   abbrev pub Walked : (ℕ → ValueSet) → FromTree → ℕ → Option OuterJoin → List Begun → List Piece → List Piece → Type 0
   Walked sets f start outer list before after = (list ≡ begun c sets f start) × (after ≡ before ++ pieces_from c leaving rels sets f start outer)

@@ -1,10 +1,10 @@
 ghost use Rattle.std.specs.Prelude.{◌≡◌, ◌++◌, IfOk, OnOk, map};
 ghost use Rattle.cq_plan.specs.Begun.{begun, seen};
 ghost use Rattle.cq_outline.specs.Outlines.{outline_of as outline_by_rule, pieces_from, pieces_inside};
-ghost use Rattle.cq_explain.specs.Pieces.{lone_query as lone_by_rule, alone as alone_by_rule, pieces_of_query};
+ghost use Rattle.cq_explain.specs.Pieces.{lone_query as lone_by_rule, alone as alone_by_rule, pieces_of_query, outer_by};
 
 use crate::leaving::{inside, leaves_subquery, leaving_by};
-use crate::pieces::{Frame, copy_said, lone, put_asked, put_table};
+use crate::pieces::{Frame, copy_said, lone, outer_of, put_asked, put_table};
 use crate::planner::{planner_of, subquery_planner};
 use crate::stub::{block_by, parting_of, shares_rows};
 use cq_catalog::Catalog;
@@ -13,7 +13,7 @@ use cq_plan::{
     Base, BegunList, Right, as_one_relation, below, equalities_of, joined, nothing, one,
 };
 use cq_relations::{
-    OuterJoin, Relation, count_columns, distribution_by, outer_join, plus, pushable, put_relations,
+    OuterJoin, Relation, count_columns, distribution_by, plus, pushable, put_relations,
 };
 use cq_shape::{Said, labels_in, put_all_said};
 use cq_tree::{FromTree, Query};
@@ -76,13 +76,13 @@ fn put_inside(
         labels: labels.as_slice(),
         said: said.as_slice(),
     };
-    walk(alloc, catalog, frame, nothing(), &q.from, 0, None, found)?;
+    walk(alloc, catalog, frame, nothing(), &q.from, 0, false, found)?;
     let plans = outlines(alloc, catalog, q.subs.as_slice())?;
     put_asked(plans, found)
 }
 
-/// Puts the pieces of a FROM last, of which the first column has the number `start`, and of which `outer` is the LEFT JOIN where it is a right
-/// side; and gives its relations with their value sets.
+/// Puts the pieces of a FROM last, of which the first column has the number `start`, and which may be the right side of a LEFT JOIN; and gives
+/// its relations with their value sets.
 #[cycle(outline)]
 fn walk(
     alloc: Global,
@@ -91,16 +91,16 @@ fn walk(
     right: Right<'_>,
     from: &FromTree,
     start: u64,
-    outer: Option<OuterJoin>,
+    is_right: bool,
     found: &mut Pieces,
 ) -> Result<BegunList, NoMemory>
     ensures { IfOk result (λ rs.
         (rs ≡ begun catalog.now (seen catalog.now frame.entry.labels.now frame.entry.said.now right.entry.relations.now right.entry.low right.entry.pairs.now from.now start) from.now start)
-        × (found.new ≡ found.old ++ pieces_from catalog.now frame.entry.leaving frame.entry.relations.now (seen catalog.now frame.entry.labels.now frame.entry.said.now right.entry.relations.now right.entry.low right.entry.pairs.now from.now start) from.now start outer)) }
+        × (found.new ≡ found.old ++ pieces_from catalog.now frame.entry.leaving frame.entry.relations.now (seen catalog.now frame.entry.labels.now frame.entry.said.now right.entry.relations.now right.entry.low right.entry.pairs.now from.now start) from.now start (outer_by is_right right.entry.low right.entry.pairs.now))) }
 {
     match from {
         FromTree::Table(table, _) => {
-            put_table(alloc, catalog, frame, right, *table, start, outer, found)
+            put_table(alloc, catalog, frame, right, *table, start, is_right, found)
         }
         FromTree::Sub(q) => {
             let base = Base {
@@ -108,6 +108,7 @@ fn walk(
                 said: frame.said,
             };
             let (said, list) = below(alloc, catalog, base, right, q.get(), start)?;
+            let outer = outer_of(alloc, is_right, right)?;
             put_subquery(alloc, catalog, frame, q.get(), start, outer, said, found)?;
             Ok(list)
         }
@@ -120,7 +121,7 @@ fn walk(
                 nothing(),
                 a.get(),
                 start,
-                None,
+                false,
                 found,
             )?;
             let behind = plus(start, count_columns(a.get())?)?;
@@ -131,7 +132,7 @@ fn walk(
                 nothing(),
                 b.get(),
                 behind,
-                None,
+                false,
                 found,
             )?;
             let all = joined(list, more)?;
@@ -145,7 +146,7 @@ fn walk(
                 nothing(),
                 a.get(),
                 start,
-                None,
+                false,
                 found,
             )?;
             let behind = plus(start, count_columns(a.get())?)?;
@@ -156,7 +157,7 @@ fn walk(
                 nothing(),
                 b.get(),
                 behind,
-                None,
+                false,
                 found,
             )?;
             let all = joined(list, more)?;
@@ -170,7 +171,7 @@ fn walk(
                 nothing(),
                 a.get(),
                 start,
-                None,
+                false,
                 found,
             )?;
             let behind = plus(start, count_columns(a.get())?)?;
@@ -180,7 +181,6 @@ fn walk(
                 relations: list.as_slice(),
                 pairs: pairs.as_slice(),
             };
-            let join = Some(outer_join(alloc, start, on)?);
             let side = walk(
                 alloc,
                 catalog,
@@ -188,7 +188,7 @@ fn walk(
                 narrowing,
                 b.get(),
                 behind,
-                join,
+                true,
                 found,
             )?;
             let more = as_one_relation(alloc, b.get(), behind, side)?;

@@ -9,7 +9,7 @@ ghost use Rattle.cq_plan.specs.Begun.{set_at as set_at_by_rule, set_of, sets_und
 ghost use Rattle.cq_outline.specs.declared.outline.Piece.TheVariants.{Asks};
 ghost use Rattle.cq_outline.specs.Tasking.{groups_in as groups_in_by_rule};
 ghost use Rattle.cq_outline.specs.Outlines.{lone_by, piece_of_table};
-ghost use Rattle.cq_explain.specs.Pieces.{first_set, planner_by, lone_touch, piece_of_touch};
+ghost use Rattle.cq_explain.specs.Pieces.{outer_by, first_set, planner_by, lone_touch, piece_of_touch};
 
 use crate::leaving::leaves;
 use crate::stub::{block_by, groups_in};
@@ -135,8 +135,37 @@ fn table_piece(
     }
 }
 
-/// Puts a table of a FROM last, whose first column has the number `start`, and of which `outer` is the LEFT JOIN where it is a right side; and
-/// gives the relation that it is, with the value set of its distribution column.
+/// The LEFT JOIN of which a relation is the right side, where it is one.
+pub fn outer_of(
+    alloc: Global,
+    is_right: bool,
+    right: Right<'_>,
+) -> Result<Option<OuterJoin>, NoMemory>
+    ensures { IfOk result (λ o. o ≡ outer_by is_right right.entry.low right.entry.pairs.now) }
+{
+    if is_right {
+        Ok(Some(OuterJoin {
+            left: right.low,
+            equalities: copy_pairs(alloc, right.pairs)?,
+        }))
+    } else {
+        Ok(None)
+    }
+}
+
+/// An equal list.
+fn copy_pairs(alloc: Global, pairs: &[(u32, u32)]) -> Result<Items<(u32, u32)>, NoMemory>
+    ensures { IfOk result (λ list. list ≡ pairs.now) }
+{
+    let mut list = Items::new(alloc);
+    for pair in pairs {
+        list.put(*pair)?;
+    }
+    Ok(list)
+}
+
+/// Puts a table of a FROM last, whose first column has the number `start`, and which may be the right side of a LEFT JOIN; and gives the relation
+/// that it is, with the value set of its distribution column.
 #[tactic(auto, using(crate::proofs::PieceLaws::table_put))]
 pub fn put_table(
     alloc: Global,
@@ -145,12 +174,12 @@ pub fn put_table(
     right: Right<'_>,
     table: u32,
     start: u64,
-    outer: Option<OuterJoin>,
+    is_right: bool,
     found: &mut Pieces,
 ) -> Result<BegunList, NoMemory>
     ensures { IfOk result (λ rs.
         (rs ≡ one_begun start (distribution_by_place start (place_at catalog.now table)) (set_of (sets_under (class_set_by_rule (label frame.entry.labels.now) frame.entry.said.now) (set_at_by_rule (class_set_by_rule (label frame.entry.labels.now) frame.entry.said.now) right.entry.relations.now) right.entry.low right.entry.pairs.now (distribution_by_place start (place_at catalog.now table)) start) (distribution_by_place start (place_at catalog.now table))))
-        × (found.new ≡ found.old ++ piece_of_table catalog.now frame.entry.leaving frame.entry.relations.now (record { start = start; distribution = distribution_by_place start (place_at catalog.now table); outer = outer })
+        × (found.new ≡ found.old ++ piece_of_table catalog.now frame.entry.leaving frame.entry.relations.now (record { start = start; distribution = distribution_by_place start (place_at catalog.now table); outer = outer_by is_right right.entry.low right.entry.pairs.now })
         (occurrence_of catalog.now (sets_under (class_set_by_rule (label frame.entry.labels.now) frame.entry.said.now) (set_at_by_rule (class_set_by_rule (label frame.entry.labels.now) frame.entry.said.now) right.entry.relations.now) right.entry.low right.entry.pairs.now (distribution_by_place start (place_at catalog.now table)) start) start table)
         (key_values (sets_under (class_set_by_rule (label frame.entry.labels.now) frame.entry.said.now) (set_at_by_rule (class_set_by_rule (label frame.entry.labels.now) frame.entry.said.now) right.entry.relations.now) right.entry.low right.entry.pairs.now (distribution_by_place start (place_at catalog.now table)) start) start (place_at catalog.now table)) ∷ [])) }
 {
@@ -158,7 +187,7 @@ pub fn put_table(
     let relation = Relation {
         start,
         distribution,
-        outer,
+        outer: outer_of(alloc, is_right, right)?,
     };
     let base = Base {
         labels: frame.labels,
