@@ -71,12 +71,13 @@ fn put_inside(
     let mut said = outside;
     put_all_said(alloc, &mut said, &q.from, &q.filter)?;
     let frame = Frame {
+        catalog,
         leaving,
         relations: relations.as_slice(),
         labels: labels.as_slice(),
         said: said.as_slice(),
     };
-    walk(alloc, catalog, frame, nothing(), &q.from, 0, false, found)?;
+    walk(alloc, frame, nothing(), &q.from, 0, false, found)?;
     let plans = outlines(alloc, catalog, q.subs.as_slice())?;
     put_asked(plans, found)
 }
@@ -86,7 +87,6 @@ fn put_inside(
 #[cycle(outline)]
 fn walk(
     alloc: Global,
-    catalog: &Catalog,
     frame: Frame<'_>,
     right: Right<'_>,
     from: &FromTree,
@@ -95,85 +95,40 @@ fn walk(
     found: &mut Pieces,
 ) -> Result<BegunList, NoMemory>
     ensures { IfOk result (λ rs.
-        (rs ≡ begun catalog.now (seen catalog.now frame.entry.labels.now frame.entry.said.now right.entry.relations.now right.entry.low right.entry.pairs.now from.now start) from.now start)
-        × (found.new ≡ found.old ++ pieces_from catalog.now frame.entry.leaving frame.entry.relations.now (seen catalog.now frame.entry.labels.now frame.entry.said.now right.entry.relations.now right.entry.low right.entry.pairs.now from.now start) from.now start (outer_by is_right right.entry.low right.entry.pairs.now))) }
+        (rs ≡ begun frame.entry.catalog.now (seen frame.entry.catalog.now frame.entry.labels.now frame.entry.said.now right.entry.relations.now right.entry.low right.entry.pairs.now from.now start) from.now start)
+        × (found.new ≡ found.old ++ pieces_from frame.entry.catalog.now frame.entry.leaving frame.entry.relations.now (seen frame.entry.catalog.now frame.entry.labels.now frame.entry.said.now right.entry.relations.now right.entry.low right.entry.pairs.now from.now start) from.now start (outer_by is_right right.entry.low right.entry.pairs.now))) }
 {
     match from {
         FromTree::Table(table, _) => {
-            put_table(alloc, catalog, frame, right, *table, start, is_right, found)
+            put_table(alloc, frame, right, *table, start, is_right, found)
         }
         FromTree::Sub(q) => {
             let base = Base {
                 labels: frame.labels,
                 said: frame.said,
             };
-            let (said, list) = below(alloc, catalog, base, right, q.get(), start)?;
+            let (said, list) = below(alloc, frame.catalog, base, right, q.get(), start)?;
             let outer = outer_of(alloc, is_right, right)?;
-            put_subquery(alloc, catalog, frame, q.get(), start, outer, said, found)?;
+            put_subquery(alloc, frame, q.get(), start, outer, said, found)?;
             Ok(list)
         }
         FromTree::Result(_, _) => one(alloc, start, None, None),
         FromTree::Cross(a, b) => {
-            let list = walk(
-                alloc,
-                catalog,
-                frame,
-                nothing(),
-                a.get(),
-                start,
-                false,
-                found,
-            )?;
+            let list = walk(alloc, frame, nothing(), a.get(), start, false, found)?;
             let behind = plus(start, count_columns(a.get())?)?;
-            let more = walk(
-                alloc,
-                catalog,
-                frame,
-                nothing(),
-                b.get(),
-                behind,
-                false,
-                found,
-            )?;
+            let more = walk(alloc, frame, nothing(), b.get(), behind, false, found)?;
             let all = joined(list, more)?;
             Ok(all)
         }
         FromTree::Inner(a, b, _) => {
-            let list = walk(
-                alloc,
-                catalog,
-                frame,
-                nothing(),
-                a.get(),
-                start,
-                false,
-                found,
-            )?;
+            let list = walk(alloc, frame, nothing(), a.get(), start, false, found)?;
             let behind = plus(start, count_columns(a.get())?)?;
-            let more = walk(
-                alloc,
-                catalog,
-                frame,
-                nothing(),
-                b.get(),
-                behind,
-                false,
-                found,
-            )?;
+            let more = walk(alloc, frame, nothing(), b.get(), behind, false, found)?;
             let all = joined(list, more)?;
             Ok(all)
         }
         FromTree::Left(a, b, on) => {
-            let list = walk(
-                alloc,
-                catalog,
-                frame,
-                nothing(),
-                a.get(),
-                start,
-                false,
-                found,
-            )?;
+            let list = walk(alloc, frame, nothing(), a.get(), start, false, found)?;
             let behind = plus(start, count_columns(a.get())?)?;
             let pairs = equalities_of(alloc, on)?;
             let narrowing = Right {
@@ -181,16 +136,7 @@ fn walk(
                 relations: list.as_slice(),
                 pairs: pairs.as_slice(),
             };
-            let side = walk(
-                alloc,
-                catalog,
-                frame,
-                narrowing,
-                b.get(),
-                behind,
-                true,
-                found,
-            )?;
+            let side = walk(alloc, frame, narrowing, b.get(), behind, true, found)?;
             let more = as_one_relation(alloc, b.get(), behind, side)?;
             let all = joined(list, more)?;
             Ok(all)
@@ -202,7 +148,6 @@ fn walk(
 #[cycle(outline)]
 fn put_subquery(
     alloc: Global,
-    catalog: &Catalog,
     frame: Frame<'_>,
     q: &Query,
     start: u64,
@@ -210,9 +155,9 @@ fn put_subquery(
     given: Items<Said>,
     found: &mut Pieces,
 ) -> Result<(), NoMemory>
-    ensures { OnOk result (found.new ≡ found.old ++ pieces_of_query catalog.now frame.entry.leaving frame.entry.relations.now q.now start outer given) }
+    ensures { OnOk result (found.new ≡ found.old ++ pieces_of_query frame.entry.catalog.now frame.entry.leaving frame.entry.relations.now q.now start outer given) }
 {
-    let way = pushable(alloc, catalog, q)?;
+    let way = pushable(alloc, frame.catalog, q)?;
     let distribution = distribution_by(start, way)?;
     let relation = Relation {
         start,
@@ -220,9 +165,9 @@ fn put_subquery(
         outer,
     };
     if leaves_subquery(frame.leaving, frame.relations, &relation) {
-        found.put(Piece::Leaves(alone(alloc, catalog, q, way.is_some(), given)?))
+        found.put(Piece::Leaves(alone(alloc, frame.catalog, q, way.is_some(), given)?))
     } else {
-        put_inside(alloc, catalog, inside(frame.leaving), q, given, found)
+        put_inside(alloc, frame.catalog, inside(frame.leaving), q, given, found)
     }
 }
 

@@ -22,10 +22,11 @@ use cq_tree::{Planner, Steps};
 use cq_value::{Items, NoMemory, Positions};
 use std::alloc::Global;
 
-/// Of a block, or of a subquery that stays in one: which relations don't stay, the relations of its FROM, and what the value sets of their
-/// columns are made of: the labels of the columns, and what is said of them.
+/// Of a block, or of a subquery that stays in one: the catalogue, which relations don't stay, the relations of the FROM, and what the value
+/// sets of their columns are made of: the labels of the columns, and what is said of them.
 #[derive(Clone, Copy)]
 pub struct Frame<'a> {
+    pub catalog: &'a Catalog,
     pub leaving: Leaving,
     pub relations: &'a [Relation],
     pub labels: &'a [u32],
@@ -119,17 +120,16 @@ fn lone_table(
 /// A table of a FROM, and the groups that it touches.
 fn table_piece(
     alloc: Global,
-    catalog: &Catalog,
     frame: Frame<'_>,
     relation: &Relation,
     table: u32,
     groups: Positions,
     is_one: bool,
 ) -> Result<Piece, NoMemory>
-    ensures { IfOk result (λ p. p ≡ piece_of_touch catalog.now frame.entry.leaving frame.entry.relations.now relation.now (table, groups) is_one) }
+    ensures { IfOk result (λ p. p ≡ piece_of_touch frame.entry.catalog.now frame.entry.leaving frame.entry.relations.now relation.now (table, groups) is_one) }
 {
     if leaves(frame.leaving, frame.relations, relation) {
-        Ok(Piece::Leaves(lone_table(alloc, catalog, table, groups, is_one)?))
+        Ok(Piece::Leaves(lone_table(alloc, frame.catalog, table, groups, is_one)?))
     } else {
         Ok(Piece::Stays(table, groups))
     }
@@ -169,7 +169,6 @@ fn copy_pairs(alloc: Global, pairs: &[(u32, u32)]) -> Result<Items<(u32, u32)>, 
 #[tactic(auto, using(crate::proofs::PieceLaws::table_put))]
 pub fn put_table(
     alloc: Global,
-    catalog: &Catalog,
     frame: Frame<'_>,
     right: Right<'_>,
     table: u32,
@@ -178,12 +177,12 @@ pub fn put_table(
     found: &mut Pieces,
 ) -> Result<BegunList, NoMemory>
     ensures { IfOk result (λ rs.
-        (rs ≡ one_begun start (distribution_by_place start (place_at catalog.now table)) (set_of (sets_under (class_set_by_rule (label frame.entry.labels.now) frame.entry.said.now) (set_at_by_rule (class_set_by_rule (label frame.entry.labels.now) frame.entry.said.now) right.entry.relations.now) right.entry.low right.entry.pairs.now (distribution_by_place start (place_at catalog.now table)) start) (distribution_by_place start (place_at catalog.now table))))
-        × (found.new ≡ found.old ++ piece_of_table catalog.now frame.entry.leaving frame.entry.relations.now (record { start = start; distribution = distribution_by_place start (place_at catalog.now table); outer = outer_by is_right right.entry.low right.entry.pairs.now })
-        (occurrence_of catalog.now (sets_under (class_set_by_rule (label frame.entry.labels.now) frame.entry.said.now) (set_at_by_rule (class_set_by_rule (label frame.entry.labels.now) frame.entry.said.now) right.entry.relations.now) right.entry.low right.entry.pairs.now (distribution_by_place start (place_at catalog.now table)) start) start table)
-        (key_values (sets_under (class_set_by_rule (label frame.entry.labels.now) frame.entry.said.now) (set_at_by_rule (class_set_by_rule (label frame.entry.labels.now) frame.entry.said.now) right.entry.relations.now) right.entry.low right.entry.pairs.now (distribution_by_place start (place_at catalog.now table)) start) start (place_at catalog.now table)) ∷ [])) }
+        (rs ≡ one_begun start (distribution_by_place start (place_at frame.entry.catalog.now table)) (set_of (sets_under (class_set_by_rule (label frame.entry.labels.now) frame.entry.said.now) (set_at_by_rule (class_set_by_rule (label frame.entry.labels.now) frame.entry.said.now) right.entry.relations.now) right.entry.low right.entry.pairs.now (distribution_by_place start (place_at frame.entry.catalog.now table)) start) (distribution_by_place start (place_at frame.entry.catalog.now table))))
+        × (found.new ≡ found.old ++ piece_of_table frame.entry.catalog.now frame.entry.leaving frame.entry.relations.now (record { start = start; distribution = distribution_by_place start (place_at frame.entry.catalog.now table); outer = outer_by is_right right.entry.low right.entry.pairs.now })
+        (occurrence_of frame.entry.catalog.now (sets_under (class_set_by_rule (label frame.entry.labels.now) frame.entry.said.now) (set_at_by_rule (class_set_by_rule (label frame.entry.labels.now) frame.entry.said.now) right.entry.relations.now) right.entry.low right.entry.pairs.now (distribution_by_place start (place_at frame.entry.catalog.now table)) start) start table)
+        (key_values (sets_under (class_set_by_rule (label frame.entry.labels.now) frame.entry.said.now) (set_at_by_rule (class_set_by_rule (label frame.entry.labels.now) frame.entry.said.now) right.entry.relations.now) right.entry.low right.entry.pairs.now (distribution_by_place start (place_at frame.entry.catalog.now table)) start) start (place_at frame.entry.catalog.now table)) ∷ [])) }
 {
-    let distribution = distribution_at(start, place_of(catalog, table))?;
+    let distribution = distribution_at(start, place_of(frame.catalog, table))?;
     let relation = Relation {
         start,
         distribution,
@@ -193,9 +192,9 @@ pub fn put_table(
         labels: frame.labels,
         said: frame.said,
     };
-    let (groups, list) = table_in(alloc, catalog, base, right, table, start)?;
+    let (groups, list) = table_in(alloc, frame.catalog, base, right, table, start)?;
     let one = is_one(list.as_slice());
-    found.put(table_piece(alloc, catalog, frame, &relation, table, groups, one)?)?;
+    found.put(table_piece(alloc, frame, &relation, table, groups, one)?)?;
     Ok(list)
 }
 
