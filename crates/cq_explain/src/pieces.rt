@@ -17,7 +17,8 @@ use cq_catalog::Catalog;
 use cq_outline::{Joined, Leaving, Outline, Outlines, Piece, Pieces};
 use cq_plan::{Base, Begun, BegunList, Right, table_in};
 use cq_relations::{OuterJoin, Relation, distribution_at, place_of};
-use cq_shape::{Said, ValueSet};
+use cq_router::is_one_value;
+use cq_shape::Said;
 use cq_tree::{Planner, Steps};
 use cq_value::{Items, NoMemory, Positions};
 use std::alloc::Global;
@@ -57,15 +58,6 @@ pub fn lone(
         Outlines::new(alloc),
         pieces,
     )
-}
-
-fn is_one_value(set: &ValueSet) -> bool
-    ensures { result ≡ is_one_by_rule set.now }
-{
-    match set {
-        Some(values) => values.len() == 1,
-        None => false,
-    }
 }
 
 /// Whether the value set of the first of these relations is one value.

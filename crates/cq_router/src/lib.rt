@@ -9,5 +9,5 @@ mod reads;
 mod writes;
 
 pub use insertion::{Part, Parts};
-pub use planners::{Routed, fast_path, is_routed, router};
+pub use planners::{Routed, fast_path, is_one_value, is_routed, router};
 pub use writes::parts;
