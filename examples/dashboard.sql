@@ -16,6 +16,7 @@ INSERT INTO events VALUES (1, 0, 'home', 12), (1, 0, 'cart', 48), (1, 1, 'home',
 
 -- Hits and time by minute, and the slowest pages.
 SELECT minute, count(*) AS hits, sum(ms) AS total FROM events GROUP BY minute ORDER BY minute;
+EXPLAIN SELECT minute, count(*) AS hits, sum(ms) AS total FROM events GROUP BY minute ORDER BY minute;
 SELECT page, count(*) AS hits, max(ms) AS slowest FROM events GROUP BY page HAVING count(*) > 1 ORDER BY slowest DESC LIMIT 2;
 
 -- Customers with their hits: both tables are cut in the same way, so each shard is joined with the one beside it.
@@ -23,6 +24,8 @@ SELECT c.name, s.hits FROM customers c LEFT JOIN (SELECT customer, count(*) AS h
 
 -- The same with the customers' countries: the reference table is on every node.
 WITH hits AS (SELECT customer, count(*) AS n FROM events GROUP BY customer)
+SELECT k.title, c.name, hits.n FROM hits JOIN customers c ON hits.customer = c.id JOIN countries k ON c.country = k.code ORDER BY k.title, c.name;
+EXPLAIN WITH hits AS (SELECT customer, count(*) AS n FROM events GROUP BY customer)
 SELECT k.title, c.name, hits.n FROM hits JOIN customers c ON hits.customer = c.id JOIN countries k ON c.country = k.code ORDER BY k.title, c.name;
 
 -- Who came at all in a minute in which a page was slow.
@@ -32,3 +35,4 @@ SELECT name FROM customers WHERE id IN (SELECT customer FROM events WHERE minute
 SELECT e.customer, e.page, p.team FROM events e JOIN pages p ON e.page = p.page WHERE e.ms > 40 ORDER BY 1, 2;
 SET citus.enable_repartition_joins TO on;
 SELECT e.customer, e.page, p.team FROM events e JOIN pages p ON e.page = p.page WHERE e.ms > 40 ORDER BY 1, 2;
+EXPLAIN SELECT e.customer, e.page, p.team FROM events e JOIN pages p ON e.page = p.page WHERE e.ms > 40 ORDER BY 1, 2;

@@ -30,7 +30,7 @@ use Rattle.cq_group.specs.Calls.{GoesOn, Lifted, SomeZip, Failed}
 use Rattle.cq_group.specs.Resting.{GoOn, HasFailedAt}
 use Rattle.cq_cluster.specs.declared.cluster.Cluster.{Cluster}
 use Rattle.cq_cluster.specs.Cluster.{IsShardOf, IsSound}
-use Rattle.cq_cluster.specs.Accounts.{AreAccounted, NamesNone, NamesFailed, AnswerIsAccounted, OtherIsAccounted, FailedIsThere}
+use Rattle.cq_cluster.specs.Accounts.{AreAccounted, NamesNone, NamesFailed, AnswerIsAccounted, OtherIsAccounted}
 use Rattle.cq_cluster.proofs.ListLaws.{there, only_item}
 use Rattle.cq_cluster.proofs.CatalogLaws.{all_append, all_weaker}
 use Rattle.cq_cluster.proofs.AccountLaws.{Account, table_shards}
@@ -186,16 +186,11 @@ module _ {X : Type 0} (state : X → StoreState) where
         (all_weaker (λ (x : X). (state x).shard ≡ t.shard) (λ (x : X). IsShardIn c group (state x).shard) (λ x e. record { table = t.table; there = of.0.has; is = e ∙ of.0.is }) t.stores.items (table_shards state node copies es t kept.0))
         (stores_of_tables ts kept.1 of.1)
 
-  -- what is true of the shard ids, or of the nodes, of all stores is true of those of one that failed
+  -- what is true of the shard ids of all stores is true of that of one that failed
   failed_shard : (node shard before after : ℕ) (P : ℕ → Type 0) (xs ys : List X) → SomeZip (Lifted state (Failed node shard before after)) xs ys → AllByRecursion (λ (x : X). P (state x).shard) xs → P shard
   failed_shard node shard before after P [] ys some all = absurd some
   failed_shard node shard before after P (x ∷ xs) [] some all = absurd some
   failed_shard node shard before after P (x ∷ xs) (y ∷ ys) some all = elim some [ inl f ↦ subst P f.of_shard all.0 | inr more ↦ failed_shard node shard before after P xs ys more all.1 ]
-
-  failed_node : (node shard before after : ℕ) (P : ℕ → Type 0) (xs ys : List X) → SomeZip (Lifted state (Failed node shard before after)) xs ys → AllByRecursion (λ (x : X). P (state x).node) xs → P node
-  failed_node node shard before after P [] ys some all = absurd some
-  failed_node node shard before after P (x ∷ xs) [] some all = absurd some
-  failed_node node shard before after P (x ∷ xs) (y ∷ ys) some all = elim some [ inl f ↦ subst P f.of_node all.0 | inr more ↦ failed_node node shard before after P xs ys more all.1 ]
 
   one_copy : (g : GroupState X) → nat_eq g.node 0 ≡ false → copies_of g ≡ 1
   one_copy g off = ap (λ b. cond b g.nodes 1) off
@@ -214,28 +209,6 @@ module _ {X : Type 0} (state : X → StoreState) where
   shards_in_group cl group g s at =
       let kept = kept_of cl group g s at in
       stores_of_tables cl.catalog group g.node (copies_of g) (entries_of g) s.whole (one_copy g) g.tables.items kept.0 (shards_of_group cl group g s at)
-
-  -- a group's stores are on its nodes
-  on_nodes : (nodes : ℕ) (j : Journal) (at : ℕ) (xs : List X) → node_of j ≡ at → (0 < at → AllByRecursion (λ (x : X). (state x).node ≡ at) xs) → AllByRecursion (λ (x : X). (0 < (state x).node) × ((state x).node ≤ nodes)) xs →
-      AllByRecursion (λ (x : X). IsOnNode nodes j (state x).node) xs
-  on_nodes nodes j at [] is one all = tt
-  on_nodes nodes j at (x ∷ xs) is one all = (record { some = omega (arith, all.0.0); few = λ e. all.0.1; there = λ low. (one (omega (arith, is, low))).0 ∙ sym is }, on_nodes nodes j at xs is (λ low. (one low).1) all.1)
-
-  nodes_of_group : (cl : Cluster X) (group : ℕ) (g : GroupState X) → IsSound state cl → slice_get cl.groups.items group ≡ Some g → AllByRecursion (λ (x : X). IsOnNode cl.nodes (journal_of g) (state x).node) (stores_of g)
-  nodes_of_group cl group g s at =
-      let rest = rests state cl s group g at in
-      on_nodes cl.nodes (journal_of g) g.node (stores_of g) rest.placed
-      (λ low. recursion_from_All (λ (x : X). (state x).node ≡ g.node) (stores_of g) (stores_on_node state g rest.kept low))
-      (stores_used state cl.nodes s.some cl.catalog cl.groups.items group g s.groups at)
-
-  -- a store that failed
-  pub failed_is_there : FailedIsThere state
-  failed_is_there cl new group node shard before after s failed =
-      let was = failed.was in (
-        failed_shard node shard before after (IsShardIn cl.catalog group) (stores_of was) (stores_of failed.is) failed.failed (shards_in_group cl group was s failed.there),
-        subst (λ (j : Journal). IsOnNode cl.nodes j node) (sym (journal_at cl.groups.items group was failed.there))
-            (failed_node node shard before after (IsOnNode cl.nodes (journal_of was)) (stores_of was) (stores_of failed.is) failed.failed (nodes_of_group cl group was s failed.there)),
-      )
 
 -- ---- one answer more
 

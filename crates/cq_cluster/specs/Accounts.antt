@@ -6,15 +6,14 @@ use Rattle.cq_answer.specs.declared.answer.Answer.TheVariants as answer
 use Rattle.cq_answer.specs.declared.answered.Answered.{Answered}
 use Rattle.cq_answer.specs.declared.fault.Fault.TheVariants as fault
 use Rattle.cq_catalog.specs.Contents.{Contents}
-use Rattle.cq_history.specs.Faults.{AccountsFor, NamesBelow, IsShardIn, IsOnNode}
-use Rattle.cq_history.specs.Journals.{journal_in}
+use Rattle.cq_history.specs.Faults.{AccountsFor, NamesBelow}
 use Rattle.cq_store.specs.Stores.{StoreState}
 use Rattle.cq_store.specs.declared.worker.Worker.{Worker}
 use Rattle.cq_group.specs.declared.group.GroupState.{GroupState}
 use Rattle.cq_group.specs.Groups.{stores_of}
-use Rattle.cq_group.specs.Resting.{GoOn, HasFailedAt, HasFailed}
+use Rattle.cq_group.specs.Resting.{GoOn, HasFailed}
 use Rattle.cq_cluster.specs.declared.cluster.Cluster.{Cluster}
-use Rattle.cq_cluster.specs.Cluster.{IsSound, journals}
+use Rattle.cq_cluster.specs.Cluster.{IsSound}
 
 -- the counts of the groups' stores account for the answers, and no answer names a shard id that isn't given out
 pub record AreAccounted {X : Type 0} (state : X → StoreState) (c : Contents) (answers : List Answered) (groups : List (GroupState X)) : Type 0 where
@@ -44,8 +43,3 @@ AnswerIsAccounted {X} state = (cl : Cluster X) (new : List (GroupState X)) (answ
 -- and groups that stay account for one that names no store
 abbrev pub OtherIsAccounted : {X : Type 0} → (X → StoreState) → Type 0
 OtherIsAccounted {X} state = (c : Contents) (groups : List (GroupState X)) (answers : List Answered) (a : Answered) → NamesNone a.answer → AreAccounted state c answers groups → AreAccounted state c (answers ++ a ∷ []) groups
-
--- a store that failed keeps a shard of its group, on a node on which the group is
-abbrev pub FailedIsThere : {X : Type 0} → (X → StoreState) → Type 0
-FailedIsThere {X} state = (cl : Cluster X) (new : List (GroupState X)) (group node shard before after : ℕ) → IsSound state cl → HasFailedAt state group node shard before after cl.groups.items new →
-    IsShardIn cl.catalog group shard × IsOnNode cl.nodes (journal_in (journals cl) group) node

@@ -12,10 +12,8 @@ use Rattle.cq_answer.specs.declared.fault.Fault.TheVariants as fault
 use Rattle.cq_answer.specs.Faults.{fault_of_catalog}
 use Rattle.cq_history.specs.Run.{Run, short_at, room_from, room_fault, taken_in}
 use Rattle.cq_history.proofs.Lists.{two_ways}
+use Rattle.cq_history.specs.Faults.{NamesNoStore}
 use Rattle.cq_cluster.specs.Accounts.{NamesNone}
-
-abbrev NamesNoStore : Fault → Type 0
-NamesNoStore f = (node shard before after : ℕ) → f ≡ fault.Worker node shard before after → ⊥
 
 abbrev NameNone : Option Fault → Type 0
 NameNone o = (f : Fault) → o ≡ Some f → NamesNoStore f

@@ -70,6 +70,7 @@ impl<S: Store> Coordinator<S> {
             Statement::Reference { table } => self.reference(alloc, who, table),
             Statement::Setting { which, value } => self.set(who, *which, *value),
             Statement::Select(query) => self.select(alloc, who, query),
+            Statement::Explain(query) => self.explain(alloc, who, query),
             Statement::Write(op) => {
                 if has_shards(&self.cluster.catalog, op) {
                     self.write(alloc, who, op)
@@ -78,7 +79,6 @@ impl<S: Store> Coordinator<S> {
                 }
             }
             Statement::Copy { .. }
-            | Statement::Explain(_)
             | Statement::Move { .. }
             | Statement::Rebalance { .. }
             | Statement::RebalancePlan { .. } => Answer::Failed(Fault::NotBuilt),

@@ -5,6 +5,7 @@ mod answer;
 mod coordinator;
 mod definitions;
 mod notice;
+mod plans;
 mod queries;
 mod writes;
 

@@ -11,10 +11,12 @@ use Rattle.cq_tree.specs.declared.expression.Cond.{Cond}
 use Rattle.cq_tree.specs.declared.write.Set.{Set}
 use Rattle.cq_tree.specs.declared.write.ShardOp.{ShardOp}
 use Rattle.cq_tree.specs.declared.write.ShardOp.TheVariants.{Insert, Update, Remove}
-use Rattle.cq_tree.specs.declared.write.Reply.TheVariants.{Count, Duplicate}
+use Rattle.cq_tree.specs.declared.write.Reply.TheVariants.{Count, Duplicate, OutOfRange}
 use Rattle.cq_meaning.specs.Values.{Row}
-use Rattle.cq_meaning.specs.Effects.{inserts, numbered, with_rows, renewed, is_kept, updated, updates, fit_kinds, effect, adds, puts, drops, row_changes, repeats}
+use Rattle.cq_meaning.specs.Effects.{numbered, with_rows, renewed, is_kept, updated, updates, fit_kinds, effect, adds, puts, drops, row_changes, repeats}
 use Rattle.cq_meaning.proofs.MapLaws.{map_append}
+use Rattle.cq_demands.specs.Demands.{demands, pairs_with}
+use Rattle.cq_demands.proofs.Kept.{kept_of_pairs}
 use Rattle.cq_engine.specs.declared.write.Effect.{Effect}
 use Rattle.cq_engine.specs.WriteEffects.{inserted_by, made_by, IsEffect}
 
@@ -154,20 +156,15 @@ inserts_well number rows t shape room =
       | false ↦ (adds_fit t rows room, adds_give t rows)
     ]
 
-does_well : (op : ShardOp) (t : Table) (shape : Shape) → IsAscending t.pairs t.next → t.next + length (inserts op) ≤ 2 ^ 32 → DoesWell op t shape
-does_well (Insert k rows) t shape up room = inserts_well k rows t shape room
-does_well (Update k c sets) t shape up room =
+updates_well : (number : ℕ) (c : Cond) (sets : List Set) (t : Table) (shape : Shape) → IsAscending t.pairs t.next → DoesWell (Update number c sets) t shape
+updates_well number c sets t shape up =
     elim (fit_kinds shape.kinds (updates c sets t.pairs)) as (λ b. Fit t (cond b (puts c sets t.pairs) []) × (applied t (cond b (puts c sets t.pairs) []) ≡ cond b (table t.next (map (renewed c sets) t.pairs)) t)) [
       | true ↦ puts_done t.next c sets [] t.pairs (ready_none t.pairs) (apart t.pairs t.next up)
       | false ↦ (tt, refl)
     ]
-does_well (Remove k c) t shape up room = drops_done t.next c [] [] t.pairs (ready_none t.pairs) (apart t.pairs t.next up)
 
 made_well : (op : ShardOp) (t : Table) (shape : Shape) → DoesWell op t shape → IsEffect op t shape (made_by op t shape)
 made_well op t shape well = record { replied = refl; listed = refl; fitting = well.0; changed = well.1; counted = refl }
-
-pub made_is : (op : ShardOp) (t : Table) (shape : Shape) → IsAscending t.pairs t.next → t.next + length (inserts op) ≤ 2 ^ 32 → IsEffect op t shape (made_by op t shape)
-made_is op t shape up room = made_well op t shape (does_well op t shape up room)
 
 -- an INSERT depends on its table by two things alone
 pub inserted_is : (number : ℕ) (rows : List Row) (t : Table) (shape : Shape) → inserted_by rows (repeats shape.key (rows_of t) rows) t.next ≡ made_by (Insert number rows) t shape
@@ -180,3 +177,36 @@ pub insertion_is : (rows : List Row) (b : Bool) (next : ℕ) (made : Effect) →
 insertion_is rows b next made room is number t shape counted known =
     let same : made ≡ made_by (Insert number rows) t shape = is ∙ (λ i. inserted_by rows (sym known i) (sym counted i)) ∙ inserted_is number rows t shape in
     subst (IsEffect (Insert number rows) t shape) (sym same) (made_well (Insert number rows) t shape (inserts_well number rows t shape (subst (λ n. n + length rows ≤ 2 ^ 32) (sym counted) room)))
+
+-- what an UPDATE comes to, by the rows that its filter keeps
+abbrev renewals : List Set → ℕ → Shape → List Pair → Effect
+renewals sets next shape kept = cond (fit_kinds shape.kinds (map (λ (p : Pair). updated sets p.1) kept))
+    (record { reply = Count (length kept); changes = map (λ (p : Pair). Put p.0 (updated sets p.1)) kept; next = next })
+    (record { reply = OutOfRange; changes = []; next = next })
+
+renewals_are : (number : ℕ) (c : Cond) (sets : List Set) (t : Table) (shape : Shape) → made_by (Update number c sets) t shape ≡ renewals sets t.next shape (filter (is_kept c) t.pairs)
+renewals_are number c sets t shape =
+    let kept : List Pair = filter (is_kept c) t.pairs in
+    let all : Effect = record { reply = Count (length kept); changes = puts c sets t.pairs; next = t.next } in
+    let none : Effect = record { reply = OutOfRange; changes = []; next = t.next } in
+    elim (fit_kinds shape.kinds (updates c sets t.pairs)) as (λ b. record { reply = cond b (Count (length kept)) OutOfRange; changes = cond b (puts c sets t.pairs) []; next = (cond b (table t.next (map (renewed c sets) t.pairs)) t).next }
+    ≡ cond b all none) [ true ↦ refl | false ↦ refl ]
+
+-- an UPDATE depends on the rows alone that have what its WHERE demands
+pub update_is : (number : ℕ) (c : Cond) (sets : List Set) (some : List Pair) (next : ℕ) (shape : Shape) (made : Effect) → made ≡ made_by (Update number c sets) (table next some) shape →
+    (t : Table) → t.next ≡ next → IsAscending t.pairs t.next → some ≡ pairs_with (demands c) t.pairs → IsEffect (Update number c sets) t shape made
+update_is number c sets some next shape made is t counted up has =
+    let kept : filter (is_kept c) some ≡ filter (is_kept c) t.pairs = ap (filter (is_kept c)) has ∙ kept_of_pairs c t.pairs in
+    let same : made ≡ made_by (Update number c sets) t shape =
+    is ∙ renewals_are number c sets (table next some) shape ∙ (λ i. renewals sets (sym counted i) shape (kept i)) ∙ sym (renewals_are number c sets t shape) in
+    subst (IsEffect (Update number c sets) t shape) (sym same) (made_well (Update number c sets) t shape (updates_well number c sets t shape up))
+
+-- and so does a DELETE
+pub removal_is : (number : ℕ) (c : Cond) (some : List Pair) (next : ℕ) (shape : Shape) (made : Effect) → made ≡ made_by (Remove number c) (table next some) shape →
+    (t : Table) → t.next ≡ next → IsAscending t.pairs t.next → some ≡ pairs_with (demands c) t.pairs → IsEffect (Remove number c) t shape made
+removal_is number c some next shape made is t counted up has =
+    let kept : filter (is_kept c) some ≡ filter (is_kept c) t.pairs = ap (filter (is_kept c)) has ∙ kept_of_pairs c t.pairs in
+    let removals : ℕ → List Pair → Effect = λ n ps. record { reply = Count (length ps); changes = map (λ (p : Pair). Drop p.0) ps; next = n } in
+    let same : made ≡ made_by (Remove number c) t shape = is ∙ (λ i. removals (sym counted i) (kept i)) in
+    subst (IsEffect (Remove number c) t shape) (sym same)
+    (made_well (Remove number c) t shape (drops_done t.next c [] [] t.pairs (ready_none t.pairs) (apart t.pairs t.next up)))

@@ -6,7 +6,6 @@ use Rattle.std.specs.declared.cmp.Ordering.{Ordering}
 use Rattle.std.specs.declared.cmp.Ordering.TheVariants.{Equal}
 use Rattle.std.specs.Ordering.{then_cmp, on}
 use Rattle.cq_value.specs.Order.{value_cmp}
-use Rattle.cq_value.specs.Tables.{Pair}
 use Rattle.cq_meaning.specs.Values.{Row, column}
 use Rattle.cq_meaning.specs.Effects.{same_key}
 
@@ -20,9 +19,9 @@ abbrev pub has_twins : {X : Type 0} → (X → X → Bool) → List X → Bool
 has_twins same [] = false
 has_twins same (x ∷ xs) = list_any (same x) xs || has_twins same xs
 
--- whether one of the rows has the key of a row of the table
-abbrev pub meets : List ℕ → List Pair → List Row → Bool
-meets key pairs rows = list_any (λ p. list_any (same_key key p.1) rows) pairs
+-- whether one of the rows has the key of a row that is there
+abbrev pub meets : List ℕ → List Row → List Row → Bool
+meets key there rows = list_any (λ row. list_any (same_key key row) there) rows
 
 -- the rows behind references
 abbrev pub rows_at : List (Bor Row) → List Row

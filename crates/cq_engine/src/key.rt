@@ -1,13 +1,12 @@
-ghost use Rattle.std.specs.Prelude.{◌≡◌, ◌||◌, IfOk, zip, drop as drop_first};
+ghost use Rattle.std.specs.Prelude.{◌≡◌, List, IfOk, zip, drop as drop_first};
 ghost use Rattle.std.specs.List.{list_any};
 ghost use Rattle.std.specs.List.Sorted.{IsPermutation, IsSortedByKey};
 ghost use Rattle.cq_value.specs.Order.{value_cmp};
-ghost use Rattle.cq_value.specs.Tables.{rows_of};
-ghost use Rattle.cq_meaning.specs.Values.{column};
+ghost use Rattle.cq_meaning.specs.Values.{Row, column};
 ghost use Rattle.cq_meaning.specs.Effects.{same_key as has_same_key, repeats as has_repeats};
 ghost use Rattle.cq_engine.specs.Keys.{key_order, has_twins as have_twins, meets, rows_at};
 
-use cq_value::{NoMemory, Numbered, Row, Rows, Value, order};
+use cq_value::{NoMemory, Row, Rows, Value, order};
 use std::alloc::Global;
 use std::cmp::Ordering;
 
@@ -51,13 +50,6 @@ fn same_key(key: &[u32], x: &Row, y: &Row) -> bool
     compare(key, x, y).is_eq()
 }
 
-/// Whether one of the rows of a table has the row's key.
-fn is_stored(key: &[u32], pairs: &[(u64, Row)], row: &Row) -> bool
-    ensures { result ≡ list_any (λ p. has_same_key key.now row.now p.1) pairs.now }
-{
-    pairs.iter().any(|pair| same_key(key, row, &pair.1))
-}
-
 /// References to the rows.
 ///
 /// Errors: want of memory.
@@ -99,45 +91,19 @@ fn has_twins(key: &[u32], sorted: &[&Row]) -> bool
     has_twin_neighbours(key, sorted)
 }
 
-/// Whether one of the rows, which are in the order of their keys, has the row's key.
-fn is_among(key: &[u32], sorted: &[&Row], row: &Row) -> bool
-    requires { IsSortedByKey (λ row. row.now) (key_order key.now) sorted.now }
-    ensures { result ≡ list_any (has_same_key key.now row.now) (rows_at sorted.now) }
-{
-    sorted
-        .binary_search_by(|other| compare(key, other, row))
-        .is_ok()
-}
-
-/// Whether one of the rows, which are in the order of their keys, has the key of a row of a table.
-fn is_met(key: &[u32], sorted: &[&Row], pairs: &[(u64, Row)]) -> bool
-    requires { IsSortedByKey (λ row. row.now) (key_order key.now) sorted.now }
-    ensures { result ≡ meets key.now pairs.now (rows_at sorted.now) }
-{
-    pairs.iter().any(|pair| is_among(key, sorted, &pair.1))
-}
-
-/// Whether two of the rows, which are in the order of their keys, have one key, or one of them has that of a row of a table.
-fn repeats_in_order(key: &[u32], sorted: &[&Row], pairs: &[(u64, Row)]) -> bool
-    requires { IsSortedByKey (λ row. row.now) (key_order key.now) sorted.now }
-    ensures { result ≡ (have_twins (has_same_key key.now) (rows_at sorted.now) || meets key.now pairs.now (rows_at sorted.now)) }
-{
-    has_twins(key, sorted) || is_met(key, sorted, pairs)
-}
-
-/// Whether one of the rows has the primary key of a row of the table, or of a row before it. One row is compared with each
-/// row of the table; several are put in the order of their keys, in which each row of the table is looked up.
+/// Whether one of the rows has the primary key of a row that is there, or of a row before it, where `met` says whether one of
+/// them has that of a row that is there. The rows are put in the order of their keys.
 ///
 /// Errors: want of memory.
-pub fn repeats(alloc: Global, key: &[u32], table: &Numbered, rows: &Rows) -> Result<bool, NoMemory>
-    ensures { IfOk result (λ repeats. repeats ≡ has_repeats key.now (rows_of table.now) rows.now) }
+pub fn repeats(alloc: Global, key: &[u32], rows: &Rows, met: bool) -> Result<bool, NoMemory>
+    ensures { IfOk result (λ repeats. (there : List Row) → met ≡ meets key.now there rows.now → repeats ≡ has_repeats key.now there rows.now) }
 {
     if key.is_empty() {
         return Ok(false);
     }
-    if let [row] = rows.as_slice() {
-        return Ok(is_stored(key, table.pairs(), row));
+    if met {
+        return Ok(true);
     }
     let sorted = in_key_order(alloc, key, rows.as_slice())?;
-    Ok(repeats_in_order(key, sorted.as_slice(), table.pairs()))
+    Ok(has_twins(key, sorted.as_slice()))
 }

@@ -9,4 +9,4 @@ mod write;
 
 pub use cq_queries::{Tables, eval, run_query, test};
 pub use key::repeats;
-pub use write::{Effect, changes_of, insertion_among};
+pub use write::{Effect, insertion_among, removal_among, update_among};

@@ -1,10 +1,22 @@
 //! The plan of a query as EXPLAIN shows it, and its text. Each function gives what the definitions of `cq_outline` give.
 #![tactic(auto)]
 
+mod block;
+mod classes;
+mod component;
+mod components;
+mod explaining;
+mod joining;
 mod leaving;
+mod lines;
+mod next;
 mod outline;
 mod pieces;
 mod planner;
-mod stub;
+mod rows;
+mod shards;
+mod tasking;
 
-pub use outline::outline_of;
+pub use explaining::explain;
+pub use lines::Lines;
+pub use rows::rows_of;

@@ -3,10 +3,12 @@ ghost use Rattle.cq_plan.specs.Begun.{begun, seen};
 ghost use Rattle.cq_outline.specs.Outlines.{outline_of as outline_by_rule, pieces_from, pieces_inside};
 ghost use Rattle.cq_explain.specs.Pieces.{lone_query as lone_by_rule, alone as alone_by_rule, pieces_of_query, outer_by};
 
+use crate::block::block_by;
+use crate::joining::parting_of;
 use crate::leaving::{inside, leaves_subquery, leaving_by};
 use crate::pieces::{Frame, copy_said, lone, outer_of, put_asked, put_table};
 use crate::planner::{planner_of, subquery_planner};
-use crate::stub::{block_by, parting_of, shares_rows};
+use crate::tasking::shares_rows;
 use cq_catalog::Catalog;
 use cq_outline::{Leaving, Outline, Outlines, Piece, Pieces};
 use cq_plan::{

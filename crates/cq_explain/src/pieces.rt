@@ -11,15 +11,17 @@ ghost use Rattle.cq_outline.specs.Tasking.{groups_in as groups_in_by_rule};
 ghost use Rattle.cq_outline.specs.Outlines.{lone_by, piece_of_table};
 ghost use Rattle.cq_explain.specs.Pieces.{outer_by, first_set, planner_by, lone_touch, piece_of_touch};
 
+use crate::block::block_by;
+use crate::joining::nothing;
 use crate::leaving::leaves;
-use crate::stub::{block_by, groups_in};
+use crate::tasking::groups_in;
 use cq_catalog::Catalog;
-use cq_outline::{Joined, Leaving, Outline, Outlines, Piece, Pieces};
+use cq_outline::{Leaving, Outline, Outlines, Piece, Pieces};
 use cq_plan::{Base, Begun, BegunList, Right, table_in};
 use cq_relations::{OuterJoin, Relation, distribution_at, place_of};
 use cq_router::is_one_value;
 use cq_shape::Said;
-use cq_tree::{Planner, Steps};
+use cq_tree::Planner;
 use cq_value::{Items, NoMemory, Positions};
 use std::alloc::Global;
 
@@ -43,17 +45,11 @@ pub fn lone(
 ) -> Result<Outline, NoMemory>
     ensures { IfOk result (λ o. o ≡ lone_by catalog.now planner pieces) }
 {
-    let parting = Joined {
-        columns: Positions::new(alloc),
-        class: 0,
-        count: 0,
-        steps: Steps::new(alloc),
-    };
     block_by(
         alloc,
         catalog,
         planner,
-        parting,
+        nothing(alloc),
         false,
         Outlines::new(alloc),
         pieces,

@@ -1,16 +1,22 @@
--- A row's key is taken where some row has the row's values in the key's columns.
-use Rattle.std.proofs.Common.{◌≡◌, ◌∙◌, ℕ, suc, nat_lt, ◌<◌, Bool, true, false, cond, List, [], ◌∷◌, ◌++◌, length, filter, refl, sym, ap, arith, ◌&&◌, ◌||◌}
-use Rattle.std.specs.List.{list_any, list_all}
+-- A row's key is met where some row has the row's values in the key's columns.
+use Rattle.std.proofs.Common.{◌≡◌, ◌∙◌, ℕ, ◌<◌, Bool, true, false, cond, List, [], ◌∷◌, ◌++◌, length, map, filter, refl, sym, ap, arith, ◌&&◌, ◌||◌}
+use Rattle.std.specs.List.{All, list_any}
 use Rattle.std.specs.Ordering.{is_eq, ordering_reverse}
 use Rattle.std.specs.declared.cmp.Ordering.{Ordering}
 use Rattle.std.specs.declared.cmp.Ordering.TheVariants.{Less, Equal, Greater}
+use Rattle.std.proofs.lemmas.List.Elements.{All-filter}
 use Rattle.cq_value.specs.Order.{value_cmp}
 use Rattle.cq_value.specs.declared.value.Value.{Value}
+use Rattle.cq_value.specs.Tables.{Pair}
 use Rattle.cq_value.proofs.OrderLaws.{value_cmp_total}
+use Rattle.cq_tree.specs.declared.write.ShardOp.{ShardOp}
+use Rattle.cq_tree.specs.declared.write.ShardOp.TheVariants.{Insert, Update, Remove}
 use Rattle.cq_meaning.specs.Values.{Row, column, same_value}
-use Rattle.cq_meaning.specs.Effects.{same_key, is_taken, repeats}
-use Rattle.cq_store.specs.Stores.{has_values}
-use Rattle.cq_group.specs.Keys.{values_at}
+use Rattle.cq_meaning.specs.Effects.{same_key, repeats, IsSafeWrite}
+use Rattle.cq_meaning.specs.Safety.{IsSafe, IsSafeCondition}
+use Rattle.cq_demands.specs.Demands.{has_all, pairs_with}
+use Rattle.cq_engine.specs.Keys.{meets}
+use Rattle.cq_store.specs.Stores.{has_values, values_at, meets_any}
 
 reversed : (o : Ordering) → is_eq (ordering_reverse o) ≡ is_eq o
 reversed Less = refl
@@ -26,28 +32,53 @@ has_key : (key : List ℕ) (row other : Row) → has_values (values_at key row) 
 has_key [] row other = refl
 has_key (place ∷ key) row other = λ i. same_either_way (column other place) (column row place) i && has_key key row other i
 
-above_none : (n : ℕ) → nat_lt 0 (suc n) ≡ true
-above_none n = grind arith
+any-map : {X Y : Type 0} (p : Y → Bool) (f : X → Y) (xs : List X) → list_any p (map f xs) ≡ list_any (λ x. p (f x)) xs
+any-map p f [] = refl
+any-map p f (x ∷ xs) = ap (λ b. p (f x) || b) (any-map p f xs)
 
--- some row passes a test where those that pass another, which is the same, are not none
-some_pass : (p q : Row → Bool) → ((row : Row) → q row ≡ p row) → (rows : List Row) → nat_lt 0 (length (filter q rows)) ≡ list_any p rows
-some_pass p q same [] = refl
-some_pass p q same (row ∷ rows) =
-    rw (sym (same row)) (elim (q row) as (λ b. nat_lt 0 (length (cond b (row ∷ filter q rows) (filter q rows))) ≡ (b || list_any p rows)) [
-      | true ↦ above_none (length (filter q rows))
-      | false ↦ some_pass p q same rows
-    ])
+-- the key of one of the rows is met where some row has its values
+pub meets_is : (key : List ℕ) (pairs : List Pair) (rows : List Row) → meets_any pairs key rows ≡ meets key (map (λ (p : Pair). p.1) pairs) rows
+meets_is key pairs rows = ap (λ (p : Row → Bool). list_any p rows) (λ i row. each row i)
+  where
+    each : (row : Row) → list_any (λ (p : Pair). has_values (values_at key row) p.1) pairs ≡ list_any (same_key key row) (map (λ (p : Pair). p.1) pairs)
+    each row = ap (λ (q : Pair → Bool). list_any q pairs) (λ i p. has_key key row p.1 i) ∙ sym (any-map (same_key key row) (λ (p : Pair). p.1) pairs)
 
--- a row's key is taken where there are rows that have its values
-pub taken_is : (key : List ℕ) (row : Row) (rows found : List Row) (wanted : List (ℕ × Value)) → 0 < length key → wanted ≡ values_at key row → found ≡ filter (has_values wanted) rows →
-    nat_lt 0 (length found) ≡ is_taken key rows row
-taken_is [] row rows found wanted some w f = absurd (omega (arith, some))
-taken_is (place ∷ key) row rows found wanted some w f =
-    ap (λ rs. nat_lt 0 (length rs)) (f ∙ ap (λ v. filter (has_values v) rows) w)
-    ∙ some_pass (same_key (place ∷ key) row) (has_values (values_at (place ∷ key) row)) (has_key (place ∷ key) row) rows
+-- the rows of the pairs that have some values
+pub rows_picked : (wanted : List (ℕ × Value)) (pairs : List Pair) → map (λ (p : Pair). p.1) (filter (λ (p : Pair). has_values wanted p.1) pairs) ≡ filter (has_values wanted) (map (λ (p : Pair). p.1) pairs)
+rows_picked wanted [] = refl
+rows_picked wanted (p ∷ ps) =
+    let row : Pair → Row = λ q. q.1 in
+    let some : List Pair = filter (λ (q : Pair). has_values wanted q.1) ps in
+    elim (has_values wanted p.1) as (λ b. map row (cond b (p ∷ some) some) ≡ cond b (p.1 ∷ filter (has_values wanted) (map row ps)) (filter (has_values wanted) (map row ps))) [
+      | true ↦ ap (λ rs. p.1 ∷ rs) (rows_picked wanted ps)
+      | false ↦ rows_picked wanted ps
+    ]
+
+-- where no values are wanted, all rows have them
+pub all_picked : (wanted : List (ℕ × Value)) (rows some : List Row) → wanted ≡ [] → some ≡ filter (has_values wanted) rows → some ≡ rows
+all_picked wanted rows some none is = is ∙ ap (λ values. filter (has_values values) rows) none ∙ all rows
+  where
+    all : (rows : List Row) → filter (has_values []) rows ≡ rows
+    all [] = refl
+    all (row ∷ rows) = ap (λ rs. row ∷ rs) (all rows)
+
+-- the rows that have what is demanded
+pub demanded_picked : (wanted values : List (ℕ × Value)) (pairs some : List Pair) → wanted ≡ values → some ≡ filter (λ (p : Pair). has_values wanted p.1) pairs → some ≡ pairs_with values pairs
+demanded_picked wanted values pairs some same is = is ∙ ap (λ v. pairs_with v pairs) same
 
 -- without a key no row repeats one
 pub none_repeats : (key : List ℕ) (there rows : List Row) → length key ≡ 0 → false ≡ repeats key there rows
 none_repeats [] there [] none = refl
 none_repeats [] there (row ∷ rows) none = none_repeats [] (there ++ row ∷ []) rows none
 none_repeats (place ∷ key) there rows none = absurd (omega (arith, none))
+
+-- a write that can be computed over all rows can be over some
+pub safe_with : (op : ShardOp) (values : List (ℕ × Value)) (pairs : List Pair) → IsSafeWrite op pairs → IsSafeWrite op (pairs_with values pairs)
+safe_with (Insert number rows) values pairs h = tt
+safe_with (Update number c sets) values pairs h =
+    let some : Pair → Bool = λ p. has_all values p.1 in (
+      All-filter some (λ (p : Pair). IsSafeCondition c p.1 []) pairs h.0,
+      All-filter some (λ (p : Pair). All (λ s. IsSafe s.value p.1 []) sets) pairs h.1,
+      All-filter some (λ (p : Pair). All (λ s. s.column < length p.1) sets) pairs h.2,
+    )
+safe_with (Remove number c) values pairs h = All-filter (λ (p : Pair). has_all values p.1) (λ (p : Pair). IsSafeCondition c p.1 []) pairs h

@@ -12,3 +12,4 @@ pub mod AddLaws
 pub mod DropLaws
 pub mod Cases
 pub mod KeyLaws
+pub mod Ascending

@@ -72,9 +72,6 @@ module _ {X : Type 0} (state : X → StoreState) where
   first_gives f [] y low h = absurd (omega arith)
   first_gives f (x ∷ xs) y low h = h x
 
-  pub first_at : (xs : List X) (t : Table) → 0 < length xs → HoldsAt (λ x. t ≡ (state x).rows) xs 0 → t ≡ first_rows state xs
-  first_at xs t low h = first_gives (λ u. u) xs t low h
-
   -- the changes fit each store, since its rows are those of the first
   takes_each : (changes : List Change) (t : Table) (xs ys : List X) → Fit t changes → AllByRecursion (λ (x : X). 0 < (state x).shard) xs → AllByRecursion (λ (x : X). (state x).rows ≡ t) xs →
       AllByRecursion (λ (x : X). (state x).staged ≡ []) xs → AllZip (Lifted state Rests) xs ys → AllByRecursion (λ (x : X). Takes changes (state x)) ys

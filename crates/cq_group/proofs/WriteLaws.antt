@@ -3,7 +3,7 @@ use Rattle.std.proofs.Common.{◌≡◌, ◌∙◌, ◌+◌, ℕ, ◌<◌, ◌�
 use Rattle.std.proofs.Math.ListN.{set}
 use Rattle.std.specs.List.{AllByRecursion, AllZip}
 use Rattle.cq_value.specs.declared.schema.Shape.{Shape}
-use Rattle.cq_value.specs.Tables.{Table}
+use Rattle.cq_value.specs.Tables.{Table, IsAscending}
 use Rattle.cq_tree.specs.declared.journal.Entry.{Entry}
 use Rattle.cq_tree.specs.declared.write.Reply.{Reply}
 use Rattle.cq_tree.specs.declared.write.ShardOp.{ShardOp}
@@ -18,6 +18,7 @@ use Rattle.cq_group.proofs.Zips.{zip_set, zip_refl, zip_trans}
 use Rattle.cq_group.proofs.Turns.{keeps, goes_on_more}
 use Rattle.cq_group.proofs.PlaceLaws.{all_at, found_shape, set_where, table_refl}
 use Rattle.cq_group.proofs.GroupLaws.{outlines_along}
+use Rattle.cq_group.proofs.Ascending.{replay_ascends}
 
 module _ {X : Type 0} (state : X → StoreState) where
   -- every store is quiet after its staged changes are dropped
@@ -60,6 +61,7 @@ module _ {X : Type 0} (state : X → StoreState) where
         numbered = h.numbered ∙ ap (λ (u : Table). u.next) (sym first);
         shards = replica_shards 0 node es t.table t.shape t.shard t.stores.items h.some_shard h.replicas;
         rows = replica_tables 0 node es t.table t.shape t.shard (first_rows state t.stores.items) t.stores.items first h.replicas;
+        ascends = subst (λ (u : Table). IsAscending u.pairs u.next) (sym first) (replay_ascends t.table t.shape es);
         nothing = q;
       }
 

@@ -3,7 +3,7 @@ use Rattle.std.specs.Prelude.{◌≡◌, ◌<◌, ◌≤◌, ◌⊎◌, ℕ, ⊤
 use Rattle.std.specs.List.{AllZip, AllByRecursion}
 use Rattle.cq_value.specs.declared.change.Change.{Change}
 use Rattle.cq_value.specs.declared.value.Value.{Value}
-use Rattle.cq_value.specs.Tables.{Table, empty_table, rows_of}
+use Rattle.cq_value.specs.Tables.{Table, IsAscending, empty_table, rows_of}
 use Rattle.cq_value.specs.Changes.{applied, Fit}
 use Rattle.cq_tree.specs.declared.write.ShardOp.{ShardOp}
 use Rattle.cq_meaning.specs.Effects.{inserts, table_of, IsSafeWrite}
@@ -143,12 +143,13 @@ abbrev pub first_rows : {X : Type 0} → (X → StoreState) → List X → Table
 first_rows state [] = empty_table
 first_rows state (x ∷ xs) = (state x).rows
 
--- a table's next id is its stores', which keep a shard, hold the same rows, and have nothing staged
+-- a table's next id is its stores', which keep a shard, hold the same rows under ids that ascend, and have nothing staged
 pub record AreAlike {X : Type 0} (state : X → StoreState) (t : GroupTable X) : Type 0 where
   pub some_store : 0 < length t.stores.items
   pub numbered : t.next ≡ (first_rows state t.stores.items).next
   pub shards : AllByRecursion (λ (x : X). 0 < (state x).shard) t.stores.items
   pub rows : AllByRecursion (λ (x : X). (state x).rows ≡ first_rows state t.stores.items) t.stores.items
+  pub ascends : IsAscending (first_rows state t.stores.items).pairs (first_rows state t.stores.items).next
   pub nothing : IsTableQuiet state t
 
 -- how many row ids a write takes that is replied so

@@ -1,5 +1,4 @@
 pub mod Groups
 pub mod Calls
 pub mod Opening
-pub mod Keys
 pub mod Resting

@@ -1,6 +1,7 @@
 //! One shard group: its journal, and the stores of its shards, which hold what the journal's entries leave.
 #![tactic(auto)]
 
+mod changing;
 mod close;
 mod gate;
 mod group;

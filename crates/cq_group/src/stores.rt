@@ -1,13 +1,12 @@
 ghost use Rattle.std.specs.Prelude.{◌≡◌, ◌<◌, [], ◌∷◌, filter, OnOk, OnErr, IfOk, IfErr};
 ghost use Rattle.std.specs.List.{AllZip, AllByRecursion};
 ghost use Rattle.cq_value.specs.Changes.{Fit};
-ghost use Rattle.cq_value.specs.Tables.{rows_of};
-ghost use Rattle.cq_store.specs.Stores.{has_values};
+ghost use Rattle.cq_store.specs.Stores.{has_values, meets_any};
 ghost use Rattle.cq_group.specs.Calls.{Rests, Discards, Commits, Releases, Stages, Lifted, Blames, Takes, error_told};
 
 use crate::group::GroupError;
-use cq_store::{ColumnValues, Store, StoreError};
-use cq_value::{Changes, Numbered, Rows};
+use cq_store::{ColumnValues, Pairs, Store, StoreError};
+use cq_value::{Changes, Positions, Rows};
 
 /// What an error of a call on a store tells, where the store had counted `before` faults ahead of the call.
 fn told<S: Store>(before: u64, store: &S, error: StoreError) -> GroupError
@@ -24,28 +23,35 @@ fn told<S: Store>(before: u64, store: &S, error: StoreError) -> GroupError
     }
 }
 
-/// The rows of a store.
-pub(crate) fn scan_store<S: Store>(store: &mut S) -> Result<Numbered, GroupError>
-    ensures rows { IfOk result (λ t. t ≡ (S.state store.old).rows) }
-    ensures same { Lifted S.state Rests store.old store.new }
-    ensures blame { IfErr result (λ e. Blames S.state e (store.old ∷ []) (store.new ∷ [])) }
-{
-    let before = store.faults();
-    match store.scan() {
-        Ok(rows) => Ok(rows),
-        Err(error) => Err(told(before, store, error)),
-    }
-}
-
-/// The rows of a store that have these values.
-pub(crate) fn pick_store<S: Store>(store: &mut S, wanted: &ColumnValues) -> Result<Rows, GroupError>
-    ensures rows { IfOk result (λ rows. rows ≡ filter (has_values wanted.now) (rows_of (S.state store.old).rows)) }
+/// The rows of a store that have these values, with their ids.
+pub(crate) fn pick_store<S: Store>(
+    store: &mut S,
+    wanted: &ColumnValues,
+) -> Result<Pairs, GroupError>
+    ensures pairs { IfOk result (λ pairs. pairs ≡ filter (λ p. has_values wanted.now p.1) (S.state store.old).rows.pairs) }
     ensures same { Lifted S.state Rests store.old store.new }
     ensures blame { IfErr result (λ e. Blames S.state e (store.old ∷ []) (store.new ∷ [])) }
 {
     let before = store.faults();
     match store.pick(wanted) {
-        Ok(rows) => Ok(rows),
+        Ok(pairs) => Ok(pairs),
+        Err(error) => Err(told(before, store, error)),
+    }
+}
+
+/// Whether a row of a store has the values of one of these rows in the columns of a key.
+pub(crate) fn meet_store<S: Store>(
+    store: &mut S,
+    key: &Positions,
+    rows: &Rows,
+) -> Result<bool, GroupError>
+    ensures met { IfOk result (λ met. met ≡ meets_any (S.state store.old).rows.pairs key.now rows.now) }
+    ensures same { Lifted S.state Rests store.old store.new }
+    ensures blame { IfErr result (λ e. Blames S.state e (store.old ∷ []) (store.new ∷ [])) }
+{
+    let before = store.faults();
+    match store.meets(key, rows) {
+        Ok(met) => Ok(met),
         Err(error) => Err(told(before, store, error)),
     }
 }

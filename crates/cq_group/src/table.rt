@@ -4,17 +4,20 @@ ghost use Rattle.cq_value.specs.Tables.{rows_of};
 ghost use Rattle.cq_meaning.specs.Effects.{reply_of, inserts, IsSafeWrite};
 ghost use Rattle.cq_journal.specs.Journals.{most_ids};
 ghost use Rattle.cq_journal.specs.Replies.{IsRefusal};
+ghost use Rattle.cq_demands.specs.Demands.{demands, pairs_with};
+ghost use Rattle.cq_engine.specs.Keys.{meets as meet_keys};
 ghost use Rattle.cq_engine.specs.WriteEffects.{IsEffect};
 ghost use Rattle.cq_store.specs.Stores.{has_values};
 ghost use Rattle.cq_group.specs.Groups.{IsStagedIn, IsTableQuiet};
 ghost use Rattle.cq_group.specs.Calls.{Rests, Discards, Commits, Stages, KeepsRows, Lifted, Blames, IsOn, Takes, IsSameTable, IsRestingTable, AreAlike, first_rows, ids_taken};
 
 use crate::group::{GroupError, GroupTable};
-use crate::stores::{commit_stores, discard_stores, pick_store, scan_store, stage_stores};
-use cq_engine::{Effect, changes_of};
-use cq_store::{ColumnValues, Store};
-use cq_tree::{Reply, ShardOp};
-use cq_value::{NoMemory, Numbered, Rows};
+use crate::stores::{commit_stores, discard_stores, meet_store, pick_store, stage_stores};
+use cq_demands::wanted_by;
+use cq_engine::Effect;
+use cq_store::{ColumnValues, Pairs, Store};
+use cq_tree::{Cond, Reply, ShardOp};
+use cq_value::{NoMemory, Rows};
 use std::alloc::Global;
 
 /// The most row ids of one table in one shard group.
@@ -40,27 +43,28 @@ fn taken(op: &ShardOp, reply: Reply) -> u64
     }
 }
 
-/// The rows of a numbered table, without their ids.
-fn rows_alone(alloc: Global, table: &Numbered) -> Result<Rows, NoMemory>
-    ensures { IfOk result (λ rows. rows ≡ rows_of table.now) }
+/// The rows of these pairs, moved out of them.
+fn rows_alone(pairs: Pairs) -> Result<Rows, NoMemory>
+    ensures { IfOk result (λ rows. rows ≡ map (λ p. p.1) pairs) }
 {
-    let mut rows = Rows::new(alloc);
-    for pair in table.pairs() {
-        rows.put(pair.1.copy(alloc)?)?;
+    let pairs = pairs.into_vec();
+    let mut rows = Rows::new(*pairs.allocator());
+    for pair in pairs {
+        rows.put(pair.1)?;
     }
     Ok(rows)
 }
 
 impl<S: Store> GroupTable<S> {
-    /// The numbered rows that the store in a place of the list holds.
-    pub(crate) fn scan(&mut self, place: usize) -> Result<Numbered, GroupError>
+    /// The rows with these values that the store in a place of the list holds, with their ids.
+    fn pick_pairs(&mut self, place: usize, wanted: &ColumnValues) -> Result<Pairs, GroupError>
         requires { place < length self.old.stores.items }
-        ensures rows { IfOk result (λ table. HoldsAt (λ x. table ≡ (S.state x).rows) self.old.stores.items place) }
+        ensures pairs { IfOk result (λ pairs. HoldsAt (λ x. pairs ≡ filter (λ p. has_values wanted.now p.1) (S.state x).rows.pairs) self.old.stores.items place) }
         ensures same { IsRestingTable (Lifted S.state Rests) self.old self.new }
         ensures blame { IfErr result (λ e. Blames S.state e self.old.stores.items self.new.stores.items) }
         ensures here { IfErr result (λ e. HoldsAt (λ x. IsOn (S.state x).node e) self.old.stores.items place) }
     {
-        scan_store(&mut self.stores[place])
+        pick_store(&mut self.stores[place], wanted)
     }
 
     /// The rows that the store in a place of the list holds.
@@ -71,11 +75,7 @@ impl<S: Store> GroupTable<S> {
         ensures blame { IfErr result (λ e. Blames S.state e self.old.stores.items self.new.stores.items) }
         ensures here { IfErr result (λ e. HoldsAt (λ x. IsOn (S.state x).node e) self.old.stores.items place) }
     {
-        let table = self.scan(place)?;
-        match rows_alone(alloc, &table) {
-            Ok(rows) => Ok(rows),
-            Err(NoMemory) => Err(GroupError::Memory),
-        }
+        self.pick(place, &ColumnValues::new(alloc))
     }
 
     /// The rows with these values that the store in a place of the list holds.
@@ -86,7 +86,42 @@ impl<S: Store> GroupTable<S> {
         ensures blame { IfErr result (λ e. Blames S.state e self.old.stores.items self.new.stores.items) }
         ensures here { IfErr result (λ e. HoldsAt (λ x. IsOn (S.state x).node e) self.old.stores.items place) }
     {
-        pick_store(&mut self.stores[place], wanted)
+        let pairs = self.pick_pairs(place, wanted)?;
+        match rows_alone(pairs) {
+            Ok(rows) => Ok(rows),
+            Err(NoMemory) => Err(GroupError::Memory),
+        }
+    }
+
+    /// The rows of the first store that have what a WHERE demands, with their ids.
+    ///
+    /// Conditions: the table has a store. Errors: the store failed, or want of memory.
+    pub(crate) fn pick_demanded(
+        &mut self,
+        alloc: Global,
+        filter: &Cond,
+    ) -> Result<Pairs, GroupError>
+        requires { 0 < length self.old.stores.items }
+        ensures pairs { IfOk result (λ pairs. pairs ≡ pairs_with (demands filter.now) (first_rows S.state self.old.stores.items).pairs) }
+        ensures same { IsRestingTable (Lifted S.state Rests) self.old self.new }
+        ensures blame { IfErr result (λ e. Blames S.state e self.old.stores.items self.new.stores.items) }
+    {
+        let Ok(wanted) = wanted_by(alloc, filter) else {
+            return Err(GroupError::Memory);
+        };
+        self.pick_pairs(0, &wanted)
+    }
+
+    /// Whether a row of the first store has the primary key of one of these rows.
+    ///
+    /// Conditions: the table has a store. Errors: the store failed, or want of memory.
+    pub(crate) fn meets(&mut self, rows: &Rows) -> Result<bool, GroupError>
+        requires { 0 < length self.old.stores.items }
+        ensures met { IfOk result (λ met. met ≡ meet_keys self.old.shape.key (rows_of (first_rows S.state self.old.stores.items)) rows.now) }
+        ensures same { IsRestingTable (Lifted S.state Rests) self.old self.new }
+        ensures blame { IfErr result (λ e. Blames S.state e self.old.stores.items self.new.stores.items) }
+    {
+        meet_store(&mut self.stores[0], &self.shape.key, rows)
     }
 
     /// Whether the row ids that are left are fewer than the rows of a write.
@@ -95,22 +130,6 @@ impl<S: Store> GroupTable<S> {
         ensures { IsTrue result ↔ (most_ids < self.now.next + length (inserts op.now)) }
     {
         inserted(op) > MOST_IDS - self.next
-    }
-
-    /// What a write comes to over the rows of the first store, which are all copied.
-    fn change_of(&mut self, alloc: Global, op: &ShardOp) -> Result<Effect, GroupError>
-        requires alike { AreAlike S.state self.old }
-        requires ids { self.old.next + length (inserts op.now) ≤ 2 ^ 32 }
-        requires safe { IsSafeWrite op.now (first_rows S.state self.old.stores.items).pairs }
-        ensures effect { IfOk result (λ made. IsEffect op.now (first_rows S.state self.old.stores.items) self.old.shape made) }
-        ensures same { IsRestingTable (Lifted S.state Rests) self.old self.new }
-        ensures blame { IfErr result (λ e. Blames S.state e self.old.stores.items self.new.stores.items) }
-    {
-        let rows = self.scan(0)?;
-        match changes_of(alloc, op, &rows, self.next, &self.shape) {
-            Ok(effect) => Ok(effect),
-            Err(NoMemory) => Err(GroupError::Memory),
-        }
     }
 
     /// What a write comes to over the rows of the first store.
@@ -124,7 +143,12 @@ impl<S: Store> GroupTable<S> {
     {
         match op {
             ShardOp::Insert { table, rows } => self.insertion_of(alloc, *table, rows),
-            ShardOp::Update { .. } | ShardOp::Remove { .. } => self.change_of(alloc, op),
+            ShardOp::Update {
+                table,
+                filter,
+                sets,
+            } => self.update_of(alloc, *table, filter, sets),
+            ShardOp::Remove { table, filter } => self.removal_of(alloc, *table, filter),
         }
     }
 

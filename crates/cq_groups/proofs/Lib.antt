@@ -16,5 +16,4 @@ pub mod Written
 pub mod Touching
 pub mod Judging
 pub mod Answering
-pub mod WantedLaws
 pub mod ShardLaws

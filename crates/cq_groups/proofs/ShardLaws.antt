@@ -22,7 +22,7 @@ use Rattle.cq_answer.specs.declared.fault.Fault.TheVariants as fault
 use Rattle.cq_group.specs.declared.group.GroupState.{GroupState}
 use Rattle.cq_group.specs.Resting.{journals_of, AreResting}
 use Rattle.cq_history.specs.Computable.{column_bits, IsReadable}
-use Rattle.cq_history.specs.Demands.{demands}
+use Rattle.cq_demands.specs.Demands.{demands}
 use Rattle.cq_history.specs.Faults.{near as near_by_rule}
 use Rattle.cq_history.specs.Journals.{journal_in}
 use Rattle.cq_history.specs.Laws.{HasWanted}

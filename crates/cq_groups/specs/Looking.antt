@@ -10,7 +10,7 @@ use Rattle.cq_planning.specs.Touched.{among, touched}
 use Rattle.cq_answer.specs.declared.answered.Settings.{Settings}
 use Rattle.cq_history.specs.Run.{Environment}
 use Rattle.cq_history.specs.Refusals.{is_alone}
-use Rattle.cq_history.specs.Demands.{demands}
+use Rattle.cq_demands.specs.Demands.{demands}
 use Rattle.cq_history.specs.Looks.{has_shard}
 use Rattle.cq_whole.specs.Tables.{tables_of_statement}
 use Rattle.cq_group.specs.declared.group.GroupState.{GroupState}

@@ -12,7 +12,6 @@ mod queries;
 mod reads;
 mod shard;
 mod staging;
-mod wanted;
 mod writes;
 
 pub use error::WriteError;
@@ -21,5 +20,4 @@ pub use laws::fault_laws;
 pub use looks::looks_at;
 pub use queries::answer_query;
 pub use reads::{Look, Looks, pick_group, read_groups};
-pub use wanted::wanted_by;
 pub use writes::write_groups;

@@ -5,7 +5,8 @@ use Rattle.cq_tree.specs.declared.write.Reply.{Reply}
 use Rattle.cq_tree.specs.declared.write.Reply.TheVariants.{Duplicate, OutOfRange}
 use Rattle.cq_tree.specs.declared.statement.Statement.{Statement}
 use Rattle.cq_tree.specs.declared.statement.Statement.TheVariants as statement
-use Rattle.cq_meaning.specs.Values.{Tables}
+use Rattle.cq_tree.specs.declared.query.Query.{Query}
+use Rattle.cq_meaning.specs.Values.{Row, Tables}
 use Rattle.cq_meaning.specs.Results.{Answers}
 use Rattle.cq_catalog.specs.Contents.{Contents}
 use Rattle.cq_answer.specs.declared.answer.Answer.{Answer}
@@ -16,7 +17,7 @@ use Rattle.cq_answer.specs.declared.fault.Fault.TheVariants as fault
 use Rattle.cq_history.specs.Run.{Run, Rules, Environment}
 use Rattle.cq_journal.specs.Records.{Journal}
 use Rattle.cq_history.specs.Journals.{Kinds, Step, none}
-use Rattle.cq_history.specs.Standing.{View, Enters, reads, AreReady, IsMadeIn, IsRefusedIn, LacksIdsIn, IsFaultIn, IsReadFault, IsWriteFault, Runs, RunsUnless, StandsIn}
+use Rattle.cq_history.specs.Standing.{View, Enters, reads, AreReady, IsMadeIn, IsRefusedIn, LacksIdsIn, IsFaultIn, IsReadFault, IsWriteFault, IsExplained, Runs, RunsUnless, StandsIn}
 
 module _ (v w : View) (made : (g : ℕ) (P : List Step → Type 0) → v.made g P → w.made g P) (wherever : (P : Tables → Type 0) → v.wherever P → w.wherever P)
     (saw : (g : ℕ) (P : Journal → Type 0) → v.saw g P → w.saw g P) where
@@ -63,6 +64,9 @@ module _ (v w : View) (made : (g : ℕ) (P : List Step → Type 0) → v.made g 
   write_fault_map : (run : Run) (c : Contents) (touched : List ℕ) (node shard before after : ℕ) → IsWriteFault run c touched v node shard before after → IsWriteFault run c touched w node shard before after
   write_fault_map run c touched node shard before after h = record { group = h.group; entries = enters none h.entries; fault = fault_map c touched _ h.group node shard before after h.fault }
 
+  explained_map : (c : Contents) (q : Query) (names : List (List ℕ)) (rows : List Row) → IsExplained c v q names rows → IsExplained c w q names rows
+  explained_map c q names rows h = record { nodes = h.nodes; entries = enters none h.entries; on = λ g l. saw g _ (h.on g l); named = h.named; shown = h.shown }
+
   runs_map : (touched : List ℕ) (run : Run) (e : Environment) (s : Statement) (a : Answer) → Runs touched run e v s a → Runs touched run e w s a
   runs_map touched run e (statement.CreateTable name columns key) a h = (enters none h.0, h.1)
   runs_map touched run e (statement.Distribute table column count beside) a h = (enters none h.0, h.1)
@@ -72,6 +76,8 @@ module _ (v w : View) (made : (g : ℕ) (P : List Step → Type 0) → v.made g 
   runs_map touched run e (statement.Select q) (answer.Failed (fault.Limit what.Rows n)) h = (h.0, enters (reads touched) h.1, λ alone simple. wherever _ (h.2 alone simple))
   runs_map touched run e (statement.Select q) (answer.Failed (fault.Worker node shard before after)) h = read_fault_map run e.catalog touched node shard before after h
   runs_map touched run e (statement.Select q) (answer.Failed fault.Memory) h = (h.0, h.1, enters (reads h.0) h.2)
+  runs_map touched run e (statement.Explain q) (answer.Table names rows) h = explained_map e.catalog q names rows h
+  runs_map touched run e (statement.Explain q) (answer.Failed fault.Memory) h = enters none h
   runs_map touched run e (statement.Write op) (answer.Tag t) h = (h.0, h.1, made_map e.catalog touched op h.0 h.2)
   runs_map touched run e (statement.Write op) (answer.Failed fault.Duplicate) h = refused_map e.catalog touched op Duplicate h
   runs_map touched run e (statement.Write op) (answer.Failed fault.ValueOutOfRange) h = refused_map e.catalog touched op OutOfRange h

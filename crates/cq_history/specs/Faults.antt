@@ -11,6 +11,7 @@ use Rattle.cq_store.specs.Stores.{StoreState, Rose}
 use Rattle.cq_answer.specs.declared.answer.Answer.{Answer}
 use Rattle.cq_answer.specs.declared.answer.Answer.TheVariants.{Failed}
 use Rattle.cq_answer.specs.declared.answered.Answered.{Answered}
+use Rattle.cq_answer.specs.declared.fault.Fault.{Fault}
 use Rattle.cq_answer.specs.declared.fault.Fault.TheVariants.{Worker}
 use Rattle.cq_history.specs.Looks.{has_shard}
 
@@ -73,6 +74,10 @@ Climbs low (r ∷ rs) count = (low ≤ r.0) × Rose r.0 r.1 × Climbs r.1 rs cou
 pub record AccountsFor (answers : List Answered) (s : StoreState) : Type 0 where
   pub climbs : Climbs 0 (ranges_of s.node s.shard answers) s.faults
   pub steady : IsTrue s.steady → ranges_of s.node s.shard answers ≡ []
+
+-- a fault names no store
+abbrev pub NamesNoStore : Fault → Type 0
+NamesNoStore f = (node shard before after : ℕ) → f ≡ Worker node shard before after → ⊥
 
 -- an answer names no shard from this id on
 abbrev pub NamesBelow : ℕ → Answer → Type 0

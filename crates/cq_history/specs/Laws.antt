@@ -1,5 +1,5 @@
 -- The laws.
-use Rattle.std.specs.Prelude.{◌-◌, ◌%◌, slice_get, ◌≡◌, ⊤, ℕ, ◌+◌, ◌≤◌, ◌<◌, true, false, List, [], ◌∷◌, ◌++◌, length, nat_eq, ◌&&◌, if◌then◌else◌, Option, Some, None}
+use Rattle.std.specs.Prelude.{◌-◌, ◌%◌, slice_get, ◌≡◌, ⊤, ℕ, ◌+◌, ◌≤◌, ◌<◌, true, false, List, [], ◌∷◌, ◌++◌, length, nat_eq, ◌&&◌, if◌then◌else◌, Option, Some, None, codes}
 use Rattle.std.specs.List.{AllByRecursion, sum_by}
 use Rattle.std.specs.List.Sorted.{IsPermutation}
 use Rattle.cq_tree.specs.declared.write.ShardOp.{ShardOp}
@@ -26,6 +26,8 @@ use Rattle.cq_catalog.specs.declared.info.Place.TheVariants.{Local, Reference}
 use Rattle.cq_journal.specs.Fitting.{Fits, WriteSetsSorts}
 use Rattle.cq_journal.specs.Journals.{most_ids}
 use Rattle.cq_journal.specs.Replies.{IsRefusal}
+use Rattle.cq_journal.specs.Stations.{node_of}
+use Rattle.cq_outline.specs.Texts.{explained}
 use Rattle.cq_tree.specs.declared.journal.Who.{Who}
 use Rattle.cq_tree.specs.declared.statement.Statement.{Statement}
 use Rattle.cq_answer.specs.declared.answer.Answer.{Answer}
@@ -44,8 +46,8 @@ use Rattle.cq_journal.specs.Records.{Journal}
 use Rattle.cq_history.specs.Journals.{none, Kinds, journal_in, held_in, in_each, with_entries}
 use Rattle.cq_history.specs.Legality.{LeavesColumn, IsLegal, IsKeyed}
 use Rattle.cq_history.specs.Refusals.{is_alone}
-use Rattle.cq_history.specs.Demands.{demands, rows_with}
-use Rattle.cq_history.specs.Standing.{most_rows, AreAmong, counted, reply_in, HasIds, IsReady, tag_of, StandsIn, Stands}
+use Rattle.cq_demands.specs.Demands.{demands, rows_with}
+use Rattle.cq_history.specs.Standing.{most_rows, AreAmong, counted, reply_in, HasIds, IsReady, tag_of, rows_of_lines, StandsIn, Stands}
 use Rattle.cq_store.specs.Stores.{StoreState, Rose}
 use Rattle.cq_history.specs.Faults.{IsShardIn, IsOnNode, near, node_read, below, range_in, AccountsFor, NamesBelow}
 use Rattle.cq_history.specs.Deeds.{Deed, first_seen, in_deed, Does, HasDeed, Grows, GoesOn, Follows, deed_over}
@@ -362,6 +364,13 @@ WriteFails = (rules : Rules) (run : Run) (e : Environment) (who : Who) (journals
 abbrev pub WriteLacksMemory : Type 0
 WriteLacksMemory = (rules : Rules) (run : Run) (e : Environment) (who : Who) (journals : List Journal) (op : ShardOp) → rules.refusal e (statement.Write op) ≡ None →
     IsAnswered rules run e e who journals journals (Some (statement.Write op)) (answer.Failed fault.Memory)
+
+-- a query's plan was shown, or memory ran out before that
+abbrev pub ExplainIsAnswered : Type 0
+ExplainIsAnswered = (rules : Rules) (run : Run) (e : Environment) (who : Who) (journals : List Journal) (q : Query) → rules.refusal e (statement.Explain q) ≡ None → e.catalog.groups ≤ length journals →
+    ((nodes : ℕ → ℕ) → ((g : ℕ) → g < e.catalog.groups → nodes g ≡ node_of (journal_in journals g)) →
+    IsAnswered rules run e e who journals journals (Some (statement.Explain q)) (answer.Table (codes "QUERY PLAN" ∷ []) (rows_of_lines (explained e.catalog nodes q))))
+    × IsAnswered rules run e e who journals journals (Some (statement.Explain q)) (answer.Failed fault.Memory)
 
 -- a text that isn't bound, or a statement that is refused before it runs
 abbrev pub RefusalIsAnswered : Type 0

@@ -9,5 +9,4 @@ pub mod Log
 pub mod Refusals
 pub mod Computable
 pub mod Looks
-pub mod Demands
 pub mod Laws

@@ -19,13 +19,14 @@ abbrev pub is_alone : Query → Bool
 is_alone (Query' cs ctes ss subs from filter_ grouped keys aggs having items shown distinct order limit offset names) =
     nat_eq (count_of ctes + ins_in_from from + ins_in_all subs) 0
 
--- whether the program runs a statement: all queries, and of writes those of a table that isn't local
+-- whether the program runs a statement: all queries and their EXPLAIN, and of writes those of a table that isn't local
 abbrev pub is_built : Contents → Statement → Bool
 is_built c (statement.CreateTable name columns key) = true
 is_built c (statement.Distribute table column count beside) = true
 is_built c (statement.Reference table) = true
 is_built c (statement.Setting which value) = true
 is_built c (statement.Select q) = true
+is_built c (statement.Explain q) = true
 is_built c (statement.Write op) = not (is_local (place_at c (table_of op)))
 is_built c s = false
 

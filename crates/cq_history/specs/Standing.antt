@@ -1,5 +1,5 @@
 -- When an answer stands, and the cause of each refusal. The cases are read once, over a view of the statement.
-use Rattle.std.specs.Prelude.{◌≡◌, ◌+◌, ◌<◌, ◌≤◌, ℕ, ⊤, true, List, [], ◌∷◌, length, Option, Some, None, option_map, codes}
+use Rattle.std.specs.Prelude.{◌≡◌, ◌+◌, ◌<◌, ◌≤◌, ℕ, ⊤, true, List, [], ◌∷◌, map, length, Option, Some, None, option_map, codes}
 use Rattle.std.specs.List.{sum_by}
 use Rattle.cq_value.specs.declared.value.Value.TheVariants as values
 use Rattle.cq_value.specs.declared.schema.Column.{Column}
@@ -7,7 +7,7 @@ use Rattle.cq_value.specs.declared.schema.With.{With}
 use Rattle.cq_value.specs.Tables.{Table}
 use Rattle.cq_tree.specs.declared.journal.Who.{Who}
 use Rattle.cq_tree.specs.declared.journal.EntryKind.TheVariants.{Read, Write}
-use Rattle.cq_tree.specs.declared.query.Query.{out-Query}
+use Rattle.cq_tree.specs.declared.query.Query.{Query, out-Query}
 use Rattle.cq_tree.specs.declared.write.ShardOp.{ShardOp}
 use Rattle.cq_tree.specs.declared.write.ShardOp.TheVariants.{Insert, Update, Remove}
 use Rattle.cq_tree.specs.declared.write.Reply.{Reply}
@@ -23,6 +23,7 @@ use Rattle.cq_catalog.specs.Distribution.{decision_of, distribution_refusal, ope
 use Rattle.cq_catalog.specs.Refusals.{first_of}
 use Rattle.cq_journal.specs.Journals.{most_ids}
 use Rattle.cq_journal.specs.Replies.{IsMade}
+use Rattle.cq_journal.specs.Stations.{node_of}
 use Rattle.cq_answer.specs.declared.answer.Answer.{Answer}
 use Rattle.cq_answer.specs.declared.answer.Answer.TheVariants as answer
 use Rattle.cq_answer.specs.declared.answer.Tag.{Tag}
@@ -42,6 +43,7 @@ use Rattle.cq_history.specs.Whole.{held_at}
 use Rattle.cq_history.specs.Refusals.{is_alone}
 use Rattle.cq_history.specs.Faults.{IsShardIn, IsOnNode, near, node_read, below}
 use Rattle.cq_store.specs.Stores.{Rose}
+use Rattle.cq_outline.specs.Texts.{explained}
 
 -- a statement as it is judged: what holds of its entries in a group, what holds of the undistributed database wherever that may be taken, and
 -- what holds of the journal of a group as the statement saw it
@@ -150,6 +152,20 @@ tag_of (Insert table rows) n = tag.Insert n
 tag_of (Update table filter_ sets) n = tag.Update n
 tag_of (Remove table filter_) n = tag.Delete n
 
+-- ---- EXPLAIN
+
+-- a row of one text for each line
+abbrev pub rows_of_lines : List (List ℕ) → List Row
+rows_of_lines lines = map (λ line. values.Text line ∷ []) lines
+
+-- a table of the lines of the query's plan, where each group is on the node that its journal tells; and no entry
+pub record IsExplained (c : Contents) (v : View) (q : Query) (names : List (List ℕ)) (rows : List Row) : Type 0 where
+  pub nodes : ℕ → ℕ
+  pub entries : Enters v none
+  pub on : (g : ℕ) → g < c.groups → v.saw g (λ j. nodes g ≡ node_of j)
+  pub named : names ≡ codes "QUERY PLAN" ∷ []
+  pub shown : rows ≡ rows_of_lines (explained c nodes q)
+
 -- ---- statements on the catalogue
 
 -- one column of this name, and one row with an empty text
@@ -193,6 +209,8 @@ Runs touched run e v (statement.Select q) (answer.Failed (fault.Limit what.Rows 
     (n ≡ most_rows) × Enters v (reads touched) × (is_alone q ≡ true → GivesSimply e.catalog q → v.wherever (IsLarge q))
 Runs touched run e v (statement.Select q) (answer.Failed (fault.Worker node shard before after)) = IsReadFault run e.catalog touched v node shard before after
 Runs touched run e v (statement.Select q) (answer.Failed fault.Memory) = (groups : List ℕ) × AreAmong groups touched × Enters v (reads groups)
+Runs touched run e v (statement.Explain q) (answer.Table names rows) = IsExplained e.catalog v q names rows
+Runs touched run e v (statement.Explain q) (answer.Failed fault.Memory) = Enters v none
 Runs touched run e v (statement.Write op) (answer.Tag t) = (n : ℕ) × (t ≡ tag_of op n) × IsMadeIn e.catalog touched v op n
 Runs touched run e v (statement.Write op) (answer.Failed fault.Duplicate) = IsRefusedIn e.catalog touched v op Duplicate
 Runs touched run e v (statement.Write op) (answer.Failed fault.ValueOutOfRange) = IsRefusedIn e.catalog touched v op OutOfRange

@@ -1,9 +1,9 @@
 ghost use Rattle.cq_history.specs.Laws.{PartsAreMade, PartIsRefused, PartsHaveEffect, MadeDoes, RefusedDoes, LacksDoes, ReadDoes, LargeDoes, OneTableNarrows, GrowsOn, GrowsNone, GrowsEach, GrowsInOne, DeedsStay, GrowsByOther, DeedsStand, BlockIsDone, DoneStands};
-ghost use Rattle.cq_history.specs.Demands.{KeptHasDemands};
+ghost use Rattle.cq_demands.specs.Demands.{KeptHasDemands};
 ghost use Rattle.cq_history.specs.Laws.{OtherAccounts, FaultAccounts, NewAccounts};
 ghost use Rattle.cq_history.specs.Laws.{WantedSuffice};
 ghost use Rattle.cq_history.specs.Laws.{LogBegins, LogGoesOn, AnswersGoOn, IdleIsAnswered, DeedIsAnswered, StaysLaidOut, CatalogGoesOn, LogStands};
-ghost use Rattle.cq_history.specs.Laws.{MadeIsAnswered, RefusedIsAnswered, LacksIsAnswered, ReadIsAnswered, LargeIsAnswered, ReadLacksMemory, ReadFails, WriteFails, WriteLacksMemory, RefusalIsAnswered, OpensLaidOut, CatalogIsAnswered};
+ghost use Rattle.cq_history.specs.Laws.{MadeIsAnswered, RefusedIsAnswered, LacksIsAnswered, ReadIsAnswered, LargeIsAnswered, ReadLacksMemory, ReadFails, WriteFails, WriteLacksMemory, ExplainIsAnswered, RefusalIsAnswered, OpensLaidOut, CatalogIsAnswered};
 
 /// The reply of a write over the undistributed database, by the replies of its parts in the groups that it touches; and what it
 /// leaves of that database, by what they leave of the groups. Does nothing.
@@ -66,6 +66,7 @@ pub fn answer_laws()
     ensures read_fails { ReadFails }
     ensures write_fails { WriteFails }
     ensures write_memory { WriteLacksMemory }
+    ensures explain { ExplainIsAnswered }
     ensures refusal { RefusalIsAnswered }
     ensures opens { OpensLaidOut }
     ensures catalog { CatalogIsAnswered }

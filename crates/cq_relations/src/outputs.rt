@@ -67,7 +67,8 @@ pub fn column_behind(grouped: bool, keys: &[Expr], column: Option<u32>) -> Optio
     }
 }
 
-fn is_output_of_class(labels: &[u32], at: u64, grouped: bool, keys: &[Expr], e: &Expr) -> bool
+/// Whether an output is a bare column of the class of a column of the FROM.
+pub fn is_output_of_class(labels: &[u32], at: u64, grouped: bool, keys: &[Expr], e: &Expr) -> bool
     ensures { result ≡ is_of_class_by_rule (label labels.now) at (column_behind_by_rule grouped keys.now (column_by_rule e.now)) }
 {
     is_of_class(labels, at, column_behind(grouped, keys, column_of(e)))

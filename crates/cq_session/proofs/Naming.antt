@@ -18,10 +18,8 @@ use Rattle.cq_answer.specs.declared.fault.Fault.TheVariants as fault
 use Rattle.cq_answer.specs.Faults.{fault_of_lexing, fault_of_bind}
 use Rattle.cq_statement.specs.Reading.{fault_of_complaint, of_reading, of_verdict, of_tokens, reading_of}
 use Rattle.cq_statement.specs.Finding.{Reads}
+use Rattle.cq_history.specs.Faults.{NamesNoStore}
 use Rattle.cq_cluster.specs.Accounts.{NamesNone}
-
-abbrev NamesNoStore : Fault → Type 0
-NamesNoStore f = (node shard before after : ℕ) → f ≡ fault.Worker node shard before after → ⊥
 
 lexing_named : (e : LexError) → NamesNoStore (fault_of_lexing e)
 unfolding fault_of_lexing

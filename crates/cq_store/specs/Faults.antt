@@ -1,4 +1,4 @@
--- A store whose scans, picks and stages are counted together, from 1, and of these calls those with given numbers fail.
+-- A store whose scans, picks, looks for keys and stages are counted together, from 1, and of these calls those with given numbers fail.
 use Rattle.std.specs.Prelude.{◌≡◌, ◌+◌, ℕ, Bool, true, false, List, length, min, nat_eq}
 use Rattle.std.specs.List.{list_any}
 use Rattle.cq_value.specs.declared.change.Change.{Change}

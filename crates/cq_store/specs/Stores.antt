@@ -1,12 +1,12 @@
 -- What a store holds: the rows of one shard, on one node, and the changes staged for them.
-use Rattle.std.specs.Prelude.{◌≡◌, ◌<◌, ◌≤◌, ◌⊎◌, ℕ, Bool, true, IsTrue, List, [], slice_index_or}
-use Rattle.std.specs.List.{list_all}
+use Rattle.std.specs.Prelude.{◌≡◌, ◌<◌, ◌≤◌, ◌⊎◌, ℕ, Bool, true, IsTrue, List, [], map, slice_index_or}
+use Rattle.std.specs.List.{list_all, list_any}
 use Rattle.std.specs.Ordering.{is_eq}
 use Rattle.cq_value.specs.declared.change.Change.{Change}
 use Rattle.cq_value.specs.declared.value.Value.{Value}
 use Rattle.cq_value.specs.declared.value.Value.TheVariants.{Null}
 use Rattle.cq_value.specs.Order.{value_cmp}
-use Rattle.cq_value.specs.Tables.{Table, empty_table}
+use Rattle.cq_value.specs.Tables.{Pair, Table, empty_table}
 
 -- the node that the store is on, the shard that it keeps (0: none), the shard's rows, the changes staged, how many calls
 -- failed, and whether no call ever fails
@@ -41,6 +41,18 @@ has_value column value row = is_eq (value_cmp (slice_index_or row column Null) v
 -- whether a row has each of these values in its column
 abbrev pub has_values : List (ℕ × Value) → List Value → Bool
 has_values values row = list_all (λ (p : ℕ × Value). has_value p.0 p.1 row) values
+
+-- a row's values in the columns of a key, each with its column, NULL past the row's end
+abbrev pub values_at : List ℕ → List Value → List (ℕ × Value)
+values_at key row = map (λ (place : ℕ). (place, slice_index_or row place Null)) key
+
+-- whether one of the pairs' rows has a row's values in the columns of a key
+abbrev pub meets_one : List Pair → List ℕ → List Value → Bool
+meets_one pairs key row = list_any (λ (p : Pair). has_values (values_at key row) p.1) pairs
+
+-- whether one of the pairs' rows has the values of one of these rows in the columns of a key
+abbrev pub meets_any : List Pair → List ℕ → List (List Value) → Bool
+meets_any pairs key rows = list_any (λ (row : List Value). meets_one pairs key row) rows
 
 -- a spare store of a node that never fails
 abbrev pub steady_spare : ℕ → StoreState

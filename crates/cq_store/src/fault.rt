@@ -1,17 +1,17 @@
 ghost use Rattle.std.specs.Prelude.{◌≡◌, ◌<◌, [], false, filter, OnOk, IfOk, IfErr};
 ghost use Rattle.cq_value.specs.Changes.{Fit};
-ghost use Rattle.cq_value.specs.Tables.{empty_table, rows_of};
+ghost use Rattle.cq_value.specs.Tables.{empty_table};
 ghost use Rattle.cq_store.specs.Faults.{FaultState, held, fails_next, counted, RefusesCall};
-ghost use Rattle.cq_store.specs.Stores.{has_values};
+ghost use Rattle.cq_store.specs.Stores.{has_values, meets_any};
 
 use crate::mem::MemStore;
-use crate::store::{ColumnValues, Store, StoreError};
-use cq_value::{Changes, Numbered, Rows};
+use crate::store::{ColumnValues, Pairs, Store, StoreError};
+use cq_value::{Changes, Numbered, Positions, Rows};
 use std::alloc::Global;
 use std::marker::Model;
 
-/// A store in memory of which chosen calls fail: its scans, picks and stages are counted together, from 1, and those whose
-/// numbers are listed fail.
+/// A store in memory of which chosen calls fail: its scans, picks, looks for keys and stages are counted together, from 1,
+/// and those whose numbers are listed fail.
 #[derive(Drop)]
 pub struct FaultStore {
     inner: MemStore,
@@ -66,13 +66,25 @@ impl FaultStore {
 
     /// What `pick` does, with the exact calls that fail: those whose numbers are listed. Others give copies of the rows, but
     /// for want of memory.
-    pub fn counted_pick(&mut self, wanted: &ColumnValues) -> Result<Rows, StoreError>
-        ensures ok { IfOk result (λ rows. (fails_next self.old ≡ false) × (rows ≡ filter (has_values wanted.now) (rows_of self.old.rows)) × (self.new ≡ counted self.old)) }
+    pub fn counted_pick(&mut self, wanted: &ColumnValues) -> Result<Pairs, StoreError>
+        ensures ok { IfOk result (λ pairs. (fails_next self.old ≡ false) × (pairs ≡ filter (λ p. has_values wanted.now p.1) self.old.rows.pairs) × (self.new ≡ counted self.old)) }
         ensures err { IfErr result (λ e. RefusesCall e self.old self.new) }
     {
         self.count_call()?;
         self.inner
             .read_matches(wanted)
+            .map_err(|_| StoreError::Memory)
+    }
+
+    /// What `meets` does, with the exact calls that fail: those whose numbers are listed. Others tell whether a key is met,
+    /// but for want of memory.
+    pub fn counted_meets(&mut self, key: &Positions, rows: &Rows) -> Result<bool, StoreError>
+        ensures ok { IfOk result (λ b. (fails_next self.old ≡ false) × (b ≡ meets_any self.old.rows.pairs key.now rows.now) × (self.new ≡ counted self.old)) }
+        ensures err { IfErr result (λ e. RefusesCall e self.old self.new) }
+    {
+        self.count_call()?;
+        self.inner
+            .meets_rows(key, rows)
             .map_err(|_| StoreError::Memory)
     }
 
@@ -115,8 +127,12 @@ impl Store for FaultStore {
         self.counted_scan()
     }
 
-    fn pick(&mut self, wanted: &ColumnValues) -> Result<Rows, StoreError> {
+    fn pick(&mut self, wanted: &ColumnValues) -> Result<Pairs, StoreError> {
         self.counted_pick(wanted)
+    }
+
+    fn meets(&mut self, key: &Positions, rows: &Rows) -> Result<bool, StoreError> {
+        self.counted_meets(key, rows)
     }
 
     fn stage(&mut self, changes: &Changes) -> Result<(), StoreError> {

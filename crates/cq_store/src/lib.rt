@@ -2,11 +2,14 @@
 #![tactic(auto)]
 
 mod fault;
+mod index;
+mod indexes;
+mod lookup;
 mod mem;
 mod store;
 mod worker;
 
 pub use fault::FaultStore;
 pub use mem::MemStore;
-pub use store::{BoxedStore, ColumnValues, Store, StoreError};
+pub use store::{BoxedStore, ColumnValues, Pairs, Store, StoreError};
 pub use worker::{TakeError, Worker};

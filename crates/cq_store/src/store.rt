@@ -1,9 +1,9 @@
 ghost use Rattle.std.specs.Prelude.{◌≡◌, ◌<◌, [], filter, OnOk, OnErr, IfOk, IfErr, IsTrue};
 ghost use Rattle.cq_value.specs.Changes.{Fit, applied};
-ghost use Rattle.cq_value.specs.Tables.{empty_table, rows_of};
-ghost use Rattle.cq_store.specs.Stores.{StoreState, IsSpare, Becomes, Rose, has_values};
+ghost use Rattle.cq_value.specs.Tables.{empty_table};
+ghost use Rattle.cq_store.specs.Stores.{StoreState, IsSpare, Becomes, Rose, has_values, meets_any};
 
-use cq_value::{Changes, Items, Numbered, Rows, Value};
+use cq_value::{Changes, Items, Numbered, Positions, Row, Rows, Value};
 use thiserror::Error;
 
 /// Why a store did not answer: the call failed, or there was no memory for it.
@@ -17,6 +17,9 @@ pub enum StoreError {
 
 /// Values that a row must have, each with the place of its column.
 pub type ColumnValues = Items<(u32, Value)>;
+
+/// Rows with their ids.
+pub type Pairs = Items<(u64, Row)>;
 
 /// The rows of one shard, on one node. A call that fails raises the count of faults, and a steady store never fails.
 pub trait Store: Drop {
@@ -48,10 +51,18 @@ pub trait Store: Drop {
         ensures failed { IfErr result (λ e. e ≡ StoreError.Failed → Rose (state self.old).faults (state self.new).faults) }
         ensures steady { IfErr result (λ e. IsTrue (state self.old).steady → e ≡ StoreError.Memory) };
 
-    /// Copies of the rows that have each of these values, in order, without the changes staged. `Err`: the call failed, or
-    /// there was no memory for the copies.
-    fn pick(&mut self, wanted: &ColumnValues) -> Result<Rows, StoreError>
-        ensures rows { IfOk result (λ rows. rows ≡ filter (has_values wanted.now) (rows_of (state self.old).rows)) }
+    /// Copies of the rows that have each of these values, with their ids, in order, without the changes staged. `Err`: the
+    /// call failed, or there was no memory for the copies.
+    fn pick(&mut self, wanted: &ColumnValues) -> Result<Pairs, StoreError>
+        ensures rows { IfOk result (λ pairs. pairs ≡ filter (λ p. has_values wanted.now p.1) (state self.old).rows.pairs) }
+        ensures same { Becomes (state self.old) (state self.old) (state self.new) }
+        ensures failed { IfErr result (λ e. e ≡ StoreError.Failed → Rose (state self.old).faults (state self.new).faults) }
+        ensures steady { IfErr result (λ e. IsTrue (state self.old).steady → e ≡ StoreError.Memory) };
+
+    /// Whether a row has the values of one of these rows in the columns of a key, without the changes staged. `Err`: the call
+    /// failed, or there was no memory for the look.
+    fn meets(&mut self, key: &Positions, rows: &Rows) -> Result<bool, StoreError>
+        ensures met { IfOk result (λ b. b ≡ meets_any (state self.old).rows.pairs key.now rows.now) }
         ensures same { Becomes (state self.old) (state self.old) (state self.new) }
         ensures failed { IfErr result (λ e. e ≡ StoreError.Failed → Rose (state self.old).faults (state self.new).faults) }
         ensures steady { IfErr result (λ e. IsTrue (state self.old).steady → e ≡ StoreError.Memory) };
@@ -103,8 +114,12 @@ impl Store for Box<dyn Store + Send> {
         (**self).scan()
     }
 
-    fn pick(&mut self, wanted: &ColumnValues) -> Result<Rows, StoreError> {
+    fn pick(&mut self, wanted: &ColumnValues) -> Result<Pairs, StoreError> {
         (**self).pick(wanted)
+    }
+
+    fn meets(&mut self, key: &Positions, rows: &Rows) -> Result<bool, StoreError> {
+        (**self).meets(key, rows)
     }
 
     fn stage(&mut self, changes: &Changes) -> Result<(), StoreError> {

@@ -1,4 +1,4 @@
-use Rattle.cq_cluster.proofs.AnswerLaws.{answer_is_accounted, other_is_accounted, failed_is_there}
+use Rattle.cq_cluster.proofs.AnswerLaws.{answer_is_accounted, other_is_accounted}
 use Rattle.cq_cluster.proofs.laws.account_laws.Goals as goal
 
 pub returns-clause-answer : goal.returns-clause-answer
@@ -6,6 +6,3 @@ returns-clause-answer g c = answer_is_accounted g.S.Store.state
 
 pub returns-clause-other : goal.returns-clause-other
 returns-clause-other g c = other_is_accounted g.S.Store.state
-
-pub returns-clause-failed : goal.returns-clause-failed
-returns-clause-failed g c = failed_is_there g.S.Store.state

@@ -1,26 +1,24 @@
 use Rattle.std.proofs.Common.{◌≡◌, ◌≤◌, ◌∙◌, length, arith, sym, subst}
 use Rattle.std.proofs.lemmas.Grind.{common_steps}
 use Rattle.std.specs.List.Sorted.{IsPermutation}
-use Rattle.cq_value.specs.Tables.{rows_of}
 use Rattle.cq_engine.specs.Keys.{rows_at}
-use Rattle.cq_engine.proofs.KeyLaws.{none_repeats, one_row, one_repeats, repeats_moved}
+use Rattle.cq_engine.proofs.KeyLaws.{none_repeats, met_repeats, twins_repeat}
 use Rattle.cq_engine.proofs.key.repeats.Goals as goal
 
 pub returns-then-is_empty : goal.returns-then-is_empty
 returns-then-is_empty c =
     let none : length c.args.key.now ≡ 0 = grind (arith, common_steps) in
-    none_repeats c.args.key.now (rows_of c.args.table.now) c.args.rows.now none
+    λ there met. none_repeats c.args.key.now there c.args.rows.now none
 
-pub returns-in-len1 : goal.returns-in-len1
-returns-in-len1 c =
+pub returns-then-met : goal.returns-then-met
+returns-then-met c =
     let some : 1 ≤ length c.args.key.now = grind (arith, common_steps) in
-    let row = c.row-item.result in
-    let one = one_row c.as_slice.result.now row c.in-len1.len_at_least c.in-len1.len_below c.row-item.is in
-    rw c.pairs.ensures at c.is_stored.ensures ∙ one_repeats c.args.key.now c.args.table.now.pairs c.args.rows.now row some (sym c.as_slice.ensures ∙ one)
+    λ there met. met_repeats c.args.key.now c.args.rows.now some there (sym c.if-met.true ∙ met)
 
 pub returns : goal.returns
 returns c =
     let some : 1 ≤ length c.args.key.now = grind (arith, common_steps) in
     let sorted = rows_at c.in_ok-sorted.sorted.items in
-    rw (c.as_slice-3.ensures.value, c.pairs-2.ensures) at c.repeats_in_order.ensures
-    ∙ sym (repeats_moved c.args.key.now c.args.table.now.pairs c.args.rows.now sorted some (subst (λ rows. IsPermutation rows sorted) c.as_slice-2.ensures c.in_ok-sorted.ensures.same))
+    λ there met.
+    (rw c.as_slice-2.ensures.value at c.has_twins.ensures)
+    ∙ twins_repeat c.args.key.now c.args.rows.now some sorted (subst (λ rows. IsPermutation rows sorted) c.as_slice.ensures c.in_ok-sorted.ensures.same) there (sym c.if-met.false ∙ met)

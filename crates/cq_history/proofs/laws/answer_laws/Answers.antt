@@ -1,5 +1,6 @@
 use Rattle.cq_history.proofs.Opening.{opens_laid_out, catalog_is_answered}
 use Rattle.cq_history.proofs.Faults.{read_fails, write_fails}
+use Rattle.cq_history.proofs.Explaining.{explain_is_answered}
 use Rattle.cq_history.proofs.Answering.{made_is_answered, refused_is_answered, lacks_is_answered, read_is_answered, large_is_answered, read_lacks_memory, write_lacks_memory, refusal_is_answered}
 use Rattle.cq_history.proofs.laws.answer_laws.Goals as goal
 
@@ -38,3 +39,6 @@ returns-clause-read_fails c = read_fails
 
 pub returns-clause-write_fails : goal.returns-clause-write_fails
 returns-clause-write_fails c = write_fails
+
+pub returns-clause-explain : goal.returns-clause-explain
+returns-clause-explain c = explain_is_answered

@@ -1,4 +1,5 @@
-use Rattle.cq_history.proofs.Demands.{kept_has_demands, wanted_suffice}
+use Rattle.cq_demands.proofs.Kept.{kept_has_demands}
+use Rattle.cq_history.proofs.Demands.{wanted_suffice}
 use Rattle.cq_history.proofs.laws.query_laws.Goals as goal
 
 pub returns-clause-demands : goal.returns-clause-demands

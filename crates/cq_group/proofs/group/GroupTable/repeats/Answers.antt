@@ -1,12 +1,9 @@
-use Rattle.std.proofs.Common.{◌≡◌, ◌∙◌, ap, sym, length, arith}
+use Rattle.std.proofs.Common.{◌≡◌, length, arith}
 use Rattle.std.proofs.lemmas.Grind.{common_steps}
-use Rattle.cq_value.specs.declared.schema.Shape.{Shape}
 use Rattle.cq_value.specs.Tables.{rows_of}
-use Rattle.cq_meaning.specs.Effects.{repeats}
 use Rattle.cq_group.specs.Calls.{Rests, Lifted, first_rows}
 use Rattle.cq_group.proofs.Turns.{rests}
 use Rattle.cq_group.proofs.PlaceLaws.{table_refl}
-use Rattle.cq_group.proofs.TableLaws.{first_at}
 use Rattle.cq_group.proofs.KeyLaws.{none_repeats}
 use Rattle.cq_group.proofs.group.GroupTable.repeats.Goals as goal
 
@@ -17,9 +14,3 @@ returns-then-len-eq0-clause-repeats g c =
 
 pub returns-then-len-eq0-clause-same : goal.returns-then-len-eq0-clause-same
 returns-then-len-eq0-clause-same g c = table_refl (Lifted g.S.Store.state Rests) (λ x. rests (g.S.Store.state x)) c.args.self.now
-
-pub returns-in-Ok-clause-repeats : goal.returns-in-Ok-clause-repeats
-returns-in-Ok-clause-repeats g c =
-    let first = first_at g.S.Store.state c.args.self.now.stores.items c.in_ok-table.table c.requires c.in_ok-table.ensures.rows in
-    let key = c.as_slice-2.ensures ∙ ap (λ (shape : Shape). shape.key) c.scan.ensures.same.same.shape in
-    c.in-Ok.ensures ∙ (λ i. repeats (key i) (rows_of (first i)) c.args.rows.now)
