@@ -1,5 +1,5 @@
 -- What each arm of the walk over a query puts together.
-use Rattle.std.proofs.Common.{◌≡◌, ℕ, ◌+◌, List, [], ◌∷◌, ◌++◌, map, Bool, true, false, Option, None, Some, is_some, refl, sym, ap, subst, ◌∙◌, append_assoc, append-nil}
+use Rattle.std.proofs.Common.{◌≡◌, ℕ, ◌+◌, List, [], ◌++◌, map, Bool, Option, None, Some, sym, ap, subst, ◌∙◌, append_assoc}
 use Rattle.cq_value.specs.declared.value.Value.{Value}
 use Rattle.cq_tree.specs.declared.expression.Cond.{Cond}
 use Rattle.cq_tree.specs.declared.plan.Planner.{Planner}
@@ -9,11 +9,10 @@ use Rattle.cq_meaning.specs.Queries.{columns_in}
 use Rattle.cq_catalog.specs.Contents.{Contents}
 use Rattle.cq_planning.specs.Conjuncts.{conjuncts, conjuncts_of, equalities}
 use Rattle.cq_planning.specs.Classes.{first_of_class}
-use Rattle.cq_planning.specs.Relations.{Distribution, OuterJoin, Relation}
+use Rattle.cq_planning.specs.Relations.{OuterJoin, Relation}
 use Rattle.cq_planning.specs.ValueSets.{ValueSet, class_set, value_set, sets_said}
-use Rattle.cq_planning.specs.Pushable.{Pushable, pushable, distribution_by, relations}
+use Rattle.cq_planning.specs.Pushable.{pushable, distribution_by, relations}
 use Rattle.cq_planning.specs.Narrowing.{distribution_in, right_sets, sets_in, given_to}
-use Rattle.cq_planning.specs.Occurrences.{occurrences_in}
 use Rattle.cq_shape.specs.Labels.{label}
 use Rattle.cq_plan.specs.declared.sets.Begun.{Begun}
 use Rattle.cq_plan.specs.Begun.{set_at, set_of, sets_under, one_begun, begun, seen}
@@ -25,14 +24,16 @@ use Rattle.cq_outline.specs.declared.joining.Joined.{Joined}
 use Rattle.cq_outline.specs.declared.outline.Leaving.{Leaving}
 use Rattle.cq_outline.specs.declared.outline.Outline.{Outline}
 use Rattle.cq_outline.specs.declared.outline.Piece.{Piece}
-use Rattle.cq_outline.specs.declared.outline.Piece.TheVariants.{Leaves, Asks}
-use Rattle.cq_outline.specs.Leaving.{leaves_subquery, inside}
+use Rattle.cq_outline.specs.declared.outline.Piece.TheVariants.{Asks}
 use Rattle.cq_outline.specs.Tasking.{planner_of, leaving_by, parting_by, shares_rows}
-use Rattle.cq_outline.specs.Outlines.{block_by, lone_by, subquery_planner, outline_of, pieces_inside, pieces_from}
-use Rattle.cq_explain.specs.Pieces.{alone, lone_query, pieces_of_query}
+use Rattle.cq_outline.specs.Outlines.{block_by, outline_of, pieces_inside, pieces_from}
+use Rattle.cq_explain.specs.Pieces.{pieces_of_query}
 use Rattle.cq_explain.proofs.OutlineNodes.{outline_is, inside_is, pieces_sub, pieces_cross, pieces_inner, pieces_left}
 
 -- ---- a FROM
+
+abbrev pub join_by : ℕ → List (ℕ × ℕ) → OuterJoin
+join_by low pairs = record { left = low; equalities = pairs }
 
 module _ (c : Contents) (leaving : Leaving) (rels : List Relation) where
   abbrev pub Walked : (ℕ → ValueSet) → FromTree → ℕ → Option OuterJoin → List Begun → List Piece → List Piece → Type 0

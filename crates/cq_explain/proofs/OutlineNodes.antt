@@ -16,7 +16,6 @@ use Rattle.cq_planning.specs.Pushable.{pushable, relations}
 use Rattle.cq_planning.specs.Narrowing.{distribution_in, right_sets, sets_in, given_to}
 use Rattle.cq_outline.specs.declared.outline.Leaving.{Leaving}
 use Rattle.cq_outline.specs.declared.outline.Outline.{Outline}
-use Rattle.cq_outline.specs.declared.outline.Piece.{Piece}
 use Rattle.cq_outline.specs.declared.outline.Piece.TheVariants.{Asks}
 use Rattle.cq_outline.specs.Tasking.{planner_of, leaving_by}
 use Rattle.cq_outline.specs.Outlines.{block_of, outline_of, outlines, pieces_inside, pieces_from}

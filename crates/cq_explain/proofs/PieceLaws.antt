@@ -1,9 +1,9 @@
 -- A table of a FROM by what code finds of it.
-use Rattle.std.proofs.Common.{◌≡◌, ℕ, List, [], ◌∷◌, ◌++◌, Option, refl, sym, ap, ◌∙◌, Bool}
+use Rattle.std.proofs.Common.{◌≡◌, ℕ, List, [], ◌∷◌, ◌++◌, sym, ap, ◌∙◌, Bool}
 use Rattle.cq_catalog.specs.Contents.{Contents}
 use Rattle.cq_catalog.specs.Placement.{place_at}
 use Rattle.cq_planning.specs.ValueSets.{ValueSet}
-use Rattle.cq_planning.specs.Relations.{OuterJoin, Relation, distribution_at}
+use Rattle.cq_planning.specs.Relations.{Relation, distribution_at}
 use Rattle.cq_planning.specs.Occurrences.{occurrence_of, key_values}
 use Rattle.cq_planning.specs.Routing.{is_one_value}
 use Rattle.cq_plan.specs.declared.sets.Begun.{Begun}

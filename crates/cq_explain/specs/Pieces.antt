@@ -1,5 +1,5 @@
 -- The parts of the walk over a query, as code has them.
-use Rattle.std.specs.Prelude.{ℕ, List, [], ◌∷◌, length, Bool, if◌then◌else◌, nat_lt, Option, None, is_some}
+use Rattle.std.specs.Prelude.{ℕ, List, [], ◌∷◌, length, Bool, if◌then◌else◌, nat_lt, Option, None, Some, is_some}
 use Rattle.cq_value.specs.declared.value.Value.{Value}
 use Rattle.cq_tree.specs.declared.plan.Planner.{Planner}
 use Rattle.cq_tree.specs.declared.plan.Planner.TheVariants.{FastPath, Router, Pushdown}
@@ -9,7 +9,6 @@ use Rattle.cq_planning.specs.ValueSets.{ValueSet}
 use Rattle.cq_planning.specs.Relations.{OuterJoin, Relation}
 use Rattle.cq_planning.specs.Pushable.{pushable, distribution_by}
 use Rattle.cq_planning.specs.Occurrences.{occurrences_in}
-use Rattle.cq_planning.specs.Routing.{is_one_value}
 use Rattle.cq_plan.specs.declared.sets.Begun.{Begun}
 use Rattle.cq_outline.specs.declared.outline.Leaving.{Leaving}
 use Rattle.cq_outline.specs.declared.outline.Outline.{Outline}
@@ -18,6 +17,10 @@ use Rattle.cq_outline.specs.declared.outline.Piece.TheVariants.{Stays, Leaves}
 use Rattle.cq_outline.specs.Leaving.{leaves, inside}
 use Rattle.cq_outline.specs.Tasking.{Touch, groups_in, leaving_by}
 use Rattle.cq_outline.specs.Outlines.{lone_by, subquery_planner, pieces_of_subquery, outline_of, pieces_inside}
+
+-- the LEFT JOIN of which a relation is the right side, where it is one, by the first column of the left side and the equalities of the ON
+abbrev pub outer_by : Bool → ℕ → List (ℕ × ℕ) → Option OuterJoin
+outer_by is_right low pairs = if is_right then Some (record { left = low; equalities = pairs }) else None
 
 -- ---- tables
 

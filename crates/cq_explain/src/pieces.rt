@@ -9,26 +9,31 @@ ghost use Rattle.cq_plan.specs.Begun.{set_at as set_at_by_rule, set_of, sets_und
 ghost use Rattle.cq_outline.specs.declared.outline.Piece.TheVariants.{Asks};
 ghost use Rattle.cq_outline.specs.Tasking.{groups_in as groups_in_by_rule};
 ghost use Rattle.cq_outline.specs.Outlines.{lone_by, piece_of_table};
-ghost use Rattle.cq_explain.specs.Pieces.{first_set, planner_by, lone_touch, piece_of_touch};
+ghost use Rattle.cq_explain.specs.Pieces.{outer_by, first_set, planner_by, lone_touch, piece_of_touch};
 
+use crate::block::block_by;
 use crate::joining::nothing;
 use crate::leaving::leaves;
-use crate::block::block_by;
 use crate::tasking::groups_in;
 use cq_catalog::Catalog;
 use cq_outline::{Leaving, Outline, Outlines, Piece, Pieces};
 use cq_plan::{Base, Begun, BegunList, Right, table_in};
 use cq_relations::{OuterJoin, Relation, distribution_at, place_of};
-use cq_shape::{Said, ValueSet};
+use cq_router::is_one_value;
+use cq_shape::Said;
 use cq_tree::Planner;
 use cq_value::{Items, NoMemory, Positions};
 use std::alloc::Global;
 
-/// Of a block or a subquery that stays in one: which relations don't stay, and the relations of its FROM.
+/// Of a block, or of a subquery that stays in one: the catalogue, which relations don't stay, the relations of the FROM, and what the value
+/// sets of their columns are made of: the labels of the columns, and what is said of them.
 #[derive(Clone, Copy)]
 pub struct Frame<'a> {
+    pub catalog: &'a Catalog,
     pub leaving: Leaving,
     pub relations: &'a [Relation],
+    pub labels: &'a [u32],
+    pub said: &'a [Said],
 }
 
 /// A right side that is planned by itself, of all its columns.
@@ -49,15 +54,6 @@ pub fn lone(
         Outlines::new(alloc),
         pieces,
     )
-}
-
-fn is_one_value(set: &ValueSet) -> bool
-    ensures { result ≡ is_one_by_rule set.now }
-{
-    match set {
-        Some(values) => values.len() == 1,
-        None => false,
-    }
 }
 
 /// Whether the value set of the first of these relations is one value.
@@ -112,51 +108,81 @@ fn lone_table(
 /// A table of a FROM, and the groups that it touches.
 fn table_piece(
     alloc: Global,
-    catalog: &Catalog,
     frame: Frame<'_>,
     relation: &Relation,
     table: u32,
     groups: Positions,
     is_one: bool,
 ) -> Result<Piece, NoMemory>
-    ensures { IfOk result (λ p. p ≡ piece_of_touch catalog.now frame.entry.leaving frame.entry.relations.now relation.now (table, groups) is_one) }
+    ensures { IfOk result (λ p. p ≡ piece_of_touch frame.entry.catalog.now frame.entry.leaving frame.entry.relations.now relation.now (table, groups) is_one) }
 {
     if leaves(frame.leaving, frame.relations, relation) {
-        Ok(Piece::Leaves(lone_table(alloc, catalog, table, groups, is_one)?))
+        Ok(Piece::Leaves(lone_table(alloc, frame.catalog, table, groups, is_one)?))
     } else {
         Ok(Piece::Stays(table, groups))
     }
 }
 
-/// Puts a table of a FROM last, whose first column has the number `start`, and of which `outer` is the LEFT JOIN where it is a right side; and
-/// gives the relation that it is, with the value set of its distribution column.
+/// The LEFT JOIN of which a relation is the right side, where it is one.
+pub fn outer_of(
+    alloc: Global,
+    is_right: bool,
+    right: Right<'_>,
+) -> Result<Option<OuterJoin>, NoMemory>
+    ensures { IfOk result (λ o. o ≡ outer_by is_right right.entry.low right.entry.pairs.now) }
+{
+    if is_right {
+        Ok(Some(OuterJoin {
+            left: right.low,
+            equalities: copy_pairs(alloc, right.pairs)?,
+        }))
+    } else {
+        Ok(None)
+    }
+}
+
+/// An equal list.
+fn copy_pairs(alloc: Global, pairs: &[(u32, u32)]) -> Result<Items<(u32, u32)>, NoMemory>
+    ensures { IfOk result (λ list. list ≡ pairs.now) }
+{
+    let mut list = Items::new(alloc);
+    for pair in pairs {
+        list.put(*pair)?;
+    }
+    Ok(list)
+}
+
+/// Puts a table of a FROM last, whose first column has the number `start`, and which may be the right side of a LEFT JOIN; and gives the relation
+/// that it is, with the value set of its distribution column.
 #[tactic(auto, using(crate::proofs::PieceLaws::table_put))]
 pub fn put_table(
     alloc: Global,
-    catalog: &Catalog,
     frame: Frame<'_>,
-    base: Base<'_>,
     right: Right<'_>,
     table: u32,
     start: u64,
-    outer: Option<OuterJoin>,
+    is_right: bool,
     found: &mut Pieces,
 ) -> Result<BegunList, NoMemory>
     ensures { IfOk result (λ rs.
-        (rs ≡ one_begun start (distribution_by_place start (place_at catalog.now table)) (set_of (sets_under (class_set_by_rule (label base.entry.labels.now) base.entry.said.now) (set_at_by_rule (class_set_by_rule (label base.entry.labels.now) base.entry.said.now) right.entry.relations.now) right.entry.low right.entry.pairs.now (distribution_by_place start (place_at catalog.now table)) start) (distribution_by_place start (place_at catalog.now table))))
-        × (found.new ≡ found.old ++ piece_of_table catalog.now frame.entry.leaving frame.entry.relations.now (record { start = start; distribution = distribution_by_place start (place_at catalog.now table); outer = outer })
-            (occurrence_of catalog.now (sets_under (class_set_by_rule (label base.entry.labels.now) base.entry.said.now) (set_at_by_rule (class_set_by_rule (label base.entry.labels.now) base.entry.said.now) right.entry.relations.now) right.entry.low right.entry.pairs.now (distribution_by_place start (place_at catalog.now table)) start) start table)
-            (key_values (sets_under (class_set_by_rule (label base.entry.labels.now) base.entry.said.now) (set_at_by_rule (class_set_by_rule (label base.entry.labels.now) base.entry.said.now) right.entry.relations.now) right.entry.low right.entry.pairs.now (distribution_by_place start (place_at catalog.now table)) start) start (place_at catalog.now table)) ∷ [])) }
+        (rs ≡ one_begun start (distribution_by_place start (place_at frame.entry.catalog.now table)) (set_of (sets_under (class_set_by_rule (label frame.entry.labels.now) frame.entry.said.now) (set_at_by_rule (class_set_by_rule (label frame.entry.labels.now) frame.entry.said.now) right.entry.relations.now) right.entry.low right.entry.pairs.now (distribution_by_place start (place_at frame.entry.catalog.now table)) start) (distribution_by_place start (place_at frame.entry.catalog.now table))))
+        × (found.new ≡ found.old ++ piece_of_table frame.entry.catalog.now frame.entry.leaving frame.entry.relations.now (record { start = start; distribution = distribution_by_place start (place_at frame.entry.catalog.now table); outer = outer_by is_right right.entry.low right.entry.pairs.now })
+        (occurrence_of frame.entry.catalog.now (sets_under (class_set_by_rule (label frame.entry.labels.now) frame.entry.said.now) (set_at_by_rule (class_set_by_rule (label frame.entry.labels.now) frame.entry.said.now) right.entry.relations.now) right.entry.low right.entry.pairs.now (distribution_by_place start (place_at frame.entry.catalog.now table)) start) start table)
+        (key_values (sets_under (class_set_by_rule (label frame.entry.labels.now) frame.entry.said.now) (set_at_by_rule (class_set_by_rule (label frame.entry.labels.now) frame.entry.said.now) right.entry.relations.now) right.entry.low right.entry.pairs.now (distribution_by_place start (place_at frame.entry.catalog.now table)) start) start (place_at frame.entry.catalog.now table)) ∷ [])) }
 {
-    let distribution = distribution_at(start, place_of(catalog, table))?;
+    let distribution = distribution_at(start, place_of(frame.catalog, table))?;
     let relation = Relation {
         start,
         distribution,
-        outer,
+        outer: outer_of(alloc, is_right, right)?,
     };
-    let (groups, list) = table_in(alloc, catalog, base, right, table, start)?;
+    let base = Base {
+        labels: frame.labels,
+        said: frame.said,
+    };
+    let (groups, list) = table_in(alloc, frame.catalog, base, right, table, start)?;
     let one = is_one(list.as_slice());
-    found.put(table_piece(alloc, catalog, frame, &relation, table, groups, one)?)?;
+    found.put(table_piece(alloc, frame, &relation, table, groups, one)?)?;
     Ok(list)
 }
 

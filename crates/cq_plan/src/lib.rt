@@ -15,5 +15,8 @@ pub use class_lists::{Classes, classes};
 pub use groups::in_order;
 pub use sets::{Base, Begun, BegunList, Right};
 pub use statements::{touched, touched_by_query};
-pub use walk::{Touch, as_one_relation, below, equalities_of, joined, nothing, one, put_alone, put_query, table_in};
+pub use walk::{
+    Touch, as_one_relation, below, equalities_of, joined, nothing, one, put_alone, put_query,
+    table_in,
+};
 pub use writes::{changes_distribution, groups_of_rows, groups_of_where, row_without_value};

@@ -80,7 +80,8 @@ fn plan_of_query(
     plan_of(alloc, catalog, planner, reads.as_slice())
 }
 
-fn is_one_value(values: &ValueSet) -> bool
+/// Whether a set is exactly one value.
+pub fn is_one_value(values: &ValueSet) -> bool
     ensures { result ≡ is_one_by_rule values.now }
 {
     match values {
