@@ -41,9 +41,9 @@ module _ (run : Run) (e : Environment) (who : Who) (journals : List Journal) whe
   stays (statement.Reference table) n = (λ g. refl, tt)
   stays (statement.Setting which value) n = (λ g. refl, tt)
   stays (statement.Select q) n = ([], λ g m. cc, λ g. refl)
+  stays (statement.Explain q) n = λ g. refl
   stays (statement.Write op) n = λ g. refl
   stays (statement.Copy table columns csv header) n = absurd (always_refused None n)
-  stays (statement.Explain q) n = absurd (always_refused (option_map (λ why. fault.Unsupported why) (refusal_of e.settings.repartition e.catalog (statement.Explain q))) n)
   stays (statement.Move shard from to) n = absurd (always_refused None n)
   stays (statement.Rebalance by_size) n = absurd (always_refused None n)
   stays (statement.RebalancePlan by_size) n = absurd (always_refused None n)
