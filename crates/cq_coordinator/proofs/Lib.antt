@@ -1,5 +1,6 @@
 pub mod DefinitionAnswers
 pub mod WriteAnswers
 pub mod QueryAnswers
+pub mod PlanAnswers
 pub mod RefusalAnswers
 pub mod Naming

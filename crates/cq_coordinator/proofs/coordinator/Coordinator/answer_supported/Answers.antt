@@ -21,13 +21,10 @@ returns-in-Copy-clause-answered g c =
     let unbuilt : is_built k c.args.statement.now ≡ false = elim c.in-Copy.is [
       | inl x ↦ ap (is_built k) x.4
       | inr a ↦ elim a [
-        | inl x ↦ ap (is_built k) x.1
+        | inl x ↦ ap (is_built k) x.3
         | inr a ↦ elim a [
-          | inl x ↦ ap (is_built k) x.3
-          | inr a ↦ elim a [
-            | inl x ↦ ap (is_built k) x.1
-            | inr x ↦ ap (is_built k) x.1
-          ]
+          | inl x ↦ ap (is_built k) x.1
+          | inr x ↦ ap (is_built k) x.1
         ]
       ]
     ] in
@@ -42,3 +39,7 @@ returns-else-has_shards-clause-accounted g c = λ answers a is all.
 pub returns-in-Copy-clause-accounted : goal.returns-in-Copy-clause-accounted
 returns-in-Copy-clause-accounted g c = λ answers a is all.
     other_is_accounted g.S.Store.state c.args.self.now.cluster.catalog c.args.self.now.cluster.groups.items answers a (λ node shard before after e. let bad = sym is ∙ e in cc) all
+
+pub returns-in-Explain-clause-accounted : goal.returns-in-Explain-clause-accounted
+returns-in-Explain-clause-accounted g c = λ answers a is all.
+    other_is_accounted g.S.Store.state c.args.self.now.cluster.catalog c.args.self.now.cluster.groups.items answers a (λ node shard before after e. c.explain.ensures.unnamed node shard before after (sym is ∙ e)) all
