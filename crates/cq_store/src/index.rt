@@ -13,11 +13,13 @@ use std::alloc::Global;
 /// Ids of rows, which ascend.
 type Ids = Items<u64>;
 
-/// Ids of rows in buckets, by the values in chosen columns: those below a bound.
+/// Ids of rows in buckets, by the values in chosen columns: those below a bound. Ids of rows that are gone stay there, until
+/// the next id of the table is above a limit: then the index is made anew.
 #[derive(Drop)]
 pub(crate) struct Index {
     columns: Positions,
     upto: u64,
+    limit: u64,
     buckets: Items<Ids>,
 }
 
@@ -151,12 +153,18 @@ impl Index {
         Index {
             columns: Positions::new(alloc),
             upto: 0,
+            limit: 0,
             buckets: Items::new(alloc),
         }
     }
 
-    /// The index of the columns of these values, up to no id, with so many buckets.
-    fn of_columns(alloc: Global, wanted: &[(u32, Value)], count: u64) -> Result<Index, NoMemory>
+    /// The index of the columns of these values, up to no id, with so many buckets and a limit.
+    fn of_columns(
+        alloc: Global,
+        wanted: &[(u32, Value)],
+        count: u64,
+        limit: u64,
+    ) -> Result<Index, NoMemory>
         ensures holds { IfOk result (λ index. (pairs : List Pair) → Holds index pairs) }
         ensures columns { IfOk result (λ index. index.columns ≡ map (λ (p : ℕ × Value). p.0) wanted.now) }
         ensures count { IfOk result (λ index. length index.buckets ≡ count) }
@@ -166,6 +174,7 @@ impl Index {
         Ok(Index {
             columns,
             upto: 0,
+            limit,
             buckets,
         })
     }
@@ -215,6 +224,7 @@ impl Index {
         ensures all { OnOk result (All (λ (p : Pair). p.0 < self.new.upto) rows.now.table.pairs) }
     {
         rows.ids_ascend();
+        // The next id bounds the ids, so that there is one above each.
         let _next = rows.next();
         let pairs = rows.pairs();
         let mut place = place_of(rows, self.upto);
@@ -226,17 +236,24 @@ impl Index {
         Ok(())
     }
 
-    /// Gets enough buckets for so many rows.
-    fn widen(&mut self, alloc: Global, wanted: &[(u32, Value)], rows: u64) -> Result<(), NoMemory>
+    /// Gets enough buckets for the rows, and names no more rows that are gone than five for each.
+    fn renew(
+        &mut self,
+        alloc: Global,
+        rows: &ReservedTable,
+        wanted: &[(u32, Value)],
+    ) -> Result<(), NoMemory>
         requires { self.old.columns ≡ map (λ (p : ℕ × Value). p.0) wanted.now }
         ensures holds { (pairs : List Pair) → Holds self.old pairs → Holds self.new pairs }
         ensures columns { self.new.columns ≡ self.old.columns }
         ensures some { OnOk result (0 < length self.new.buckets) }
     {
-        if rows / 8 < self.buckets.len() {
+        let count = rows.len();
+        if count / 8 < self.buckets.len() && rows.next() <= self.limit {
             return Ok(());
         }
-        *self = Index::of_columns(alloc, wanted, rows / 2 + 1)?;
+        let limit = rows.next().saturating_add(count.saturating_mul(4));
+        *self = Index::of_columns(alloc, wanted, count / 2 + 1, limit)?;
         Ok(())
     }
 
@@ -244,7 +261,7 @@ impl Index {
     fn start(&mut self, alloc: Global, wanted: &[(u32, Value)])
         ensures { (pairs : List Pair) → Holds self.old pairs → Holds self.new pairs }
     {
-        if let Ok(index) = Index::of_columns(alloc, wanted, 0) {
+        if let Ok(index) = Index::of_columns(alloc, wanted, 0, 0) {
             *self = index;
         }
     }
@@ -272,7 +289,7 @@ impl Index {
             self.start(alloc, wanted);
             return false;
         }
-        if self.widen(alloc, wanted, rows.len()).is_err() {
+        if self.renew(alloc, rows, wanted).is_err() {
             return false;
         }
         self.catch_up(rows).is_ok()
