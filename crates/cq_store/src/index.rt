@@ -1,13 +1,12 @@
-ghost use Rattle.std.specs.Prelude.{◌≡◌, ◌<◌, ◌≤◌, ◌+◌, ◌^◌, [], true, map, length, OnOk, OnErr, IfOk, MatchOption, ◌∷◌, ◌++◌, List, ℕ, slice_index_or, slice_set};
-ghost use Rattle.cq_value.specs.declared.value.Value.{Value};
-ghost use Rattle.cq_value.specs.declared.value.Value.TheVariants.{Null};
+ghost use Rattle.std.specs.Prelude.{◌≡◌, ◌<◌, ◌+◌, ◌^◌, [], ◌∷◌, ◌++◌, List, ℕ, true, map, length, slice_index_or, slice_set, OnOk, OnErr, IfOk};
 ghost use Rattle.std.specs.List.{All};
-ghost use Rattle.std.specs.Int.{w32, cast_unsigned};
-ghost use Rattle.cq_value.specs.Placement.{token_of};
+ghost use Rattle.cq_value.specs.declared.value.Value.{Value};
 ghost use Rattle.cq_value.specs.Tables.{Pair};
-ghost use Rattle.cq_store.specs.Indexes.{mixed as mixed_of, row_number as number_of_row, wanted_number as number_of_wanted, bucket, is_in, Holds, Covers, with_id, Notes, named, Splits};
+ghost use Rattle.cq_store.specs.Indexes.{row_number as number_of_row, wanted_number as number_of_wanted, bucket, is_in, Holds, Covers, with_id, Notes};
 
-use cq_value::{Change, Changes, Items, NoMemory, Positions, ReservedTable, Row, Value, token};
+use crate::finding::{finds, place_of};
+use crate::numbers::{row_number, wanted_number};
+use cq_value::{Change, Changes, Items, NoMemory, Positions, ReservedTable, Row, Value};
 use std::alloc::Global;
 
 /// Ids of rows, which ascend.
@@ -21,80 +20,6 @@ pub(crate) struct Index {
     upto: u64,
     limit: u64,
     buckets: Items<Ids>,
-}
-
-/// The number of the values up to one, from the number of those before it.
-fn mixed(number: u32, value: &Value) -> u32
-    ensures { result ≡ mixed_of number value.now }
-{
-    number
-        .wrapping_mul(1000003)
-        .wrapping_add(token(value).cast_unsigned())
-}
-
-/// The number of a row's values up to the one in a column, from the number of those before it.
-fn mixed_at(number: u32, row: &Row, column: u32) -> u32
-    ensures { result ≡ mixed_of number (slice_index_or row.now column Null) }
-{
-    match row.get(u64::from(column)) {
-        Some(value) => mixed(number, value),
-        None => mixed(number, &Value::Null),
-    }
-}
-
-/// The number that a row's values in the columns make.
-fn row_number(columns: &[u32], row: &Row) -> u32
-    ensures { result ≡ number_of_row columns.now row.now }
-{
-    let mut number = 0;
-    for column in columns {
-        number = mixed_at(number, row, *column);
-    }
-    number
-}
-
-/// The number that values which are looked for make.
-fn wanted_number(wanted: &[(u32, Value)]) -> u32
-    ensures { result ≡ number_of_wanted wanted.now }
-{
-    let mut number = 0;
-    for (_, value) in wanted {
-        number = mixed(number, value);
-    }
-    number
-}
-
-/// Whether an id is found among ids that ascend. Where it gives true, it is there.
-fn finds(ids: &[u64], id: u64) -> bool
-    ensures { result ≡ true → is_in ids.now id ≡ true }
-{
-    let place = ids.partition_point(|n| *n < id);
-    match ids.get(place) {
-        Some(n) => *n == id,
-        None => false,
-    }
-}
-
-/// Where the ids below one end, in a table.
-fn place_of(rows: &ReservedTable, id: u64) -> usize
-    ensures { Splits rows.now.table.pairs id result }
-{
-    rows.ids_ascend();
-    rows.pairs().partition_point(|pair| pair.0 < id)
-}
-
-/// The row with an id, with its id.
-pub(crate) fn find(rows: &ReservedTable, id: u64) -> Option<&(u64, Row)>
-    ensures { MatchOption result (named id rows.now.table.pairs ≡ []) (λ p. named id rows.now.table.pairs ≡ p.now ∷ []) }
-{
-    rows.ids_ascend();
-    let place = place_of(rows, id);
-    let pairs = rows.pairs();
-    if place == pairs.len() {
-        return None;
-    }
-    let pair = &pairs[place];
-    if pair.0 == id { Some(pair) } else { None }
 }
 
 /// Whether these are the columns of the values.
