@@ -1,98 +1,25 @@
-ghost use Rattle.std.specs.Prelude.{◌≡◌, ◌<◌, ◌≤◌, ◌+◌, ◌^◌, [], true, map, length, OnOk, OnErr, IfOk, MatchOption, ◌∷◌, ◌++◌, List, ℕ, slice_index_or, slice_set};
-ghost use Rattle.cq_value.specs.declared.value.Value.{Value};
-ghost use Rattle.cq_value.specs.declared.value.Value.TheVariants.{Null};
+ghost use Rattle.std.specs.Prelude.{◌≡◌, ◌<◌, ◌+◌, ◌^◌, [], ◌∷◌, ◌++◌, List, ℕ, true, map, length, slice_index_or, slice_set, OnOk, OnErr, IfOk};
 ghost use Rattle.std.specs.List.{All};
-ghost use Rattle.std.specs.Int.{w32, cast_unsigned};
-ghost use Rattle.cq_value.specs.Placement.{token_of};
+ghost use Rattle.cq_value.specs.declared.value.Value.{Value};
 ghost use Rattle.cq_value.specs.Tables.{Pair};
-ghost use Rattle.cq_store.specs.Indexes.{mixed as mixed_of, row_number as number_of_row, wanted_number as number_of_wanted, bucket, is_in, Holds, Covers, with_id, Notes, named, Splits};
+ghost use Rattle.cq_store.specs.Indexes.{row_number as number_of_row, wanted_number as number_of_wanted, bucket, is_in, Holds, Covers, with_id, Notes};
 
-use cq_value::{Change, Changes, Items, NoMemory, Positions, ReservedTable, Row, Value, token};
+use crate::finding::{finds, place_of};
+use crate::numbers::{row_number, wanted_number};
+use cq_value::{Change, Changes, Items, NoMemory, Positions, ReservedTable, Row, Value};
 use std::alloc::Global;
 
 /// Ids of rows, which ascend.
 type Ids = Items<u64>;
 
-/// Ids of rows in buckets, by the values in chosen columns: those below a bound.
+/// Ids of rows in buckets, by the values in chosen columns: those below a bound. Ids of rows that are gone stay there, until
+/// the next id of the table is above a limit: then the index is made anew.
 #[derive(Drop)]
 pub(crate) struct Index {
     columns: Positions,
     upto: u64,
+    limit: u64,
     buckets: Items<Ids>,
-}
-
-/// The number of the values up to one, from the number of those before it.
-fn mixed(number: u32, value: &Value) -> u32
-    ensures { result ≡ mixed_of number value.now }
-{
-    number
-        .wrapping_mul(1000003)
-        .wrapping_add(token(value).cast_unsigned())
-}
-
-/// The number of a row's values up to the one in a column, from the number of those before it.
-fn mixed_at(number: u32, row: &Row, column: u32) -> u32
-    ensures { result ≡ mixed_of number (slice_index_or row.now column Null) }
-{
-    match row.get(u64::from(column)) {
-        Some(value) => mixed(number, value),
-        None => mixed(number, &Value::Null),
-    }
-}
-
-/// The number that a row's values in the columns make.
-fn row_number(columns: &[u32], row: &Row) -> u32
-    ensures { result ≡ number_of_row columns.now row.now }
-{
-    let mut number = 0;
-    for column in columns {
-        number = mixed_at(number, row, *column);
-    }
-    number
-}
-
-/// The number that values which are looked for make.
-fn wanted_number(wanted: &[(u32, Value)]) -> u32
-    ensures { result ≡ number_of_wanted wanted.now }
-{
-    let mut number = 0;
-    for (_, value) in wanted {
-        number = mixed(number, value);
-    }
-    number
-}
-
-/// Whether an id is found among ids that ascend. Where it gives true, it is there.
-fn finds(ids: &[u64], id: u64) -> bool
-    ensures { result ≡ true → is_in ids.now id ≡ true }
-{
-    let place = ids.partition_point(|n| *n < id);
-    match ids.get(place) {
-        Some(n) => *n == id,
-        None => false,
-    }
-}
-
-/// Where the ids below one end, in a table.
-fn place_of(rows: &ReservedTable, id: u64) -> usize
-    ensures { Splits rows.now.table.pairs id result }
-{
-    rows.ids_ascend();
-    rows.pairs().partition_point(|pair| pair.0 < id)
-}
-
-/// The row with an id, with its id.
-pub(crate) fn find(rows: &ReservedTable, id: u64) -> Option<&(u64, Row)>
-    ensures { MatchOption result (named id rows.now.table.pairs ≡ []) (λ p. named id rows.now.table.pairs ≡ p.now ∷ []) }
-{
-    rows.ids_ascend();
-    let place = place_of(rows, id);
-    let pairs = rows.pairs();
-    if place == pairs.len() {
-        return None;
-    }
-    let pair = &pairs[place];
-    if pair.0 == id { Some(pair) } else { None }
 }
 
 /// Whether these are the columns of the values.
@@ -151,12 +78,18 @@ impl Index {
         Index {
             columns: Positions::new(alloc),
             upto: 0,
+            limit: 0,
             buckets: Items::new(alloc),
         }
     }
 
-    /// The index of the columns of these values, up to no id, with so many buckets.
-    fn of_columns(alloc: Global, wanted: &[(u32, Value)], count: u64) -> Result<Index, NoMemory>
+    /// The index of the columns of these values, up to no id, with so many buckets and a limit.
+    fn of_columns(
+        alloc: Global,
+        wanted: &[(u32, Value)],
+        count: u64,
+        limit: u64,
+    ) -> Result<Index, NoMemory>
         ensures holds { IfOk result (λ index. (pairs : List Pair) → Holds index pairs) }
         ensures columns { IfOk result (λ index. index.columns ≡ map (λ (p : ℕ × Value). p.0) wanted.now) }
         ensures count { IfOk result (λ index. length index.buckets ≡ count) }
@@ -166,6 +99,7 @@ impl Index {
         Ok(Index {
             columns,
             upto: 0,
+            limit,
             buckets,
         })
     }
@@ -215,6 +149,7 @@ impl Index {
         ensures all { OnOk result (All (λ (p : Pair). p.0 < self.new.upto) rows.now.table.pairs) }
     {
         rows.ids_ascend();
+        // The next id bounds the ids, so that there is one above each.
         let _next = rows.next();
         let pairs = rows.pairs();
         let mut place = place_of(rows, self.upto);
@@ -226,17 +161,24 @@ impl Index {
         Ok(())
     }
 
-    /// Gets enough buckets for so many rows.
-    fn widen(&mut self, alloc: Global, wanted: &[(u32, Value)], rows: u64) -> Result<(), NoMemory>
+    /// Gets enough buckets for the rows, and names no more rows that are gone than five for each.
+    fn renew(
+        &mut self,
+        alloc: Global,
+        rows: &ReservedTable,
+        wanted: &[(u32, Value)],
+    ) -> Result<(), NoMemory>
         requires { self.old.columns ≡ map (λ (p : ℕ × Value). p.0) wanted.now }
         ensures holds { (pairs : List Pair) → Holds self.old pairs → Holds self.new pairs }
         ensures columns { self.new.columns ≡ self.old.columns }
         ensures some { OnOk result (0 < length self.new.buckets) }
     {
-        if rows / 8 < self.buckets.len() {
+        let count = rows.len();
+        if count / 8 < self.buckets.len() && rows.next() <= self.limit {
             return Ok(());
         }
-        *self = Index::of_columns(alloc, wanted, rows / 2 + 1)?;
+        let limit = rows.next().saturating_add(count.saturating_mul(4));
+        *self = Index::of_columns(alloc, wanted, count / 2 + 1, limit)?;
         Ok(())
     }
 
@@ -244,7 +186,7 @@ impl Index {
     fn start(&mut self, alloc: Global, wanted: &[(u32, Value)])
         ensures { (pairs : List Pair) → Holds self.old pairs → Holds self.new pairs }
     {
-        if let Ok(index) = Index::of_columns(alloc, wanted, 0) {
+        if let Ok(index) = Index::of_columns(alloc, wanted, 0, 0) {
             *self = index;
         }
     }
@@ -272,7 +214,7 @@ impl Index {
             self.start(alloc, wanted);
             return false;
         }
-        if self.widen(alloc, wanted, rows.len()).is_err() {
+        if self.renew(alloc, rows, wanted).is_err() {
             return false;
         }
         self.catch_up(rows).is_ok()

@@ -4,7 +4,8 @@ ghost use Rattle.cq_value.specs.declared.value.Value.TheVariants.{Null};
 ghost use Rattle.cq_store.specs.Indexes.{Holds, Covers, named};
 ghost use Rattle.cq_store.specs.Stores.{has_value, has_values, values_at};
 
-use crate::index::{Index, find};
+use crate::finding::find;
+use crate::index::Index;
 use crate::store::{ColumnValues, Pairs};
 use cq_value::{Duplicate, NoMemory, ReservedTable, Row, Value, order};
 use std::alloc::Global;

@@ -1,14 +1,12 @@
-ghost use Rattle.std.specs.Prelude.{◌≡◌, [], filter, slice_index_or, IfOk, OnOk, OnErr};
+ghost use Rattle.std.specs.Prelude.{◌≡◌, [], filter, IfOk, OnOk, OnErr};
 ghost use Rattle.cq_value.specs.Changes.{Fit, adds_in};
-ghost use Rattle.cq_value.specs.declared.value.Value.TheVariants.{Null};
-ghost use Rattle.cq_store.specs.Stores.{has_value, has_values, values_at, meets_one, meets_any, steady_spare};
+ghost use Rattle.cq_store.specs.Stores.{has_values, meets_one, meets_any, steady_spare};
 
 use crate::indexes::Indexes;
 use crate::lookup::{copy_matches, copy_named, is_named, is_there, key_values};
 use crate::store::{ColumnValues, Pairs, Store, StoreError};
 use cq_value::{
-    Change, Changes, Duplicate, NoMemory, Numbered, Positions, ReservedTable, Row, Rows, Value,
-    order,
+    Change, Changes, Duplicate, NoMemory, Numbered, Positions, ReservedTable, Row, Rows,
 };
 use std::alloc::Global;
 use std::marker::Model;

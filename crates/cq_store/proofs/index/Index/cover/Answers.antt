@@ -4,7 +4,7 @@ pub returns-then-not-is_of-clause-holds : goal.returns-then-not-is_of-clause-hol
 returns-then-not-is_of-clause-holds c = c.start.ensures _ c.requires
 
 pub returns-then-is_err-clause-holds : goal.returns-then-is_err-clause-holds
-returns-then-is_err-clause-holds c = c.widen.ensures.holds _ c.requires
+returns-then-is_err-clause-holds c = c.renew.ensures.holds _ c.requires
 
 pub catch_up-requires-clause-holds : goal.catch_up-requires-clause-holds
-catch_up-requires-clause-holds c = c.widen.ensures.holds _ c.requires
+catch_up-requires-clause-holds c = c.renew.ensures.holds _ c.requires

@@ -2,7 +2,7 @@ use Rattle.std.proofs.Common.{ltb, zero-le, ltb-true, ltb-false, rules}
 use Rattle.std.proofs.lemmas.List.Sorted.{IsPartitionedBy-ltb, IsPartitionPoint-from_clause}
 use Rattle.cq_value.proofs.TableLaws.{rising_or_same}
 use Rattle.cq_value.specs.Tables.{Pair}
-use Rattle.cq_store.proofs.index.place_of.Goals as goal
+use Rattle.cq_store.proofs.finding.place_of.Goals as goal
 
 pub returns : goal.returns
 returns c =

@@ -1,7 +1,7 @@
 use Rattle.std.proofs.Common.{◌<◌, length, arith, ap}
 use Rattle.cq_store.proofs.IndexLaws.{none_here, found_here, other_here}
-use Rattle.cq_store.proofs.index.find.Goals.{After-index-pairs-place}
-use Rattle.cq_store.proofs.index.find.Goals as goal
+use Rattle.cq_store.proofs.finding.find.Goals.{After-index-pairs-place}
+use Rattle.cq_store.proofs.finding.find.Goals as goal
 
 pub returns-then-place-pairs : goal.returns-then-place-pairs
 returns-then-place-pairs c =
