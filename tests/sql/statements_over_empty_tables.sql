@@ -1,4 +1,5 @@
--- Joins, subqueries and CTEs of every form, over empty tables, and those that no plan takes.
+-- Joins, subqueries and CTEs of every form, over empty tables, and those that no plan takes; COPY, which is not built; EXPLAIN; and INSERT, UPDATE
+-- and DELETE in every form.
 CREATE TABLE t (k bigint, v integer, s text, PRIMARY KEY (k));
 CREATE TABLE u (k bigint, w bigint, name text);
 CREATE TABLE r (id bigint, name text, PRIMARY KEY (id));
@@ -49,3 +50,19 @@ SELECT q.*, k FROM (SELECT v + 1, coalesce(s, 'x'), k FROM t) AS q ORDER BY 1, 3
 WITH a AS (SELECT 1, k FROM t) SELECT * FROM a, a AS b;
 SELECT * FROM (SELECT v + 1, v + 2 FROM t) AS q GROUP BY 2, 1 HAVING count(*) > 1;
 SELECT k FROM t WHERE CASE WHEN v IN (SELECT w FROM u) AND k = 1 THEN 1 WHEN v IN (SELECT id FROM r) THEN 2 END = 1 OR k NOT IN (SELECT id FROM r);
+COPY text (csv, off, bigint, format) FROM STDIN WITH (FORMAT csv);
+COPY t FROM STDIN;
+COPY t (s, k) FROM STDIN WITH (HEADER, FORMAT CSV);
+EXPLAIN SELECT * FROM t WHERE k = 1;
+EXPLAIN WITH a AS (SELECT k FROM t) SELECT k FROM a WHERE k IN (SELECT w FROM u);
+INSERT INTO t VALUES (1, 2, 'a'), (-3, NULL, 'it''s');
+INSERT INTO u (name, k) VALUES ('x', -9223372036854775807 - 1), ('y', 2 * 3);
+UPDATE t SET v = v + 1, s = 'x' WHERE k = 1 AND v IS NOT NULL;
+UPDATE t SET v = NULL;
+UPDATE text SET header = CASE WHEN text.csv > 1 THEN 'a' ELSE off END, off = NULL, csv = csv + 1 WHERE bigint IN (1, 2);
+DELETE FROM text WHERE bigint = 1 AND format IS NOT NULL OR text.csv = 2;
+DELETE FROM t;
+DELETE FROM t WHERE NOT (k = 1 OR v > 2);
+SELECT k, v, s FROM t WHERE k = 1;
+SELECT k, v, s FROM t WHERE k = -3;
+SELECT w FROM u WHERE k = 6;
