@@ -124,6 +124,10 @@ wants_at (w ∷ ws) table = if nat_eq w.0 table then w.1 else wants_at ws table
 abbrev pub wants_in : Cond → FromTree → Wants
 wants_in filter_ from = wants_of (leaves_from from 0) (demanded filter_ from)
 
+-- tables with the rows alone that have what is wanted
+abbrev pub narrow : Wants → Tables → Tables
+narrow wants tables = map (λ (p : ℕ × List Row). (p.0, rows_with (wants_at wants p.0) p.1)) tables
+
 -- ---- the law
 
 -- the rows of each table have as many columns as it has in the FROM

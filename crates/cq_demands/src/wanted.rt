@@ -68,7 +68,11 @@ fn put_equality(
 
 /// Puts what a condition demands behind the rest.
 #[cycle(demands)]
-fn put_demands(alloc: Global, wanted: &mut Wanted, condition: &Cond) -> Result<(), NoMemory>
+pub(crate) fn put_demands(
+    alloc: Global,
+    wanted: &mut Wanted,
+    condition: &Cond,
+) -> Result<(), NoMemory>
     ensures { OnOk result (wanted.new ≡ wanted.old ++ demands condition.now) }
 {
     match condition {
