@@ -20,9 +20,9 @@ use Rattle.cq_meaning.specs.Groups.{is_known}
 use Rattle.cq_meaning.specs.Joins.{product}
 use Rattle.cq_meaning.specs.Lists.{Has}
 use Rattle.cq_meaning.specs.Queries.{columns_in, joins, from_rows}
-use Rattle.cq_demands.specs.Demands.{demand_of, demands, has_all, rows_with}
+use Rattle.cq_demands.specs.Demands.{demand_of, demands, has_all}
 use Rattle.cq_demands.specs.declared.joins.Leaf.{Leaf}
-use Rattle.cq_demands.specs.JoinDemands.{is_plain, leaves_from, on_demands, tie_of, ties, on_ties, demand_at, carried_by, carried, spread, all_ties, demanded, is_in, in_range, is_demand, is_of_each, wanted_of, wants_of, wants_at, wants_in, AreWide, IsNarrowed, JoinsKeepWanted}
+use Rattle.cq_demands.specs.JoinDemands.{is_plain, leaves_from, on_demands, tie_of, ties, on_ties, demand_at, carried_by, carried, spread, all_ties, demanded, is_in, in_range, is_demand, is_of_each, wanted_of, wants_of, wants_at, AreWide, IsNarrowed, JoinsKeepWanted}
 use Rattle.cq_demands.proofs.Kept.{two_ways, equal_is, same_itself, yes_both, passing_alike}
 
 and_true : (a b : Bool) → (a && b) ≡ true → (a ≡ true) × (b ≡ true)

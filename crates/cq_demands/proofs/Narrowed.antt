@@ -1,5 +1,5 @@
 -- Tables of which nothing is wanted are as they are.
-use Rattle.std.proofs.Common.{◌≡◌, ℕ, List, [], ◌∷◌, ◌++◌, map, refl, ap}
+use Rattle.std.proofs.Common.{◌≡◌, List, [], ◌∷◌, ◌++◌, refl, ap}
 use Rattle.cq_meaning.specs.Values.{Row, Tables}
 use Rattle.cq_demands.specs.Demands.{rows_with}
 use Rattle.cq_demands.specs.JoinDemands.{Wants, wants_at, narrow}
