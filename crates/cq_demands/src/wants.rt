@@ -14,7 +14,7 @@ use std::alloc::Global;
 pub type Wants = Items<(u32, Wanted)>;
 
 /// The value that is demanded of a column.
-fn demand_at<'a>(demanded: &'a [(u32, Value)], column: u32) -> Option<&'a Value>
+fn demand_at(demanded: &[(u32, Value)], column: u32) -> Option<&Value>
     ensures { option_copied result ≡ demand_at_by_rule demanded.now column }
 {
     for pair in demanded {
