@@ -18,7 +18,7 @@ use Rattle.cq_meaning.specs.Expressions.{truth_of, keeps}
 use Rattle.cq_meaning.specs.Effects.{is_kept}
 use Rattle.cq_demands.specs.Demands.{demand_of, demands, has_all, rows_with, pairs_with, KeptHasDemands}
 
-two_ways : (b : Bool) → (b ≡ true) ⊎ (b ≡ false)
+pub two_ways : (b : Bool) → (b ≡ true) ⊎ (b ≡ false)
 two_ways true = inl refl
 two_ways false = inr refl
 
@@ -30,7 +30,7 @@ met_equal Equal h = refl
 met_equal Greater h = cc
 
 -- where `x = y` is true, x and y are one value
-equal_is : (x y : Value) → is_yes (met Eq (compared x y)) ≡ true → x ≡ y
+pub equal_is : (x y : Value) → is_yes (met Eq (compared x y)) ≡ true → x ≡ y
 equal_is (Int m) (Int n) h = ap Int (exact_signed m n (met_equal _ h))
 equal_is (Int m) (Text t) h = cc
 equal_is (Int m) Null h = cc
@@ -41,10 +41,10 @@ equal_is Null (Int n) h = cc
 equal_is Null (Text t) h = cc
 equal_is Null Null h = cc
 
-same_itself : (v w : Value) → v ≡ w → same_value v w ≡ true
+pub same_itself : (v w : Value) → v ≡ w → same_value v w ≡ true
 same_itself v w e = ap is_eq ((value_cmp_same v w).1 e)
 
-yes_both : (a b : Truth) → is_yes (and_of a b) ≡ true → (is_yes a ≡ true) × (is_yes b ≡ true)
+pub yes_both : (a b : Truth) → is_yes (and_of a b) ≡ true → (is_yes a ≡ true) × (is_yes b ≡ true)
 yes_both Yes b h = (refl, h)
 yes_both No b h = cc
 yes_both Unknown Yes h = cc
@@ -75,7 +75,7 @@ kept_has_demands (And' p (more_of-Cond a end_of-Cond) q (more_of-Cond b end_of-C
 kept_has_demands c row k = has_demand c row k
 
 -- what passes a test is the same of all and of those that pass a weaker one
-passing_alike : {X : Type 0} (p q : X → Bool) → ((x : X) → p x ≡ true → q x ≡ true) → (xs : List X) → filter p (filter q xs) ≡ filter p xs
+pub passing_alike : {X : Type 0} (p q : X → Bool) → ((x : X) → p x ≡ true → q x ≡ true) → (xs : List X) → filter p (filter q xs) ≡ filter p xs
 passing_alike p q weaker [] = refl
 passing_alike p q weaker (x ∷ xs) =
     let more : filter p (filter q xs) ≡ filter p xs = passing_alike p q weaker xs in

@@ -1,2 +1,5 @@
 pub mod Kept
+pub mod Joined
 pub mod WantedLaws
+pub mod Nodes
+pub mod Narrowed

@@ -11,12 +11,7 @@ use std::alloc::Global;
 /// Values that a row must have, each with the place of its column.
 pub type Wanted = Items<(u32, Value)>;
 
-fn put_value(
-    alloc: Global,
-    wanted: &mut Wanted,
-    column: u32,
-    value: &Value,
-) -> Result<(), NoMemory>
+fn put_value(alloc: Global, wanted: &mut Wanted, column: u32, value: &Value) -> Result<(), NoMemory>
     ensures { OnOk result (wanted.new ≡ wanted.old ++ (column, value.now) ∷ []) }
 {
     let value = value.copy(alloc)?;
@@ -24,12 +19,7 @@ fn put_value(
 }
 
 /// Puts what `column = right` demands behind the rest.
-fn put_column(
-    alloc: Global,
-    wanted: &mut Wanted,
-    column: u32,
-    right: &Expr,
-) -> Result<(), NoMemory>
+fn put_column(alloc: Global, wanted: &mut Wanted, column: u32, right: &Expr) -> Result<(), NoMemory>
     ensures { OnOk result (wanted.new ≡ wanted.old ++ demand_of (Compare Eq (Column column) right.now)) }
 {
     let Expr::Literal(value) = right else {
@@ -78,7 +68,11 @@ fn put_equality(
 
 /// Puts what a condition demands behind the rest.
 #[cycle(demands)]
-fn put_demands(alloc: Global, wanted: &mut Wanted, condition: &Cond) -> Result<(), NoMemory>
+pub(crate) fn put_demands(
+    alloc: Global,
+    wanted: &mut Wanted,
+    condition: &Cond,
+) -> Result<(), NoMemory>
     ensures { OnOk result (wanted.new ≡ wanted.old ++ demands condition.now) }
 {
     match condition {

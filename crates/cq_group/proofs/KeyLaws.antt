@@ -54,14 +54,6 @@ rows_picked wanted (p ∷ ps) =
       | false ↦ rows_picked wanted ps
     ]
 
--- where no values are wanted, all rows have them
-pub all_picked : (wanted : List (ℕ × Value)) (rows some : List Row) → wanted ≡ [] → some ≡ filter (has_values wanted) rows → some ≡ rows
-all_picked wanted rows some none is = is ∙ ap (λ values. filter (has_values values) rows) none ∙ all rows
-  where
-    all : (rows : List Row) → filter (has_values []) rows ≡ rows
-    all [] = refl
-    all (row ∷ rows) = ap (λ rs. row ∷ rs) (all rows)
-
 -- the rows that have what is demanded
 pub demanded_picked : (wanted values : List (ℕ × Value)) (pairs some : List Pair) → wanted ≡ values → some ≡ filter (λ (p : Pair). has_values wanted p.1) pairs → some ≡ pairs_with values pairs
 demanded_picked wanted values pairs some same is = is ∙ ap (λ v. pairs_with v pairs) same

@@ -4,6 +4,10 @@ use Rattle.std.proofs.lemmas.List.{map_more}
 use Rattle.std.specs.List.{HoldsAt}
 use Rattle.cq_value.specs.declared.value.Value.{Value}
 use Rattle.cq_value.specs.Tables.{Table}
+use Rattle.cq_meaning.specs.Values.{Row, Tables}
+use Rattle.cq_demands.specs.Demands.{rows_with}
+use Rattle.cq_demands.specs.JoinDemands.{Wants, wants_at, narrow}
+use Rattle.cq_demands.proofs.Narrowed.{narrow_append}
 use Rattle.cq_journal.specs.Journals.{replay}
 use Rattle.cq_store.specs.Stores.{StoreState}
 use Rattle.cq_group.specs.declared.group.GroupError.{GroupError}
@@ -18,10 +22,10 @@ use Rattle.cq_group.proofs.PlaceLaws.{table_refl, all_at, found_shape, replica_r
 use Rattle.cq_group.proofs.GroupLaws.{group_trans, group_weaker, kept_along, outlines_along, captured_along, stores_zip, resting_same, goes_on_but, same_with, quiet_along}
 
 -- one more table was read
-pub captures_more : {Y : Type 0} (f : ℕ → Y) (tables : List ℕ) (n : ℕ) (seen : List Y) (y : Y) → n < length tables → seen ≡ map f (take n tables) → y ≡ f (get_or tables n 0) →
-    seen ++ y ∷ [] ≡ map f (take (n + 1) tables)
-captures_more f tables n seen y low s is =
-    (λ i. s i ++ is i ∷ []) ∙ sym (map_more f tables n 0 low)
+pub wanted_more : (wants : Wants) (f : ℕ → ℕ × List Row) (tables : List ℕ) (n : ℕ) (seen : Tables) (y : ℕ × List Row) → n < length tables → seen ≡ narrow wants (map f (take n tables)) →
+    y ≡ ((f (get_or tables n 0)).0, rows_with (wants_at wants (f (get_or tables n 0)).0) (f (get_or tables n 0)).1) → seen ++ y ∷ [] ≡ narrow wants (map f (take (n + 1) tables))
+wanted_more wants f tables n seen y low s is =
+    (λ i. s i ++ is i ∷ []) ∙ sym (narrow_append wants (map f (take n tables)) (f (get_or tables n 0) ∷ [])) ∙ sym (ap (narrow wants) (map_more f tables n 0 low))
 
 module _ {X : Type 0} (state : X → StoreState) where
   -- what f gives of the rows of a table's store, it gives of those that the entries leave of the table

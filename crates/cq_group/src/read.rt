@@ -1,6 +1,7 @@
 ghost use Rattle.std.specs.Prelude.{◌≡◌, ◌+◌, ◌<◌, ◌≤◌, [], ◌∷◌, ◌++◌, filter, length, map, OnOk, OnErr, IfOk, IfErr};
 ghost use Rattle.std.specs.List.{AllByRecursion};
 ghost use Rattle.cq_value.specs.Tables.{rows_of};
+ghost use Rattle.cq_demands.specs.JoinDemands.{narrow};
 ghost use Rattle.cq_journal.specs.Journals.{replay};
 ghost use Rattle.cq_store.specs.Stores.{has_values};
 ghost use Rattle.cq_group.specs.Groups.{IsKept, IsQuiet, IsSteady, HasTable, entries_of, stores_of, shapes, copies_of, node_at};
@@ -8,27 +9,13 @@ ghost use Rattle.cq_group.specs.Calls.{Rests, Lifted, Blames, IsOn, IsSameBut, G
 
 use crate::group::{Capture, GroupError, GroupState, Tables};
 use crate::place::place_of;
+use cq_demands::{Wanted, Wants, wants_at};
 use cq_store::{ColumnValues, Store};
 use cq_tree::{Entry, EntryKind, Who};
 use cq_value::{NoMemory, Positions, Rows};
 use std::alloc::Global;
 
 impl<S: Store> GroupState<S> {
-    /// The rows of one table, from the store in a place of its list.
-    fn read_table(&mut self, alloc: Global, table: u32, copy: usize) -> Result<Rows, GroupError>
-        requires kept { IsKept S.state self.old }
-        requires there { HasTable self.old table }
-        requires copy { copy < copies_of self.old }
-        ensures rows { IfOk result (λ rows. rows ≡ rows_of (replay table (shapes self.old table) (entries_of self.old))) }
-        ensures journal { self.new.journal ≡ self.old.journal }
-        ensures same { IsSameBut (Lifted S.state Rests) self.old self.new }
-        ensures blame { IfErr result (λ e. Blames S.state e (stores_of self.old) (stores_of self.new)) }
-        ensures here { IfErr result (IsOn (node_at self.old.node copy)) }
-    {
-        let place = place_of(&self.tables, table);
-        self.tables[place].read(alloc, copy)
-    }
-
     /// The rows of one table that have these values, from the store in a place of its list.
     fn pick_table(
         &mut self,
@@ -49,25 +36,27 @@ impl<S: Store> GroupState<S> {
         self.tables[place].pick(copy, wanted)
     }
 
-    /// The named tables' rows, in order, from the stores in a place of their lists.
+    /// The rows of the named tables that have what is wanted of them, in order, from the stores in a place of their lists.
     fn read_tables(
         &mut self,
         alloc: Global,
         copy: usize,
         tables: &Positions,
+        wants: &Wants,
     ) -> Result<Tables, GroupError>
         requires kept { IsKept S.state self.old }
         requires there { AllByRecursion (HasTable self.old) tables.now }
         requires copy { copy < copies_of self.old }
-        ensures tables { IfOk result (λ seen. seen ≡ map (captured self.old) tables.now) }
+        ensures tables { IfOk result (λ seen. seen ≡ narrow wants.now (map (captured self.old) tables.now)) }
         ensures journal { self.new.journal ≡ self.old.journal }
         ensures same { IsSameBut (Lifted S.state Rests) self.old self.new }
         ensures blame { IfErr result (λ e. Blames S.state e (stores_of self.old) (stores_of self.new)) }
         ensures here { IfErr result (IsOn (node_at self.old.node copy)) }
     {
+        let none = Wanted::new(alloc);
         let mut seen = Tables::new(alloc);
         for table in tables.as_slice() {
-            let rows = self.read_table(alloc, *table, copy)?;
+            let rows = self.pick_table(*table, copy, wants_at(wants.as_slice(), *table, &none))?;
             if seen.put((*table, rows)).is_err() {
                 return Err(GroupError::Memory);
             }
@@ -108,6 +97,45 @@ impl<S: Store> GroupState<S> {
         if self.node == 0 { near as usize - 1 } else { 0 }
     }
 
+    /// The rows of the named tables that have what is wanted of them, in order, and one Read in the journal; in a reference group
+    /// they are read on the near node, which is one of its nodes. Nothing is staged before or afterwards.
+    ///
+    /// Errors: a store of that node failed, or want of memory. The journal is then as it was.
+    pub fn read_wanted(
+        &mut self,
+        alloc: Global,
+        who: Who,
+        near: u32,
+        tables: &Positions,
+        wants: &Wants,
+    ) -> Result<Capture, GroupError>
+        requires kept { IsKept S.state self.old }
+        requires quiet { IsQuiet S.state self.old }
+        requires there { AllByRecursion (HasTable self.old) tables.now }
+        requires near { self.old.node ≡ 0 → (0 < near) × (near ≤ self.old.nodes) }
+        ensures place { IfOk result (λ seen. seen.place ≡ length (entries_of self.old)) }
+        ensures node { IfOk result (λ seen. seen.node ≡ node_read self.old near) }
+        ensures tables { IfOk result (λ seen. seen.tables ≡ narrow wants.now (map (captured self.old) tables.now)) }
+        ensures entry { OnOk result (entries_of self.new ≡ entries_of self.old ++ record { who = who; kind = EntryKind.Read } ∷ []) }
+        ensures err { OnErr result (entries_of self.new ≡ entries_of self.old) }
+        ensures kept { IsKept S.state self.new }
+        ensures quiet { IsQuiet S.state self.new }
+        ensures goes_on { GroupGoesOn S.state self.old self.new }
+        ensures blame { IfErr result (λ e. Blames S.state e (stores_of self.old) (stores_of self.new)) }
+        ensures near { IfErr result (IsOn (node_read self.old near)) }
+        ensures steady { IfErr result (λ e. IsSteady S.state self.old → e ≡ GroupError.Memory) }
+    {
+        let copy = self.copy_near(near);
+        let seen = self.read_tables(alloc, copy, tables, wants)?;
+        let place = self.append_read(who)?;
+        let node = if self.node == 0 { near } else { self.node };
+        Ok(Capture {
+            place,
+            node,
+            tables: seen,
+        })
+    }
+
     /// The rows of the named tables, in order, and one Read in the journal; in a reference group they are read on the near
     /// node, which is one of its nodes. Nothing is staged before or afterwards.
     ///
@@ -135,15 +163,7 @@ impl<S: Store> GroupState<S> {
         ensures near { IfErr result (IsOn (node_read self.old near)) }
         ensures steady { IfErr result (λ e. IsSteady S.state self.old → e ≡ GroupError.Memory) }
     {
-        let copy = self.copy_near(near);
-        let seen = self.read_tables(alloc, copy, tables)?;
-        let place = self.append_read(who)?;
-        let node = if self.node == 0 { near } else { self.node };
-        Ok(Capture {
-            place,
-            node,
-            tables: seen,
-        })
+        self.read_wanted(alloc, who, near, tables, &Wants::new(alloc))
     }
 
     /// The rows of a table that have each of these values, in order, and one Read in the journal; in a reference group they are

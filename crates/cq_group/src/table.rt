@@ -67,17 +67,6 @@ impl<S: Store> GroupTable<S> {
         pick_store(&mut self.stores[place], wanted)
     }
 
-    /// The rows that the store in a place of the list holds.
-    pub(crate) fn read(&mut self, alloc: Global, place: usize) -> Result<Rows, GroupError>
-        requires { place < length self.old.stores.items }
-        ensures rows { IfOk result (λ rows. HoldsAt (λ x. rows ≡ rows_of (S.state x).rows) self.old.stores.items place) }
-        ensures same { IsRestingTable (Lifted S.state Rests) self.old self.new }
-        ensures blame { IfErr result (λ e. Blames S.state e self.old.stores.items self.new.stores.items) }
-        ensures here { IfErr result (λ e. HoldsAt (λ x. IsOn (S.state x).node e) self.old.stores.items place) }
-    {
-        self.pick(place, &ColumnValues::new(alloc))
-    }
-
     /// The rows with these values that the store in a place of the list holds.
     pub(crate) fn pick(&mut self, place: usize, wanted: &ColumnValues) -> Result<Rows, GroupError>
         requires { place < length self.old.stores.items }

@@ -17,3 +17,4 @@ pub mod Touching
 pub mod Judging
 pub mod Answering
 pub mod ShardLaws
+pub mod JoinLaws

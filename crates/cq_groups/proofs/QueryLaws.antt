@@ -28,7 +28,6 @@ use Rattle.cq_planning.specs.Touched.{touched_by_query}
 use Rattle.cq_history.specs.Run.{Run, Environment}
 use Rattle.cq_history.specs.Computable.{IsReadable}
 use Rattle.cq_history.specs.Journals.{journal_in}
-use Rattle.cq_history.specs.Legality.{IsLegal}
 use Rattle.cq_history.specs.Deeds.{in_deed}
 use Rattle.cq_history.specs.Log.{IsAnswered}
 use Rattle.cq_history.specs.Laws.{seen_whole, idle}
@@ -40,10 +39,10 @@ use Rattle.cq_history.specs.Faults.{below, node_read, near as near_by_rule}
 use Rattle.cq_history.proofs.Script.{idle_is_answered}
 use Rattle.cq_history.specs.Standing.{RunsUnless}
 use Rattle.cq_history.proofs.Sums.{among_here, among_more}
-use Rattle.cq_groups.specs.Reads.{Look, CanLook, captured_by, groups_in, AreRead, AreReadInPart, AreShaped, IsComputable, Computes, IsReadError, FailsAmong, StopsReads, fault_by, IsComputed, done, stopped, failed}
+use Rattle.cq_groups.specs.Reads.{Look, CanLook, captured_by, groups_in, AreRead, AreReadInPart, AreShaped, Computes, IsReadError, FailsAmong, StopsReads, fault_by, IsComputed, done, stopped, failed}
 use Rattle.cq_groups.specs.Looking.{looks_of, merged, environment_at}
 use Rattle.cq_groups.proofs.GatherLaws.{gathered_whole}
-use Rattle.cq_groups.proofs.LookLaws.{can_look_at, in_order_ascends, in_order_below, has_shapes, groups_looked, merged_within}
+use Rattle.cq_groups.proofs.LookLaws.{can_look_at, in_order_ascends, in_order_below, has_shapes, groups_looked}
 use Rattle.cq_groups.proofs.Failing.{fault_is_placed, named}
 use Rattle.cq_groups.proofs.StepLaws.{no_large_step}
 use Rattle.cq_groups.proofs.Growth.{length_map}
@@ -64,20 +63,13 @@ module _ {X : Type 0} (c : Contents) (q : Query) (groups : List (GroupState X)) 
       each_of (λ t. table_rows (seen_whole c (touched c (statement.Select q)) (journal_in (journals_of groups))) t ≡ table_rows read_of t) (tables_of_statement q) (λ t m.
       sym (gathered_whole c groups (tables_of_statement q) t m (touched c (statement.Select q)) (in_order_ascends c gs) (λ g a. has_shapes c groups shaped (tables_of_statement q) g (in_order_below c gs g a))))
 
-  -- it can be computed
-  pub can_compute : IsReadable c q → ((g : ℕ) → IsLegal c g (journal_in (journals_of groups) g)) → IsComputable q read_of
-  can_compute readable legal = readable.safe read_of (merged_within c groups shaped (tables_of_statement q) legal (touched_by_query c q))
-
-  -- and its looks can be made
+  -- its looks can be made
   pub plan_there : (node : ℕ) → 0 < node → node ≤ nodes → (looks : List Look) → looks ≡ looks_of c q → AllByRecursion (CanLook node groups) looks
   plan_there node some few looks is = subst (λ ls. AllByRecursion (CanLook node groups) ls) (sym is) (can_look_at c groups shaped (tables_of_statement q) node some few (touched_by_query c q))
 
   pub plan_ascends : (looks : List Look) → looks ≡ looks_of c q → IsAscendingFrom 0 (groups_in looks)
   plan_ascends looks is =
       subst (λ gs. IsAscendingFrom 0 gs) (sym (ap groups_in is ∙ groups_looked c (tables_of_statement q) (touched c (statement.Select q)))) (in_order_ascends c (touched_by_query c q))
-
-  pub plan_safe : (looks : List Look) → looks ≡ looks_of c q → IsReadable c q → ((g : ℕ) → IsLegal c g (journal_in (journals_of groups) g)) → IsComputable q (merged (captured_by groups looks))
-  plan_safe looks is readable legal = subst (λ ls. IsComputable q (merged (captured_by groups ls))) (sym is) (can_compute readable legal)
 
   module _ (run : Run) (settings : Settings) (not_refused : refusal_in (environment_at c settings) (statement.Select q) ≡ None) where
     module _ (who : Who) (new : List (GroupState X)) (count : length (journals_of new) ≡ length (journals_of groups)) where

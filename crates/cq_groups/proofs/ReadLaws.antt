@@ -13,6 +13,8 @@ use Rattle.cq_tree.specs.declared.journal.Who.{Who}
 use Rattle.cq_tree.specs.declared.journal.Entry.{Entry}
 use Rattle.cq_tree.specs.declared.journal.EntryKind.TheVariants.{Read}
 use Rattle.cq_meaning.specs.Values.{Row, Tables}
+use Rattle.cq_demands.specs.JoinDemands.{Wants, narrow}
+use Rattle.cq_demands.proofs.Narrowed.{narrow_append}
 use Rattle.cq_journal.specs.Journals.{replay}
 use Rattle.cq_journal.specs.Laws.{IsNoWriteOf}
 use Rattle.cq_journal.specs.Records.{Journal}
@@ -100,8 +102,8 @@ module _ {X : Type 0} (near : ℕ) (groups : List (GroupState X)) (l : Look) (ca
         on = on ∙ sym (ap (λ n. if nat_eq n 0 then near else n) where_it_is);
       }
 
-  pub tables_seen : (seen : Tables) → seen ≡ map (captured g) l.1 → seen ≡ captured_of (slice_get groups l.0) l.1
-  tables_seen seen e = e ∙ sym (ap (λ (v : Option (GroupState X)). captured_of v l.1) group_at)
+  pub tables_seen : (wants : Wants) (seen : Tables) → seen ≡ narrow wants (map (captured g) l.1) → seen ≡ narrow wants (captured_of (slice_get groups l.0) l.1)
+  tables_seen wants seen e = e ∙ sym (ap (λ (v : Option (GroupState X)). narrow wants (captured_of v l.1)) group_at)
 
   pub rows_seen : (table : ℕ) (p : Row → Bool) (rows : List Row) → rows ≡ filter p (captured g table).1 → rows ≡ filter p (rows_in (slice_get groups l.0) table)
   rows_seen table p rows e = e ∙ sym (ap (λ (v : Option (GroupState X)). filter p (rows_in v table)) group_at)
@@ -179,8 +181,8 @@ front_below low (l ∷ looks) (suc n) d asc h =
 
 -- ---- the looks so far
 
-pub record ReadSoFar {X : Type 0} (state : X → StoreState) (who : Who) (old now : List (GroupState X)) (looks : List Look) (seen : Tables) : Type 0 where
-  pub tables : seen ≡ captured_by old looks
+pub record ReadSoFar {X : Type 0} (state : X → StoreState) (wants : Wants) (who : Who) (old now : List (GroupState X)) (looks : List Look) (seen : Tables) : Type 0 where
+  pub tables : seen ≡ narrow wants (captured_by old looks)
   pub grows : AreRead who (groups_in looks) old now
   pub leaves : Leaves old now
   pub goes_on : GoOn state old now
@@ -188,8 +190,8 @@ pub record ReadSoFar {X : Type 0} (state : X → StoreState) (who : Who) (old no
 pub nothing_read : {X : Type 0} (who : Who) (old new : List (GroupState X)) → journals_of new ≡ journals_of old → AreRead who [] old new
 nothing_read who old new e = subst (λ (js : List Journal). Grows who (in_each [] (λ g. Read)) (journals_of old) js) (sym e) (none_grow who (λ g. Read) (journals_of old))
 
-module _ {X : Type 0} (state : X → StoreState) (who : Who) (old : List (GroupState X)) where
-  pub read_none : AreResting state old → (looks : List Look) (seen : Tables) → seen ≡ [] → ReadSoFar state who old old (take 0 looks) seen
+module _ {X : Type 0} (state : X → StoreState) (wants : Wants) (who : Who) (old : List (GroupState X)) where
+  pub read_none : AreResting state old → (looks : List Look) (seen : Tables) → seen ≡ [] → ReadSoFar state wants who old old (take 0 looks) seen
   read_none resting looks seen e = record {
     tables = e;
     grows = nothing_read who old old refl;
@@ -222,24 +224,25 @@ module _ {X : Type 0} (state : X → StoreState) (who : Who) (old : List (GroupS
         subst (λ gs. AreRead who gs old new) (sym groups_front)
         (each_grows who (λ g. Read) (groups_in (take n looks)) next.0 (journals_of old) (journals_of mid) (journals_of new) (apart_from 0 looks n d asc within) (as_many state old mid on) some more)
 
-    pub read_more : (mid new : List (GroupState X)) (seen more all : Tables) → IsAscendingFrom 0 (groups_in looks) → ReadSoFar state who old mid (take n looks) seen → AreRead who (next.0 ∷ []) mid new → more ≡ captured_of (slice_get mid next.0) next.1 →
-        Leaves mid new → GoOn state mid new → all ≡ seen ++ more → ReadSoFar state who old new (take (n + 1) looks) all
+    pub read_more : (mid new : List (GroupState X)) (seen more all : Tables) → IsAscendingFrom 0 (groups_in looks) → ReadSoFar state wants who old mid (take n looks) seen → AreRead who (next.0 ∷ []) mid new → more ≡ narrow wants (captured_of (slice_get mid next.0) next.1) →
+        Leaves mid new → GoOn state mid new → all ≡ seen ++ more → ReadSoFar state wants who old new (take (n + 1) looks) all
     read_more mid new seen more all asc so entry is leaves on put = record {
-      tables = put ∙ (λ i. so.tables i ++ is i) ∙ ap (λ v. captured_by old (take n looks) ++ v) (so.leaves next.0 next.1) ∙ sym captured_front;
+      tables = put ∙ (λ i. so.tables i ++ is i) ∙ ap (λ (v : Tables). narrow wants (captured_by old (take n looks)) ++ narrow wants v) (so.leaves next.0 next.1)
+          ∙ sym (narrow_append wants (captured_by old (take n looks)) (captured_of (slice_get old next.0) next.1)) ∙ sym (ap (narrow wants) captured_front);
       grows = one_more mid new asc so.goes_on so.grows entry;
       leaves = λ g tables. leaves g tables ∙ so.leaves g tables;
       goes_on = go_on_twice state old mid new so.goes_on on;
     }
 
     -- memory ran out before the next look, or once it was made
-    pub stopped_before : (mid new : List (GroupState X)) (seen : Tables) → ReadSoFar state who old mid (take n looks) seen → journals_of new ≡ journals_of mid → AreReadInPart who (groups_in looks) old new
+    pub stopped_before : (mid new : List (GroupState X)) (seen : Tables) → ReadSoFar state wants who old mid (take n looks) seen → journals_of new ≡ journals_of mid → AreReadInPart who (groups_in looks) old new
     stopped_before mid new seen so same = record {
       some = groups_in (take n looks);
       among = among_front looks n;
       grows = subst (λ (js : List Journal). Grows who (in_each (groups_in (take n looks)) (λ g. Read)) (journals_of old) js) (sym same) so.grows;
     }
 
-    pub stopped_after : (mid new : List (GroupState X)) (seen : Tables) → IsAscendingFrom 0 (groups_in looks) → ReadSoFar state who old mid (take n looks) seen → AreRead who (next.0 ∷ []) mid new → AreReadInPart who (groups_in looks) old new
+    pub stopped_after : (mid new : List (GroupState X)) (seen : Tables) → IsAscendingFrom 0 (groups_in looks) → ReadSoFar state wants who old mid (take n looks) seen → AreRead who (next.0 ∷ []) mid new → AreReadInPart who (groups_in looks) old new
     stopped_after mid new seen asc so entry = record {
       some = groups_in (take (n + 1) looks);
       among = among_front looks (n + 1);
@@ -247,7 +250,7 @@ module _ {X : Type 0} (state : X → StoreState) (who : Who) (old : List (GroupS
     }
 
     -- a store failed in the next look
-    pub failed_at : (near : ℕ) (mid new : List (GroupState X)) (seen : Tables) (e : GroupError) → IsAscendingFrom 0 (groups_in looks) → ReadSoFar state who old mid (take n looks) seen → journals_of new ≡ journals_of mid →
+    pub failed_at : (near : ℕ) (mid new : List (GroupState X)) (seen : Tables) (e : GroupError) → IsAscendingFrom 0 (groups_in looks) → ReadSoFar state wants who old mid (take n looks) seen → journals_of new ≡ journals_of mid →
         IsReadError state near next.0 mid new e → StopsReads state who near (groups_in looks) old new e
     failed_at near mid new seen group.Memory asc so same f = tt
     failed_at near mid new seen (group.Worker node shard before after) asc so same f =

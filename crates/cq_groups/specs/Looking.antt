@@ -1,16 +1,20 @@
 -- Which tables a query reads in which groups, and all rows that were read of a table.
-use Rattle.std.specs.Prelude.{ℕ, Option, Some, None, List, [], ◌∷◌, ◌++◌, map, filter, fold, Bool, not, ◌&&◌, if◌then◌else◌, nat_eq, slice_get}
+use Rattle.std.specs.Prelude.{ℕ, Option, Some, None, List, [], ◌∷◌, ◌++◌, map, filter, fold, length, Bool, not, ◌&&◌, if◌then◌else◌, nat_eq, slice_get}
+use Rattle.std.specs.List.{list_all}
 use Rattle.cq_store.specs.Stores.{has_values}
 use Rattle.cq_meaning.specs.Values.{Row, Tables}
 use Rattle.cq_catalog.specs.Contents.{Contents}
 use Rattle.cq_tree.specs.declared.query.FromTree.{FromTree, Table}
 use Rattle.cq_tree.specs.declared.query.Query.{Query, out-Query}
 use Rattle.cq_tree.specs.declared.statement.Statement.TheVariants as statement
+use Rattle.cq_planning.specs.Database.{shape_in}
 use Rattle.cq_planning.specs.Touched.{among, touched}
 use Rattle.cq_answer.specs.declared.answered.Settings.{Settings}
 use Rattle.cq_history.specs.Run.{Environment}
 use Rattle.cq_history.specs.Refusals.{is_alone}
 use Rattle.cq_demands.specs.Demands.{demands}
+use Rattle.cq_demands.specs.declared.joins.Leaf.{Leaf}
+use Rattle.cq_demands.specs.JoinDemands.{is_plain, leaves_from, Wants, wants_in}
 use Rattle.cq_history.specs.Looks.{has_shard}
 use Rattle.cq_whole.specs.Tables.{tables_of_statement}
 use Rattle.cq_group.specs.declared.group.GroupState.{GroupState}
@@ -48,6 +52,18 @@ look_at s = (s.group, s.table ∷ [])
 -- the rows of a query's one shard that have all that its WHERE demands
 abbrev pub wanted_of : {X : Type 0} → List (GroupState X) → Query → Shard → Tables
 wanted_of groups q s = (s.table, filter (has_values (demands (out-Query q).filter)) (rows_in (slice_get groups s.group) s.table)) ∷ []
+
+-- whether tables have as many columns in a FROM as in the catalogue
+abbrev pub are_laid : Contents → List Leaf → Bool
+are_laid c leaves = list_all (λ (l : Leaf). nat_eq (length (shape_in c l.table).kinds) l.columns) leaves
+
+-- whether a query without CTEs and IN subqueries reads tables alone that inner joins join
+abbrev pub joins_plainly : Contents → Query → Bool
+joins_plainly c q = is_alone q && (is_plain (out-Query q).from && are_laid c (leaves_from (out-Query q).from 0))
+
+-- what such a query wants of its tables' rows; others want all
+abbrev pub wants_by : Contents → Query → Wants
+wants_by c q = if joins_plainly c q then wants_in (out-Query q).filter (out-Query q).from else []
 
 abbrev pub environment_at : Contents → Settings → Environment
 environment_at c settings = record { catalog = c; settings = settings }

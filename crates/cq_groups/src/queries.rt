@@ -12,6 +12,7 @@ ghost use Rattle.cq_history.specs.Journals.{journal_in};
 ghost use Rattle.cq_history.specs.Legality.{IsLegal};
 ghost use Rattle.cq_history.specs.Refusals.{rules, refusal_in};
 ghost use Rattle.cq_history.specs.Log.{IsAnswered};
+ghost use Rattle.cq_demands.specs.JoinDemands.{narrow};
 ghost use Rattle.cq_group.specs.Resting.{journals_of, AreResting, GoOn, HasFailed};
 ghost use Rattle.cq_groups.specs.Reads.{captured_by, groups_in, CanLook, AreShaped, IsComputable, Computes, IsComputed, fault_by};
 ghost use Rattle.cq_groups.specs.Looking.{merged, look_at, wanted_of, looks_of, environment_at};
@@ -21,9 +22,10 @@ use crate::looks::looks_at;
 use crate::near::near_node;
 use crate::reads::{Look, Looks, pick_group, read_groups};
 use crate::shard::{Shard, shard_alone};
+use crate::wanting::wants_of;
 use cq_answer::{Answer, Fault, What};
 use cq_catalog::Catalog;
-use cq_demands::wanted_by;
+use cq_demands::{Wants, wanted_by};
 use cq_group::{GroupError, GroupState, Tables};
 use cq_plan::touched_by_query;
 use cq_store::Store;
@@ -79,7 +81,7 @@ fn fault_of(error: GroupError) -> Fault
     }
 }
 
-/// The answer of a query by its looks, each of which is a Read in its group's journal then.
+/// The answer of a query by its looks and what it wants of its tables, each of which is a Read in its group's journal then.
 fn look_and_compute<S: Store>(
     alloc: Global,
     groups: &mut Vec<GroupState<S>>,
@@ -87,18 +89,19 @@ fn look_and_compute<S: Store>(
     near: u32,
     query: &Query,
     looks: &[Look],
+    wants: &Wants,
 ) -> Answer
     requires resting { AreResting S.state groups.old.items }
     requires there { AllByRecursion (CanLook near groups.old.items) looks.now }
     requires ascending { IsAscendingFrom 0 (groups_in looks.now) }
-    requires safe { IsComputable query.now (merged (captured_by groups.old.items looks.now)) }
-    ensures computed { IsComputed S.state who near query.now looks.now (merged (captured_by groups.old.items looks.now)) groups.old.items groups.new.items result }
+    requires safe { IsComputable query.now (merged (narrow wants.now (captured_by groups.old.items looks.now))) }
+    ensures computed { IsComputed S.state who near query.now looks.now (merged (narrow wants.now (captured_by groups.old.items looks.now))) groups.old.items groups.new.items result }
     ensures goes_on { GoOn S.state groups.old.items groups.new.items }
 {
     let Ok(names) = query.names.copy(alloc) else {
         return Answer::Failed(Fault::Memory);
     };
-    let seen = match read_groups(alloc, groups, who, near, looks) {
+    let seen = match read_groups(alloc, groups, who, near, looks, wants) {
         Ok(seen) => seen,
         Err(error) => return Answer::Failed(fault_of(error)),
     };
@@ -165,6 +168,11 @@ pub fn answer_query<S: Store>(
     let near = near_node(catalog, nodes, looks.as_slice());
     match shard_alone(query, looks.as_slice()) {
         Some(shard) => pick_and_compute(alloc, groups, who, near, query, shard),
-        None => look_and_compute(alloc, groups, who, near, query, looks.as_slice()),
+        None => {
+            let Ok(wants) = wants_of(alloc, catalog, query) else {
+                return Answer::Failed(Fault::Memory);
+            };
+            look_and_compute(alloc, groups, who, near, query, looks.as_slice(), &wants)
+        }
     }
 }

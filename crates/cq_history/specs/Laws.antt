@@ -47,6 +47,7 @@ use Rattle.cq_history.specs.Journals.{none, Kinds, journal_in, held_in, in_each,
 use Rattle.cq_history.specs.Legality.{LeavesColumn, IsLegal, IsKeyed}
 use Rattle.cq_history.specs.Refusals.{is_alone}
 use Rattle.cq_demands.specs.Demands.{demands, rows_with}
+use Rattle.cq_demands.specs.JoinDemands.{is_plain, wants_in, AreWide, IsNarrowed}
 use Rattle.cq_history.specs.Standing.{most_rows, AreAmong, counted, reply_in, HasIds, IsReady, tag_of, rows_of_lines, StandsIn, Stands}
 use Rattle.cq_store.specs.Stores.{StoreState, Rose}
 use Rattle.cq_history.specs.Faults.{IsShardIn, IsOnNode, near, node_read, below, range_in, AccountsFor, NamesBelow}
@@ -176,6 +177,11 @@ HasWanted q table db dc = table_rows dc table ≡ rows_with (demands (out-Query 
 -- where its FROM is one table, no other rows matter
 abbrev pub WantedSuffice : Type 0
 WantedSuffice = (q : Query) (table n : ℕ) (db dc : Tables) → is_alone q ≡ true → (out-Query q).from ≡ Table table n → HasWanted q table db dc →
+    ((rows : List Row) → Answers q dc rows → Answers q db rows) × (IsLarge q dc → IsLarge q db)
+
+-- where its FROM is tables that inner joins join, no rows matter but those that have what is wanted of their tables
+abbrev pub JoinsSuffice : Type 0
+JoinsSuffice = (q : Query) (db dc : Tables) → is_alone q ≡ true → is_plain (out-Query q).from ≡ true → AreWide (out-Query q).from db → IsNarrowed (wants_in (out-Query q).filter (out-Query q).from) db dc →
     ((rows : List Row) → Answers q dc rows → Answers q db rows) × (IsLarge q dc → IsLarge q db)
 
 -- ---- deeds

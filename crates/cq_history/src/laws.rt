@@ -1,7 +1,7 @@
 ghost use Rattle.cq_history.specs.Laws.{PartsAreMade, PartIsRefused, PartsHaveEffect, MadeDoes, RefusedDoes, LacksDoes, ReadDoes, LargeDoes, OneTableNarrows, GrowsOn, GrowsNone, GrowsEach, GrowsInOne, DeedsStay, GrowsByOther, DeedsStand, BlockIsDone, DoneStands};
 ghost use Rattle.cq_demands.specs.Demands.{KeptHasDemands};
 ghost use Rattle.cq_history.specs.Laws.{OtherAccounts, FaultAccounts, NewAccounts};
-ghost use Rattle.cq_history.specs.Laws.{WantedSuffice};
+ghost use Rattle.cq_history.specs.Laws.{WantedSuffice, JoinsSuffice};
 ghost use Rattle.cq_history.specs.Laws.{LogBegins, LogGoesOn, AnswersGoOn, IdleIsAnswered, DeedIsAnswered, StaysLaidOut, CatalogGoesOn, LogStands};
 ghost use Rattle.cq_history.specs.Laws.{MadeIsAnswered, RefusedIsAnswered, LacksIsAnswered, ReadIsAnswered, LargeIsAnswered, ReadLacksMemory, ReadFails, WriteFails, WriteLacksMemory, ExplainIsAnswered, RefusalIsAnswered, OpensLaidOut, CatalogIsAnswered};
 
@@ -27,10 +27,12 @@ pub fn statement_laws()
     ensures grows_in_one { GrowsInOne }
 {}
 
-/// On which rows a query of one table without CTE and IN subquery depends: those that WHERE can keep. Does nothing.
+/// On which rows a query of one table without CTE and IN subquery depends: those that WHERE can keep; and of inner joins of tables: those
+/// that have what WHERE and the ONs demand of their table. Does nothing.
 pub fn query_laws()
     ensures demands { KeptHasDemands }
     ensures wanted { WantedSuffice }
+    ensures joined { JoinsSuffice }
 {}
 
 /// What a statement did stays in the journals as those grow, and stands over the undistributed database. Does nothing.

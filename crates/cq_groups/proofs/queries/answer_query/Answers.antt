@@ -1,9 +1,11 @@
 use Rattle.std.proofs.Common.{List, ap, refl, ◌∙◌}
 use Rattle.cq_group.specs.Resting.{journals_of}
 use Rattle.cq_history.specs.Faults.{near}
-use Rattle.cq_groups.specs.Reads.{Look, groups_in}
+use Rattle.cq_groups.specs.Reads.{Look, captured_by, groups_in}
+use Rattle.cq_groups.specs.Looking.{merged}
 use Rattle.cq_groups.proofs.Growth.{go_on_itself, as_many}
-use Rattle.cq_groups.proofs.QueryLaws.{query_lacks_memory, plan_there, plan_ascends, plan_safe, query_computed, computed_blames}
+use Rattle.cq_groups.proofs.QueryLaws.{query_lacks_memory, plan_there, plan_ascends, query_computed, computed_blames}
+use Rattle.cq_groups.proofs.JoinLaws.{plan_within, wants_safe, joined_computed}
 use Rattle.cq_groups.proofs.ShardLaws.{shard_there, shard_safe, shard_answered}
 use Rattle.cq_groups.proofs.queries.answer_query.Goals as goal
 
@@ -40,14 +42,27 @@ look_and_compute-requires-clause-ascending g c =
 
 pub look_and_compute-requires-clause-safe : goal.look_and_compute-requires-clause-safe
 look_and_compute-requires-clause-safe g c =
-    plan_safe c.args.catalog.now c.args.query.now c.args.groups.now.items c.requires.shaped c.as_slice-in-None.result.now (c.as_slice-in-None.ensures ∙ c.in-Ok.ensures) c.requires.computable c.requires.legal
+    wants_safe c.args.catalog.now c.args.query.now c.args.groups.now.items c.requires.shaped c.requires.legal c.as_slice-in-None.result.now (c.as_slice-in-None.ensures ∙ c.in-Ok.ensures) c.in-Ok-wants_of.wants c.requires.computable
+
+pub returns-in_default-wants_of-clause-answered : goal.returns-in_default-wants_of-clause-answered
+returns-in_default-wants_of-clause-answered g c = λ run settings workers runs. query_lacks_memory run c.args.catalog.now settings c.args.who (journals_of c.args.groups.now.items) c.args.query.now
+
+pub returns-in_default-wants_of-clause-goes_on : goal.returns-in_default-wants_of-clause-goes_on
+returns-in_default-wants_of-clause-goes_on g c = go_on_itself g.S.Store.state c.args.groups.now.items c.requires.resting
 
 pub returns-clause-answered : goal.returns-clause-answered
 returns-clause-answered g c = λ run settings workers runs.
-    query_computed c.args.catalog.now c.args.query.now c.args.groups.now.items c.requires.shaped run settings runs c.args.who c.look_and_compute.new.groups.items
-    (as_many g.S.Store.state c.args.groups.now.items c.look_and_compute.new.groups.items c.look_and_compute.ensures.goes_on) g.S.Store.state c.requires.resting c.near_node-near.result workers
-    (c.near_node-near.ensures.near ∙ ap (λ (ls : List Look). near c.args.catalog.now c.args.nodes (groups_in ls)) (c.as_slice.ensures ∙ c.in-Ok.ensures)) c.requires.computable c.as_slice-in-None.result.now _ c.look_and_compute.result (c.as_slice-in-None.ensures ∙ c.in-Ok.ensures) refl
-    c.look_and_compute.ensures.computed
+    let catalog = c.args.catalog.now in
+    let query = c.args.query.now in
+    let old = c.args.groups.now.items in
+    let new = c.look_and_compute.new.groups.items in
+    let looks = c.as_slice-in-None.result.now in
+    let planned = c.as_slice-in-None.ensures ∙ c.in-Ok.ensures in
+    query_computed catalog query old c.requires.shaped run settings runs c.args.who new
+    (as_many g.S.Store.state old new c.look_and_compute.ensures.goes_on) g.S.Store.state c.requires.resting c.near_node-near.result workers
+    (c.near_node-near.ensures.near ∙ ap (λ (ls : List Look). near catalog c.args.nodes (groups_in ls)) (c.as_slice.ensures ∙ c.in-Ok.ensures)) c.requires.computable looks (merged (captured_by old looks)) c.look_and_compute.result planned refl
+    (joined_computed catalog query (captured_by old looks) (plan_within catalog query old c.requires.shaped c.requires.legal looks planned) g.S.Store.state c.args.who c.near_node-near.result looks old new
+    c.in-Ok-wants_of.wants c.in-Ok-wants_of.ensures c.look_and_compute.result c.look_and_compute.ensures.computed)
 
 pub returns-in-Some-clause-blamed : goal.returns-in-Some-clause-blamed
 returns-in-Some-clause-blamed g c = computed_blames g.S.Store.state c.args.who c.near_node-near.result c.args.query.now _ _ c.args.groups.now.items c.pick_and_compute.new.groups.items c.pick_and_compute.result c.pick_and_compute.ensures.computed

@@ -1,0 +1,9 @@
+use Rattle.std.proofs.Common.{rules, append_assoc}
+use Rattle.cq_demands.proofs.Nodes.{demands_cross, demands_inner}
+use Rattle.cq_demands.proofs.joins.+put_on_demands.Goals as goal
+
+pub returns-in_ok-put_on_demands-in-Cross : goal.returns-in_ok-put_on_demands-in-Cross
+returns-in_ok-put_on_demands-in-Cross t c = rw (c.in-Cross.is, demands_cross) (search (rules, append_assoc))
+
+pub returns-in_ok-put_on_demands-in-Inner-2 : goal.returns-in_ok-put_on_demands-in-Inner-2
+returns-in_ok-put_on_demands-in-Inner-2 t c = rw (c.in-Inner.is, demands_inner) (search (rules, append_assoc))
