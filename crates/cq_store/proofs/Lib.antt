@@ -1,1 +1,2 @@
+mod IndexLaws
 pub mod TakingLaws

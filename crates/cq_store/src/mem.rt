@@ -1,38 +1,40 @@
-ghost use Rattle.std.specs.Prelude.{◌≡◌, [], filter, slice_index_or, IfOk, OnOk, OnErr};
+ghost use Rattle.std.specs.Prelude.{◌≡◌, [], filter, IfOk, OnOk, OnErr};
 ghost use Rattle.cq_value.specs.Changes.{Fit, adds_in};
-ghost use Rattle.cq_value.specs.declared.value.Value.TheVariants.{Null};
-ghost use Rattle.cq_store.specs.Stores.{has_value, has_values, values_at, meets_one, meets_any, steady_spare};
+ghost use Rattle.cq_store.specs.Stores.{has_values, meets_one, meets_any, steady_spare};
 
+use crate::indexes::Indexes;
+use crate::lookup::{copy_matches, copy_named, is_named, is_there, key_values};
 use crate::store::{ColumnValues, Pairs, Store, StoreError};
 use cq_value::{
-    Change, Changes, Duplicate, NoMemory, Numbered, Positions, ReservedTable, Row, Rows, Value,
-    order,
+    Change, Changes, Duplicate, NoMemory, Numbered, Positions, ReservedTable, Row, Rows,
 };
 use std::alloc::Global;
 use std::marker::Model;
 use std::mem;
 
 /// A store in memory, which never fails. While changes are staged its table has room for the rows that they add, so that
-/// a commit takes no memory.
+/// a commit takes no memory. Rows are found by indexes of the columns that were looked for last.
 #[derive(Drop)]
 pub struct MemStore {
     alloc: Global,
     node: u32,
     shard: u64,
     rows: ReservedTable,
+    indexes: Indexes,
     staged: Changes,
 }
 
 impl Model for MemStore {
     ghost use Rattle.std.specs.Prelude.{◌≤◌, true};
     ghost use Rattle.cq_value.specs.Changes.{Fit, adds_in};
+    ghost use Rattle.cq_store.specs.Indexes.{HoldAll};
     ghost use Rattle.cq_store.specs.Stores.{StoreState};
 
     ghost Value = { StoreState };
 
     ghost view = { λ s. record { node = s.node; shard = s.shard; rows = s.rows.table; staged = s.staged; faults = 0; steady = true } };
 
-    ghost invariant = { λ s. Fit s.rows.table s.staged × (adds_in s.staged ≤ s.rows.room) };
+    ghost invariant = { λ s. Fit s.rows.table s.staged × (adds_in s.staged ≤ s.rows.room) × HoldAll s.indexes s.rows.table.pairs };
 }
 
 /// How many of the changes add a row.
@@ -46,75 +48,6 @@ fn count_adds(changes: &Changes) -> u64
         .count() as u64
 }
 
-/// Whether a row has this value in a column, in which NULL stands past the row's end.
-fn is_value_in(row: &Row, column: u32, value: &Value) -> bool
-    ensures { result ≡ has_value column value.now row.now }
-{
-    match row.get(column as u64) {
-        Some(found) => order(found, value).is_eq(),
-        None => order(&Value::Null, value).is_eq(),
-    }
-}
-
-/// Whether a row has each of these values.
-fn has_wanted(row: &Row, wanted: &[(u32, Value)]) -> bool
-    ensures { result ≡ has_values wanted.now row.now }
-{
-    wanted
-        .iter()
-        .all(|(column, value)| is_value_in(row, *column, value))
-}
-
-/// Copies of the rows that have each of these values, with their ids, in order.
-fn copy_matches(
-    alloc: Global,
-    pairs: &[(u64, Row)],
-    wanted: &ColumnValues,
-) -> Result<Pairs, NoMemory>
-    ensures { IfOk result (λ found. found ≡ filter (λ p. has_values wanted.now p.1) pairs.now) }
-{
-    let mut found = Pairs::new(alloc);
-    for (id, row) in pairs {
-        if has_wanted(row, wanted.as_slice()) {
-            found.put((*id, row.copy(alloc)?))?;
-        }
-    }
-    Ok(found)
-}
-
-/// A row's value in a column, NULL past the row's end.
-fn value_at(alloc: Global, row: &Row, column: u32) -> Result<Value, NoMemory>
-    ensures { IfOk result (λ value. value ≡ slice_index_or row.now column Null) }
-{
-    match row.get(column as u64) {
-        Some(value) => value.copy(alloc),
-        None => Ok(Value::Null),
-    }
-}
-
-/// A row's values in the columns of a key, each with its column.
-fn key_values(alloc: Global, key: &[u32], row: &Row) -> Result<ColumnValues, NoMemory>
-    ensures { IfOk result (λ values. values ≡ values_at key.now row.now) }
-{
-    let mut values = ColumnValues::new(alloc);
-    for column in key {
-        values.put((*column, value_at(alloc, row, *column)?))?;
-    }
-    Ok(values)
-}
-
-/// Whether one of the pairs' rows has a row's values in the columns of a key.
-fn meets_row(alloc: Global, pairs: &[(u64, Row)], key: &[u32], row: &Row) -> Result<bool, NoMemory>
-    ensures { IfOk result (λ b. b ≡ meets_one pairs.now key.now row.now) }
-{
-    let wanted = key_values(alloc, key, row)?;
-    Ok(
-        pairs
-            .iter()
-            .any(|(_, there)| has_wanted(there, wanted.as_slice())),
-    )
-}
-
 impl MemStore {
     /// A spare store of a node.
     pub fn new(alloc: Global, node: u32) -> MemStore
@@ -125,6 +58,7 @@ impl MemStore {
             node,
             shard: 0,
             rows: ReservedTable::new(alloc),
+            indexes: Indexes::new(alloc),
             staged: Changes::new(alloc),
         }
     }
@@ -141,7 +75,24 @@ impl MemStore {
         ensures pairs { IfOk result (λ pairs. pairs ≡ filter (λ p. has_values wanted.now p.1) self.old.rows.pairs) }
         ensures same { self.new ≡ self.old }
     {
+        let wanted = wanted.as_slice();
+        if self.indexes.cover(self.alloc, &self.rows, wanted) {
+            return copy_named(self.alloc, &self.rows, self.indexes.first(), wanted);
+        }
         copy_matches(self.alloc, self.rows.pairs(), wanted)
+    }
+
+    /// Whether a row has a row's values in the columns of a key, without the changes staged.
+    fn meets_row(&mut self, key: &[u32], row: &Row) -> Result<bool, NoMemory>
+        ensures met { IfOk result (λ b. b ≡ meets_one self.old.rows.pairs key.now row.now) }
+        ensures same { self.new ≡ self.old }
+    {
+        let values = key_values(self.alloc, key, row)?;
+        let wanted = values.as_slice();
+        if self.indexes.cover(self.alloc, &self.rows, wanted) {
+            return Ok(is_named(&self.rows, self.indexes.first(), wanted));
+        }
+        Ok(is_there(self.rows.pairs(), wanted))
     }
 
     /// Whether a row has the values of one of these rows in the columns of a key, without the changes staged.
@@ -150,7 +101,7 @@ impl MemStore {
         ensures same { self.new ≡ self.old }
     {
         for row in rows.as_slice() {
-            if meets_row(self.alloc, self.rows.pairs(), key.as_slice(), row)? {
+            if self.meets_row(key.as_slice(), row)? {
                 return Ok(true);
             }
         }
@@ -210,6 +161,7 @@ impl Store for MemStore {
 
     fn commit(&mut self) {
         let staged = mem::replace(&mut self.staged, Changes::new(self.alloc));
+        self.indexes.note_all(self.alloc, &staged);
         self.rows.apply_all(staged);
     }
 
@@ -221,5 +173,6 @@ impl Store for MemStore {
         self.shard = 0;
         self.staged = Changes::new(self.alloc);
         self.rows = ReservedTable::new(self.alloc);
+        self.indexes = Indexes::new(self.alloc);
     }
 }
