@@ -1,4 +1,4 @@
--- Over the rows alone that a query of inner joins wants, WHERE keeps the same joined rows.
+-- Over the rows alone that a query of joins wants, WHERE keeps the same joined rows.
 use Rattle.std.proofs.Common.{◌≡◌, ◌⊎◌, inl, inr, ◌+◌, ◌-◌, ◌<◌, ◌≤◌, ℕ, zero, suc, Bool, true, false, cond, not, ◌&&◌, ◌||◌, nat_eq, List, [], ◌∷◌, ◌++◌, filter, map, fold, length, replicate, Option, Some, None, refl, sym, ◌∙◌, ap, subst, arith, length-append, Ordering, Less, Equal, Greater}
 use Rattle.std.specs.Prelude.{nat_le, nat_lt}
 use Rattle.std.specs.List.{list_all, list_any, AllByRecursion}
@@ -17,12 +17,13 @@ use Rattle.cq_meaning.specs.Values.{Row, Tables, column, same_value, table_rows}
 use Rattle.cq_meaning.specs.Logic.{is_yes, met}
 use Rattle.cq_meaning.specs.Expressions.{truth_of, keeps}
 use Rattle.cq_meaning.specs.Groups.{is_known}
-use Rattle.cq_meaning.specs.Joins.{product}
+use Rattle.cq_meaning.specs.Joins.{product, or_else, left_join}
 use Rattle.cq_meaning.specs.Lists.{Has}
 use Rattle.cq_meaning.specs.Queries.{columns_in, joins, from_rows}
-use Rattle.cq_demands.specs.Demands.{demand_of, demands, has_all}
+use Rattle.cq_demands.specs.Demands.{demand_of, demands, has_all, rows_with}
 use Rattle.cq_demands.specs.declared.joins.Leaf.{Leaf}
 use Rattle.cq_demands.specs.JoinDemands.{is_plain, leaves_from, on_demands, tie_of, ties, on_ties, demand_at, carried_by, carried, spread, all_ties, demanded, is_in, in_range, is_demand, is_of_each, wanted_of, wants_of, wants_at, AreWide, IsNarrowed, JoinsKeepWanted}
+use Rattle.cq_demands.proofs.Narrowed.{all_rows}
 use Rattle.cq_demands.proofs.Kept.{two_ways, equal_is, same_itself, yes_both, passing_alike}
 
 and_true : (a b : Bool) → (a && b) ≡ true → (a ≡ true) × (b ≡ true)
@@ -192,6 +193,18 @@ all_product P Q R f [] rs h k = tt
 all_product P Q R f (l ∷ ls) rs h k =
     all_append R (map (λ r. l ++ r) rs) (product ls rs) (all_map R (λ r. l ++ r) rs (all_weaker Q (λ r. R (l ++ r)) (λ r q. f l r h.0 q) rs k)) (all_product P Q R f ls rs h.1 k)
 
+all_or_else : (R : Row → Type 0) (row : Row) (xs : List Row) → R row → AllByRecursion R xs → AllByRecursion R (or_else row xs)
+all_or_else R row [] h k = (h, tt)
+all_or_else R row (x ∷ xs) h k = k
+
+all_left_join : (P Q R : Row → Type 0) → ((l r : Row) → P l → Q r → R (l ++ r)) → (on : Row → Bool) (w : ℕ) (ls rs : List Row) → Q (replicate w Null) → AllByRecursion P ls → AllByRecursion Q rs → AllByRecursion R (left_join on w ls rs)
+all_left_join P Q R f on w [] rs n h k = tt
+all_left_join P Q R f on w (l ∷ ls) rs n h k =
+    all_append R (or_else (l ++ replicate w Null) (filter on (map (λ r. l ++ r) rs))) (left_join on w ls rs)
+    (all_or_else R (l ++ replicate w Null) (filter on (map (λ r. l ++ r) rs)) (f l (replicate w Null) h.0 n)
+    (all_filter R on (map (λ r. l ++ r) rs) (all_map R (λ r. l ++ r) rs (all_weaker Q (λ r. R (l ++ r)) (λ r q. f l r h.0 q) rs k))))
+    (all_left_join P Q R f on w ls rs n h.1 k)
+
 -- ---- what is true of each row of a FROM
 
 abbrev pub Facts : FromTree → ℕ → Row → Type 0
@@ -237,7 +250,19 @@ from_facts (Inner' p (more_of-FromTree a end_of-FromTree) q (more_of-FromTree b 
     (all_product (Facts a start) (Facts b (start + columns_in a)) sides
     (λ l r h k. joined_facts start (columns_in a) (columns_in b) (on_demands a) (on_demands b) (on_ties a) (on_ties b) l r h k)
     (from_rows a start db []) (from_rows b (start + columns_in a) db []) (from_facts a start db both.0 wide.0) (from_facts b (start + columns_in a) db both.1 wide.1))
-from_facts (Left' p a q b on) start db plain wide = cc
+from_facts (Left' p (more_of-FromTree a end_of-FromTree) q (more_of-FromTree b end_of-FromTree) on) start db plain wide =
+    let both = and_true (is_plain a) (is_plain b) plain in
+    let wa : ℕ = columns_in a in
+    let wb : ℕ = columns_in b in
+    let whole : FromTree = Left' p (more_of-FromTree a end_of-FromTree) q (more_of-FromTree b end_of-FromTree) on in
+    all_left_join (Facts a start) (λ (r : Row). length r ≡ wb) (Facts whole start)
+    (λ l r h k. (
+      length-append l r ∙ (λ i. h.0 i + k i),
+      all_weaker (Sure (pad start l)) (Sure (pad start (l ++ r))) (sure_left start l r wa h.0) (on_demands a) h.1,
+      all_weaker (Tied (pad start l)) (Tied (pad start (l ++ r))) (tied_left start l r wa h.0) (on_ties a) h.2,
+    ))
+    (joins on [] start) wb (from_rows a start db []) (from_rows b (start + wa) db []) (nulls_long wb) (from_facts a start db both.0 wide.0)
+    (all_weaker (Facts b (start + wa)) (λ (r : Row). length r ≡ wb) (λ r h. h.0) (from_rows b (start + wa) db []) (from_facts b (start + wa) db both.1 wide.1))
 
 -- ---- tests of the columns of rows
 
@@ -355,6 +380,34 @@ filter_turned p q (x ∷ xs) =
       | inr n ↦ rw n (elim (two_ways (q x)) [ inl k ↦ rw k (rw n more) | inr k ↦ rw k more ])
     ]
 
+-- ---- LEFT JOINs of the left rows that pass
+
+none_pass : (p : Row → Bool) (xs : List Row) → AllByRecursion (λ (x : Row). p x ≡ false) xs → filter p xs ≡ []
+none_pass p [] h = refl
+none_pass p (x ∷ xs) h = rw h.0 (none_pass p xs h.1)
+
+left_only : (p fa on : Row → Bool) (w : ℕ) (ls rs : List Row) → AllByRecursion (λ (l : Row). (x : Row) → p (l ++ x) ≡ true → fa l ≡ true) ls →
+    filter p (left_join on w ls rs) ≡ filter p (left_join on w (filter fa ls) rs)
+left_only p fa on w [] rs h = refl
+left_only p fa on w (l ∷ ls) rs h =
+    let here : List Row = or_else (l ++ replicate w Null) (filter on (map (λ r. l ++ r) rs)) in
+    let more : filter p (left_join on w ls rs) ≡ filter p (left_join on w (filter fa ls) rs) = left_only p fa on w ls rs h.1 in
+    elim (two_ways (fa l)) [
+      | inl y ↦ rw y (
+          filter-append p here (left_join on w ls rs) ∙ ap (λ xs. filter p here ++ xs) more
+          ∙ sym (filter-append p here (left_join on w (filter fa ls) rs)))
+      | inr n ↦ rw n (
+          let fails : (x : Row) → p (l ++ x) ≡ false = λ x. elim (two_ways (p (l ++ x))) [ inl k ↦ (let bad : true ≡ false = sym (h.0 x k) ∙ n in cc) | inr k ↦ k ] in
+          let rest : AllByRecursion (λ (x : Row). p x ≡ false) (filter on (map (λ r. l ++ r) rs)) =
+          all_filter (λ (x : Row). p x ≡ false) on (map (λ r. l ++ r) rs) (all_map (λ (x : Row). p x ≡ false) (λ r. l ++ r) rs (each (λ r. p (l ++ r) ≡ false) fails rs)) in
+          let nothing : filter p here ≡ [] = none_pass p here (all_or_else (λ (x : Row). p x ≡ false) (l ++ replicate w Null) (filter on (map (λ r. l ++ r) rs)) (fails (replicate w Null)) rest) in
+          filter-append p here (left_join on w ls rs) ∙ ap (λ xs. xs ++ filter p (left_join on w ls rs)) nothing ∙ more)
+    ]
+  where
+    each : (P : Row → Type 0) → ((r : Row) → P r) → (rs : List Row) → AllByRecursion P rs
+    each P f [] = tt
+    each P f (r ∷ rs) = (f r, each P f rs)
+
 -- ---- what is wanted of a table is demanded wherever it stands
 
 all_at : {X : Type 0} (p : X → Bool) (xs : List X) (x : X) → list_all p xs ≡ true → Has xs x → p x ≡ true
@@ -375,36 +428,31 @@ module _ (all : List Leaf) (ds : List (ℕ × Value)) where
   ]
 
   -- where the columns of a table have all that is demanded of them, they have what is demanded of one place
+  fits_tail : (q : ℕ × Value) (es : List (ℕ × Value)) (start w : ℕ) (row : Row) → fits (q ∷ es) start w row ≡ true → fits es start w row ≡ true
+  fits_tail q es start w row f = elim (two_ways (is_in start w q.0)) [
+    | inl here ↦ (let fit : (same_value (column row (q.0 - start)) q.1 && fits es start w row) ≡ true = rw here at f in (and_true (same_value (column row (q.0 - start)) q.1) (fits es start w row) fit).1)
+    | inr away ↦ rw away at f
+  ]
+
   place_has : (l : Leaf) (p : ℕ × Value) (es : List (ℕ × Value)) (row : Row) → list_any (is_demand l p) es ≡ true → fits es l.start l.columns row ≡ true → same_value (column row p.0) p.1 ≡ true
   place_has l p [] row a f = cc
-  place_has l p (q ∷ es) row a f = elim (two_ways (is_in l.start l.columns q.0)) [
-    | inl here ↦ (
-        let fit : (same_value (column row (q.0 - l.start)) q.1 && fits es l.start l.columns row) ≡ true = rw here at f in
+  place_has l p (q ∷ es) row a f = elim (two_ways (is_demand l p q)) [
+    | inl it ↦ (
+        let open_ = and_true (not l.padded) (is_in l.start l.columns q.0 && (nat_eq (q.0 - l.start) p.0 && same_value q.1 p.1)) it in
+        let here = and_true (is_in l.start l.columns q.0) (nat_eq (q.0 - l.start) p.0 && same_value q.1 p.1) open_.1 in
+        let these = and_true (nat_eq (q.0 - l.start) p.0) (same_value q.1 p.1) here.1 in
+        let fit : (same_value (column row (q.0 - l.start)) q.1 && fits es l.start l.columns row) ≡ true = rw here.0 at f in
         let parts = and_true (same_value (column row (q.0 - l.start)) q.1) (fits es l.start l.columns row) fit in
-        let some : ((nat_eq (q.0 - l.start) p.0 && same_value q.1 p.1) || list_any (is_demand l p) es) ≡ true = rw here at a in
-        elim (two_ways (nat_eq (q.0 - l.start) p.0 && same_value q.1 p.1)) [
-          | inl it ↦ (
-              let these = and_true (nat_eq (q.0 - l.start) p.0) (same_value q.1 p.1) it in
-              let at : q.0 - l.start ≡ p.0 = same_number (q.0 - l.start) p.0 these.0 in
-              let one : column row (q.0 - l.start) ≡ q.1 = one_of (column row (q.0 - l.start)) q.1 parts.0 in
-              let two : q.1 ≡ p.1 = one_of q.1 p.1 these.1 in
-              same_itself (column row p.0) p.1 (ap (column row) (sym at) ∙ one ∙ two)
-              )
-          | inr other ↦ (let more : list_any (is_demand l p) es ≡ true = rw other at some in place_has l p es row more parts.1)
-        ]
+        let at : q.0 - l.start ≡ p.0 = same_number (q.0 - l.start) p.0 these.0 in
+        let one : column row (q.0 - l.start) ≡ q.1 = is_one (column row (q.0 - l.start)) q.1 parts.0 in
+        let two : q.1 ≡ p.1 = is_one q.1 p.1 these.1 in
+        same_itself (column row p.0) p.1 (ap (column row) (sym at) ∙ one ∙ two)
         )
-    | inr away ↦ (
-        let fit : fits es l.start l.columns row ≡ true = rw away at f in
-        let some : list_any (is_demand l p) es ≡ true = rw away at a in
-        place_has l p es row some fit
-        )
+    | inr other ↦ (let more : list_any (is_demand l p) es ≡ true = rw other at a in place_has l p es row more (fits_tail q es l.start l.columns row f))
   ]
     where
       same_number : (a b : ℕ) → nat_eq a b ≡ true → a ≡ b
       same_number a b e = elim (eqb_tells a b) [ inl y ↦ y.1 | inr n ↦ (let bad : true ≡ false = sym e ∙ n.0 in cc) ]
-
-      one_of : (v w : Value) → same_value v w ≡ true → v ≡ w
-      one_of v w e = is_one v w e
 
   each_has : (l : Leaf) → Has all l → (wanted : List (ℕ × Value)) → AllByRecursion (λ (p : ℕ × Value). is_of_each all ds l.table p ≡ true) wanted → (row : Row) → fits ds l.start l.columns row ≡ true → has_all wanted row ≡ true
   each_has l there [] h row f = refl
@@ -415,7 +463,27 @@ module _ (all : List Leaf) (ds : List (ℕ × Value)) where
       let one : same_value (column row p.0) p.1 ≡ true = place_has l p ds row demand f in
       rw one (each_has l there wanted h.1 row f)
 
+  -- of a table on the right side of a LEFT JOIN nothing is demanded
+  none_demanded : (l : Leaf) (p : ℕ × Value) (es : List (ℕ × Value)) → l.padded ≡ true → list_any (is_demand l p) es ≡ false
+  none_demanded l p [] e = refl
+  none_demanded l p (q ∷ es) e =
+      let first : is_demand l p q ≡ false = ap (λ b. not b && (is_in l.start l.columns q.0 && (nat_eq (q.0 - l.start) p.0 && same_value q.1 p.1))) e in
+      rw first (none_demanded l p es e)
+
+  none_wanted : (l : Leaf) → Has all l → l.padded ≡ true → (wanted : List (ℕ × Value)) → AllByRecursion (λ (p : ℕ × Value). is_of_each all ds l.table p ≡ true) wanted → wanted ≡ []
+  none_wanted l there pads [] h = refl
+  none_wanted l there pads (p ∷ wanted) h =
+      let here : (not (nat_eq l.table l.table) || list_any (is_demand l p) ds) ≡ true = all_at (λ (m : Leaf). not (nat_eq m.table l.table) || list_any (is_demand m p) ds) all l h.0 there in
+      let itself : nat_eq l.table l.table ≡ true = grind arith in
+      let demand : list_any (is_demand l p) ds ≡ true = rw itself at here in
+      let bad : true ≡ false = sym demand ∙ none_demanded l p ds pads in
+      cc
+
   module _ (db dc : Tables) (narrowed : IsNarrowed (wants_of all ds) db dc) where
+    whole_there : (l : Leaf) → Has all l → l.padded ≡ true → table_rows dc l.table ≡ table_rows db l.table
+    whole_there l there pads =
+        narrowed l.table ∙ ap (λ values. rows_with values (table_rows db l.table)) (none_wanted l there pads (wants_at (wants_of all ds) l.table) (wants_pass l.table all)) ∙ all_rows (table_rows db l.table)
+
     leaf_same : (l : Leaf) → Has all l → filter (fits ds l.start l.columns) (table_rows dc l.table) ≡ filter (fits ds l.start l.columns) (table_rows db l.table)
     leaf_same l there =
         ap (filter (fits ds l.start l.columns)) (narrowed l.table)
@@ -427,7 +495,7 @@ module _ (all : List Leaf) (ds : List (ℕ × Value)) where
     narrowed_wide (Result i n) wide = tt
     narrowed_wide (Cross' p (more_of-FromTree a end_of-FromTree) q (more_of-FromTree b end_of-FromTree)) wide = (narrowed_wide a wide.0, narrowed_wide b wide.1)
     narrowed_wide (Inner' p (more_of-FromTree a end_of-FromTree) q (more_of-FromTree b end_of-FromTree) on) wide = (narrowed_wide a wide.0, narrowed_wide b wide.1)
-    narrowed_wide (Left' p a q b on) wide = tt
+    narrowed_wide (Left' p (more_of-FromTree a end_of-FromTree) q (more_of-FromTree b end_of-FromTree) on) wide = (narrowed_wide a wide.0, narrowed_wide b wide.1)
 
     -- the rows of two sides that pass
     sides_same : (start wa wb : ℕ) (us vs cs zs : List Row) → AllByRecursion (λ (row : Row). length row ≡ wa) us → AllByRecursion (λ (row : Row). length row ≡ wa) cs →
@@ -452,9 +520,33 @@ module _ (all : List Leaf) (ds : List (ℕ × Value)) where
     has_back x [] ys h = h
     has_back x (y ∷ xs) ys h = inr (has_back x xs ys h)
 
-    from_same : (f : FromTree) (start : ℕ) → is_plain f ≡ true → AreWide f db → ((l : Leaf) → Has (leaves_from f start) l → Has all l) →
+    -- the right side of a LEFT JOIN has the same rows
+    right_same : (f : FromTree) (start : ℕ) → is_plain f ≡ true → ((l : Leaf) → Has (leaves_from f start true) l → Has all l) → from_rows f start dc [] ≡ from_rows f start db []
+    right_same (Table t n) start plain there = whole_there (record { table = t; start = start; columns = n; padded = true }) (there (record { table = t; start = start; columns = n; padded = true }) (inl refl)) refl
+    right_same (Sub' p q) start plain there = cc
+    right_same (Result i n) start plain there = cc
+    right_same (Cross' p (more_of-FromTree a end_of-FromTree) q (more_of-FromTree b end_of-FromTree)) start plain there =
+        let both = and_true (is_plain a) (is_plain b) plain in
+        let mid : ℕ = start + columns_in a in
+        let x = right_same a start both.0 (λ l h. there l (has_front l (leaves_from a start true) (leaves_from b mid true) h)) in
+        let y = right_same b mid both.1 (λ l h. there l (has_back l (leaves_from a start true) (leaves_from b mid true) h)) in
+        λ i. product (x i) (y i)
+    right_same (Inner' p (more_of-FromTree a end_of-FromTree) q (more_of-FromTree b end_of-FromTree) on) start plain there =
+        let both = and_true (is_plain a) (is_plain b) plain in
+        let mid : ℕ = start + columns_in a in
+        let x = right_same a start both.0 (λ l h. there l (has_front l (leaves_from a start true) (leaves_from b mid true) h)) in
+        let y = right_same b mid both.1 (λ l h. there l (has_back l (leaves_from a start true) (leaves_from b mid true) h)) in
+        λ i. filter (joins on [] start) (product (x i) (y i))
+    right_same (Left' p (more_of-FromTree a end_of-FromTree) q (more_of-FromTree b end_of-FromTree) on) start plain there =
+        let both = and_true (is_plain a) (is_plain b) plain in
+        let mid : ℕ = start + columns_in a in
+        let x = right_same a start both.0 (λ l h. there l (has_front l (leaves_from a start true) (leaves_from b mid true) h)) in
+        let y = right_same b mid both.1 (λ l h. there l (has_back l (leaves_from a start true) (leaves_from b mid true) h)) in
+        λ i. left_join (joins on [] start) (columns_in b) (x i) (y i)
+
+    from_same : (f : FromTree) (start : ℕ) → is_plain f ≡ true → AreWide f db → ((l : Leaf) → Has (leaves_from f start false) l → Has all l) →
         filter (fits ds start (columns_in f)) (from_rows f start dc []) ≡ filter (fits ds start (columns_in f)) (from_rows f start db [])
-    from_same (Table t n) start plain wide there = leaf_same (record { table = t; start = start; columns = n }) (there (record { table = t; start = start; columns = n }) (inl refl))
+    from_same (Table t n) start plain wide there = leaf_same (record { table = t; start = start; columns = n; padded = false }) (there (record { table = t; start = start; columns = n; padded = false }) (inl refl))
     from_same (Sub' p q) start plain wide there = cc
     from_same (Result i n) start plain wide there = cc
     from_same (Cross' p (more_of-FromTree a end_of-FromTree) q (more_of-FromTree b end_of-FromTree)) start plain wide there =
@@ -462,8 +554,8 @@ module _ (all : List Leaf) (ds : List (ℕ × Value)) where
         let wa : ℕ = columns_in a in
         sides_same start wa (columns_in b) (from_rows a start db []) (from_rows b (start + wa) db []) (from_rows a start dc []) (from_rows b (start + wa) dc [])
         (lengths a start db both.0 wide.0) (lengths a start dc both.0 (narrowed_wide a wide.0))
-        (from_same a start both.0 wide.0 (λ l h. there l (has_front l (leaves_from a start) (leaves_from b (start + wa)) h)))
-        (from_same b (start + wa) both.1 wide.1 (λ l h. there l (has_back l (leaves_from a start) (leaves_from b (start + wa)) h)))
+        (from_same a start both.0 wide.0 (λ l h. there l (has_front l (leaves_from a start false) (leaves_from b (start + wa) false) h)))
+        (from_same b (start + wa) both.1 wide.1 (λ l h. there l (has_back l (leaves_from a start false) (leaves_from b (start + wa) false) h)))
     from_same (Inner' p (more_of-FromTree a end_of-FromTree) q (more_of-FromTree b end_of-FromTree) on) start plain wide there =
         let both = and_true (is_plain a) (is_plain b) plain in
         let wa : ℕ = columns_in a in
@@ -471,10 +563,26 @@ module _ (all : List Leaf) (ds : List (ℕ × Value)) where
         filter_turned (fits ds start w) (joins on [] start) (product (from_rows a start dc []) (from_rows b (start + wa) dc []))
         ∙ ap (filter (joins on [] start)) (sides_same start wa (columns_in b) (from_rows a start db []) (from_rows b (start + wa) db []) (from_rows a start dc []) (from_rows b (start + wa) dc [])
         (lengths a start db both.0 wide.0) (lengths a start dc both.0 (narrowed_wide a wide.0))
-        (from_same a start both.0 wide.0 (λ l h. there l (has_front l (leaves_from a start) (leaves_from b (start + wa)) h)))
-        (from_same b (start + wa) both.1 wide.1 (λ l h. there l (has_back l (leaves_from a start) (leaves_from b (start + wa)) h))))
+        (from_same a start both.0 wide.0 (λ l h. there l (has_front l (leaves_from a start false) (leaves_from b (start + wa) false) h)))
+        (from_same b (start + wa) both.1 wide.1 (λ l h. there l (has_back l (leaves_from a start false) (leaves_from b (start + wa) false) h))))
         ∙ sym (filter_turned (fits ds start w) (joins on [] start) (product (from_rows a start db []) (from_rows b (start + wa) db [])))
-    from_same (Left' p a q b on) start plain wide there = cc
+    from_same (Left' p (more_of-FromTree a end_of-FromTree) q (more_of-FromTree b end_of-FromTree) on) start plain wide there =
+        let both = and_true (is_plain a) (is_plain b) plain in
+        let wa : ℕ = columns_in a in
+        let wb : ℕ = columns_in b in
+        let test : Row → Bool = fits ds start (wa + wb) in
+        let front : Row → Bool = fits ds start wa in
+        let needs : Row → Type 0 = λ l. (x : Row) → test (l ++ x) ≡ true → front l ≡ true in
+        let needed : (l : Row) → length l ≡ wa → needs l = λ l long x t. (and_true (front l) (fits ds (start + wa) wb x) (sym (fits_joined ds start wa wb l x long) ∙ t)).0 in
+        let left : filter front (from_rows a start dc []) ≡ filter front (from_rows a start db []) =
+        from_same a start both.0 wide.0 (λ l h. there l (has_front l (leaves_from a start false) (leaves_from b (start + wa) true) h)) in
+        let right : from_rows b (start + wa) dc [] ≡ from_rows b (start + wa) db [] =
+        right_same b (start + wa) both.1 (λ l h. there l (has_back l (leaves_from a start false) (leaves_from b (start + wa) true) h)) in
+        left_only test front (joins on [] start) wb (from_rows a start dc []) (from_rows b (start + wa) dc [])
+        (all_weaker (λ (row : Row). length row ≡ wa) needs needed (from_rows a start dc []) (lengths a start dc both.0 (narrowed_wide a wide.0)))
+        ∙ (λ i. filter test (left_join (joins on [] start) wb (left i) (right i)))
+        ∙ sym (left_only test front (joins on [] start) wb (from_rows a start db []) (from_rows b (start + wa) db [])
+        (all_weaker (λ (row : Row). length row ≡ wa) needs needed (from_rows a start db []) (lengths a start db both.0 wide.0)))
 
 -- ---- what is kept passes
 
@@ -512,7 +620,7 @@ module _ (filter_ : Cond) (from : FromTree) where
 pub joins_keep_wanted : JoinsKeepWanted
 joins_keep_wanted filter_ from db dc plain wide narrowed =
     let ds : List (ℕ × Value) = demanded filter_ from in
-    let all : List Leaf = leaves_from from 0 in
+    let all : List Leaf = leaves_from from 0 false in
     let keep : Row → Bool = keeps filter_ [] in
     let fit : Row → Bool = fits ds 0 (columns_in from) in
     restricted keep fit (from_rows from 0 dc []) (all_fit filter_ from dc plain (narrowed_wide all ds db dc narrowed from wide))

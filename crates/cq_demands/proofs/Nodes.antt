@@ -4,7 +4,7 @@ use Rattle.cq_value.specs.declared.value.Value.{Value}
 use denote.Hole.Carrier.{hidden}
 use Rattle.cq_tree.specs.declared.expression.Cond.{Cond, And}
 use Rattle.cq_tree.specs.declared.expression.Cond.TheBlock.{hidden-the_row-Cond-0}
-use Rattle.cq_tree.specs.declared.query.FromTree.{FromTree, Cross, Inner}
+use Rattle.cq_tree.specs.declared.query.FromTree.{FromTree, Cross, Inner, Left}
 use Rattle.cq_tree.specs.declared.query.FromTree.TheBlock.{hidden-the_row-FromTree-1}
 use Rattle.cq_meaning.specs.Queries.{columns_in}
 use Rattle.cq_demands.specs.Demands.{demands}
@@ -23,13 +23,33 @@ module _ (a b : FromTree) where
   unfolding hidden-the_row-FromTree-1 hidden
   plain_inner on = refl
 
-  pub leaves_cross : (start : ℕ) → leaves_from (Cross a b) start ≡ leaves_from a start ++ leaves_from b (start + columns_in a)
+  pub plain_left : (on : Cond) → is_plain (Left a b on) ≡ (is_plain a && is_plain b)
   unfolding hidden-the_row-FromTree-1 hidden
-  leaves_cross start = refl
+  plain_left on = refl
 
-  pub leaves_inner : (on : Cond) (start : ℕ) → leaves_from (Inner a b on) start ≡ leaves_from a start ++ leaves_from b (start + columns_in a)
+  pub leaves_cross : (start : ℕ) (padded : Bool) → leaves_from (Cross a b) start padded ≡ leaves_from a start padded ++ leaves_from b (start + columns_in a) padded
   unfolding hidden-the_row-FromTree-1 hidden
-  leaves_inner on start = refl
+  leaves_cross start padded = refl
+
+  pub leaves_inner : (on : Cond) (start : ℕ) (padded : Bool) → leaves_from (Inner a b on) start padded ≡ leaves_from a start padded ++ leaves_from b (start + columns_in a) padded
+  unfolding hidden-the_row-FromTree-1 hidden
+  leaves_inner on start padded = refl
+
+  pub leaves_left : (on : Cond) (start : ℕ) (padded : Bool) → leaves_from (Left a b on) start padded ≡ leaves_from a start padded ++ leaves_from b (start + columns_in a) true
+  unfolding hidden-the_row-FromTree-1 hidden
+  leaves_left on start padded = refl
+
+  pub columns_left : (on : Cond) → columns_in (Left a b on) ≡ columns_in a + columns_in b
+  unfolding hidden-the_row-FromTree-1 hidden
+  columns_left on = refl
+
+  pub demands_left : (on : Cond) → on_demands (Left a b on) ≡ on_demands a
+  unfolding hidden-the_row-FromTree-1 hidden
+  demands_left on = refl
+
+  pub ties_left : (on : Cond) → on_ties (Left a b on) ≡ on_ties a
+  unfolding hidden-the_row-FromTree-1 hidden
+  ties_left on = refl
 
   pub columns_cross : columns_in (Cross a b) ≡ columns_in a + columns_in b
   unfolding hidden-the_row-FromTree-1 hidden

@@ -1,4 +1,4 @@
--- What a query of inner joins demands of the rows of its tables, so that other rows needn't be read.
+-- What a query of joins demands of the rows of its tables, so that other rows needn't be read.
 use Rattle.std.specs.Prelude.{◌≡◌, ℕ, ◌+◌, ◌-◌, ⊤, List, [], ◌∷◌, ◌++◌, map, filter, fold, length, Bool, true, false, not, ◌&&◌, ◌||◌, nat_eq, nat_le, nat_lt, if◌then◌else◌, Option, Some, None}
 use Rattle.std.specs.List.{list_any, list_all, AllByRecursion}
 use Rattle.cq_value.specs.declared.value.Value.{Value}
@@ -12,34 +12,34 @@ use Rattle.cq_meaning.specs.Queries.{columns_in, from_rows}
 use Rattle.cq_demands.specs.Demands.{demands, rows_with}
 use Rattle.cq_demands.specs.declared.joins.Leaf.{Leaf}
 
--- tables that CROSS JOIN and inner joins alone join
+-- tables that joins join
 abbrev pub is_plain : FromTree → Bool
 is_plain (Table t n) = true
 is_plain (Sub' p q) = false
 is_plain (Result i n) = false
 is_plain (Cross' p (more_of-FromTree a end_of-FromTree) q (more_of-FromTree b end_of-FromTree)) = is_plain a && is_plain b
 is_plain (Inner' p (more_of-FromTree a end_of-FromTree) q (more_of-FromTree b end_of-FromTree) on) = is_plain a && is_plain b
-is_plain (Left' p a q b on) = false
+is_plain (Left' p (more_of-FromTree a end_of-FromTree) q (more_of-FromTree b end_of-FromTree) on) = is_plain a && is_plain b
 
--- the tables of such a FROM whose first column has the number `start`
-abbrev pub leaves_from : FromTree → ℕ → List Leaf
-leaves_from (Table t n) start = record { table = t; start = start; columns = n } ∷ []
-leaves_from (Sub' p q) start = []
-leaves_from (Result i n) start = []
-leaves_from (Cross' p (more_of-FromTree a end_of-FromTree) q (more_of-FromTree b end_of-FromTree)) start = leaves_from a start ++ leaves_from b (start + columns_in a)
-leaves_from (Inner' p (more_of-FromTree a end_of-FromTree) q (more_of-FromTree b end_of-FromTree) on) start = leaves_from a start ++ leaves_from b (start + columns_in a)
-leaves_from (Left' p a q b on) start = []
+-- the tables of such a FROM whose first column has the number `start`, on the right side of a LEFT JOIN or not
+abbrev pub leaves_from : FromTree → ℕ → Bool → List Leaf
+leaves_from (Table t n) start padded = record { table = t; start = start; columns = n; padded = padded } ∷ []
+leaves_from (Sub' p q) start padded = []
+leaves_from (Result i n) start padded = []
+leaves_from (Cross' p (more_of-FromTree a end_of-FromTree) q (more_of-FromTree b end_of-FromTree)) start padded = leaves_from a start padded ++ leaves_from b (start + columns_in a) padded
+leaves_from (Inner' p (more_of-FromTree a end_of-FromTree) q (more_of-FromTree b end_of-FromTree) on) start padded = leaves_from a start padded ++ leaves_from b (start + columns_in a) padded
+leaves_from (Left' p (more_of-FromTree a end_of-FromTree) q (more_of-FromTree b end_of-FromTree) on) start padded = leaves_from a start padded ++ leaves_from b (start + columns_in a) true
 
 -- ---- what is demanded of the columns
 
--- what the ONs demand
+-- what the ONs of inner joins demand, but for those on the right side of a LEFT JOIN
 abbrev pub on_demands : FromTree → List (ℕ × Value)
 on_demands (Table t n) = []
 on_demands (Sub' p q) = []
 on_demands (Result i n) = []
 on_demands (Cross' p (more_of-FromTree a end_of-FromTree) q (more_of-FromTree b end_of-FromTree)) = on_demands a ++ on_demands b
 on_demands (Inner' p (more_of-FromTree a end_of-FromTree) q (more_of-FromTree b end_of-FromTree) on) = (on_demands a ++ on_demands b) ++ demands on
-on_demands (Left' p a q b on) = []
+on_demands (Left' p (more_of-FromTree a end_of-FromTree) q b on) = on_demands a
 
 -- the columns of `x = y`
 abbrev pub tie_of : Cond → List (ℕ × ℕ)
@@ -51,14 +51,14 @@ abbrev pub ties : Cond → List (ℕ × ℕ)
 ties (And' p (more_of-Cond a end_of-Cond) q (more_of-Cond b end_of-Cond)) = ties a ++ ties b
 ties c = tie_of c
 
--- those of the ONs
+-- those of these ONs
 abbrev pub on_ties : FromTree → List (ℕ × ℕ)
 on_ties (Table t n) = []
 on_ties (Sub' p q) = []
 on_ties (Result i n) = []
 on_ties (Cross' p (more_of-FromTree a end_of-FromTree) q (more_of-FromTree b end_of-FromTree)) = on_ties a ++ on_ties b
 on_ties (Inner' p (more_of-FromTree a end_of-FromTree) q (more_of-FromTree b end_of-FromTree) on) = (on_ties a ++ on_ties b) ++ ties on
-on_ties (Left' p a q b on) = []
+on_ties (Left' p (more_of-FromTree a end_of-FromTree) q b on) = on_ties a
 
 -- the value that is demanded of a column
 abbrev pub demand_at : List (ℕ × Value) → ℕ → Option Value
@@ -96,9 +96,9 @@ is_in start n x = nat_le start x && nat_lt (x - start) n
 abbrev pub in_range : ℕ → ℕ → List (ℕ × Value) → List (ℕ × Value)
 in_range start n ds = map (λ (p : ℕ × Value). (p.0 - start, p.1)) (filter (λ (p : ℕ × Value). is_in start n p.0) ds)
 
--- whether that is demanded of a place of a table
+-- whether that is demanded of a place of a table. Of the right side of a LEFT JOIN nothing is, since it has padded rows too
 abbrev pub is_demand : Leaf → ℕ × Value → ℕ × Value → Bool
-is_demand l p q = is_in l.start l.columns q.0 && (nat_eq (q.0 - l.start) p.0 && same_value q.1 p.1)
+is_demand l p q = not l.padded && (is_in l.start l.columns q.0 && (nat_eq (q.0 - l.start) p.0 && same_value q.1 p.1))
 
 -- whether it is demanded wherever the table stands in the FROM
 abbrev pub is_of_each : List Leaf → List (ℕ × Value) → ℕ → ℕ × Value → Bool
@@ -122,7 +122,7 @@ wants_at (w ∷ ws) table = if nat_eq w.0 table then w.1 else wants_at ws table
 
 -- what a query wants by its WHERE and its FROM
 abbrev pub wants_in : Cond → FromTree → Wants
-wants_in filter_ from = wants_of (leaves_from from 0) (demanded filter_ from)
+wants_in filter_ from = wants_of (leaves_from from 0 false) (demanded filter_ from)
 
 -- tables with the rows alone that have what is wanted
 abbrev pub narrow : Wants → Tables → Tables
@@ -137,7 +137,7 @@ AreWide (Sub' p q) db = ⊤
 AreWide (Result i n) db = ⊤
 AreWide (Cross' p (more_of-FromTree a end_of-FromTree) q (more_of-FromTree b end_of-FromTree)) db = AreWide a db × AreWide b db
 AreWide (Inner' p (more_of-FromTree a end_of-FromTree) q (more_of-FromTree b end_of-FromTree) on) db = AreWide a db × AreWide b db
-AreWide (Left' p a q b on) db = ⊤
+AreWide (Left' p (more_of-FromTree a end_of-FromTree) q (more_of-FromTree b end_of-FromTree) on) db = AreWide a db × AreWide b db
 
 -- of each table the second database has the rows alone that have what is wanted
 abbrev pub IsNarrowed : Wants → Tables → Tables → Type 0

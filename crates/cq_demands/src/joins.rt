@@ -1,4 +1,4 @@
-ghost use Rattle.std.specs.Prelude.{◌≡◌, ◌+◌, ◌++◌, IfOk, OnOk};
+ghost use Rattle.std.specs.Prelude.{◌≡◌, ◌+◌, ◌++◌, false, IfOk, OnOk};
 ghost use Rattle.cq_meaning.specs.Queries.{columns_in};
 ghost use Rattle.cq_demands.specs.JoinDemands.{is_plain as is_plain_by_rule, leaves_from, on_demands, tie_of, ties as ties_by_rule, on_ties, all_ties};
 
@@ -7,12 +7,14 @@ use cq_tree::{Cond, Expr, FromTree, Op};
 use cq_value::{Items, NoMemory};
 use std::alloc::Global;
 
-/// A table of a FROM: its number, the number of its first column, and how many columns it has.
+/// A table of a FROM: its number, the number of its first column, how many columns it has, and whether it is on the right side of
+/// a LEFT JOIN.
 #[derive(Clone, Copy, Debug, PartialEq, Eq)]
 pub struct Leaf {
     pub table: u32,
     pub start: u64,
     pub columns: u32,
+    pub padded: bool,
 }
 
 pub type Leaves = Items<Leaf>;
@@ -20,7 +22,7 @@ pub type Leaves = Items<Leaf>;
 /// Pairs of columns that have one value.
 pub type Ties = Items<(u32, u32)>;
 
-/// Whether a FROM is tables that CROSS JOIN and inner joins alone join.
+/// Whether a FROM is tables that joins join.
 pub fn is_plain(from: &FromTree) -> bool
     ensures { result ≡ is_plain_by_rule from.now }
 {
@@ -28,7 +30,8 @@ pub fn is_plain(from: &FromTree) -> bool
         FromTree::Table(..) => true,
         FromTree::Cross(a, b) => is_plain(a.get()) && is_plain(b.get()),
         FromTree::Inner(a, b, _) => is_plain(a.get()) && is_plain(b.get()),
-        FromTree::Sub(_) | FromTree::Result(..) | FromTree::Left(..) => false,
+        FromTree::Left(a, b, _) => is_plain(a.get()) && is_plain(b.get()),
+        FromTree::Sub(_) | FromTree::Result(..) => false,
     }
 }
 
@@ -42,10 +45,15 @@ fn plus(a: u64, b: u64) -> Result<u64, NoMemory>
     }
 }
 
-/// Puts the tables of a FROM whose first column has the number `start` last, and gives the number of the column behind it. At
-/// another join or a subquery it gives up.
-fn put_leaves(leaves: &mut Leaves, from: &FromTree, start: u64) -> Result<u64, NoMemory>
-    ensures leaves { OnOk result (leaves.new ≡ leaves.old ++ leaves_from from.now start) }
+/// Puts the tables of a FROM whose first column has the number `start` last, and gives the number of the column behind it. At a
+/// subquery it gives up.
+fn put_leaves(
+    leaves: &mut Leaves,
+    from: &FromTree,
+    start: u64,
+    padded: bool,
+) -> Result<u64, NoMemory>
+    ensures leaves { OnOk result (leaves.new ≡ leaves.old ++ leaves_from from.now start padded) }
     ensures end { IfOk result (λ end. end ≡ start + columns_in from.now) }
 {
     match from {
@@ -54,33 +62,38 @@ fn put_leaves(leaves: &mut Leaves, from: &FromTree, start: u64) -> Result<u64, N
                 table: *table,
                 start,
                 columns: *columns,
+                padded,
             })?;
             plus(start, u64::from(*columns))
         }
         FromTree::Cross(a, b) => {
-            let middle = put_leaves(leaves, a.get(), start)?;
-            put_leaves(leaves, b.get(), middle)
+            let middle = put_leaves(leaves, a.get(), start, padded)?;
+            put_leaves(leaves, b.get(), middle, padded)
         }
         FromTree::Inner(a, b, _) => {
-            let middle = put_leaves(leaves, a.get(), start)?;
-            put_leaves(leaves, b.get(), middle)
+            let middle = put_leaves(leaves, a.get(), start, padded)?;
+            put_leaves(leaves, b.get(), middle, padded)
         }
-        FromTree::Sub(_) | FromTree::Result(..) | FromTree::Left(..) => Err(NoMemory),
+        FromTree::Left(a, b, _) => {
+            let middle = put_leaves(leaves, a.get(), start, padded)?;
+            put_leaves(leaves, b.get(), middle, true)
+        }
+        FromTree::Sub(_) | FromTree::Result(..) => Err(NoMemory),
     }
 }
 
 /// The tables of a FROM.
 ///
-/// Errors: it has another join or a subquery, or want of memory.
+/// Errors: it has a subquery, or want of memory.
 pub fn leaves_of(alloc: Global, from: &FromTree) -> Result<Leaves, NoMemory>
-    ensures { IfOk result (λ leaves. leaves ≡ leaves_from from.now 0) }
+    ensures { IfOk result (λ leaves. leaves ≡ leaves_from from.now 0 false) }
 {
     let mut leaves = Leaves::new(alloc);
-    put_leaves(&mut leaves, from, 0)?;
+    put_leaves(&mut leaves, from, 0, false)?;
     Ok(leaves)
 }
 
-/// Puts what the ONs of a FROM demand behind the rest.
+/// Puts what the ONs of the inner joins of a FROM demand behind the rest, but for those on the right side of a LEFT JOIN.
 pub(crate) fn put_on_demands(
     alloc: Global,
     wanted: &mut Wanted,
@@ -98,9 +111,8 @@ pub(crate) fn put_on_demands(
             put_on_demands(alloc, wanted, b.get())?;
             put_demands(alloc, wanted, on)
         }
-        FromTree::Table(..) | FromTree::Sub(_) | FromTree::Result(..) | FromTree::Left(..) => {
-            Ok(())
-        }
+        FromTree::Left(a, _, _) => put_on_demands(alloc, wanted, a.get()),
+        FromTree::Table(..) | FromTree::Sub(_) | FromTree::Result(..) => Ok(()),
     }
 }
 
@@ -136,7 +148,7 @@ fn put_ties(ties: &mut Ties, condition: &Cond) -> Result<(), NoMemory>
     }
 }
 
-/// Puts those of the ONs of a FROM behind the rest.
+/// Puts those of the ONs of the inner joins of a FROM behind the rest, but for those on the right side of a LEFT JOIN.
 fn put_on_ties(ties: &mut Ties, from: &FromTree) -> Result<(), NoMemory>
     ensures { OnOk result (ties.new ≡ ties.old ++ on_ties from.now) }
 {
@@ -150,9 +162,8 @@ fn put_on_ties(ties: &mut Ties, from: &FromTree) -> Result<(), NoMemory>
             put_on_ties(ties, b.get())?;
             put_ties(ties, on)
         }
-        FromTree::Table(..) | FromTree::Sub(_) | FromTree::Result(..) | FromTree::Left(..) => {
-            Ok(())
-        }
+        FromTree::Left(a, _, _) => put_on_ties(ties, a.get()),
+        FromTree::Table(..) | FromTree::Sub(_) | FromTree::Result(..) => Ok(()),
     }
 }
 

@@ -78,11 +78,13 @@ fn is_in(leaf: Leaf, column: u32) -> bool
     leaf.start <= column && column - leaf.start < u64::from(leaf.columns)
 }
 
-/// Whether what is demanded of a column is this demand of a place of a table.
+/// Whether what is demanded of a column is this demand of a place of a table. Of the right side of a LEFT JOIN nothing is demanded, since
+/// that has padded rows too.
 fn is_demand(leaf: Leaf, wanted: &(u32, Value), other: &(u32, Value)) -> bool
     ensures { result ≡ is_demand_by_rule leaf wanted.now other.now }
 {
-    is_in(leaf, other.0)
+    !leaf.padded
+        && is_in(leaf, other.0)
         && (u64::from(other.0) - leaf.start == u64::from(wanted.0)
             && order(&other.1, &wanted.1).is_eq())
 }
@@ -144,10 +146,10 @@ fn wants_of(alloc: Global, leaves: &[Leaf], demanded: &[(u32, Value)]) -> Result
     Ok(wants)
 }
 
-/// The values that a query of inner joins wants of the rows of its tables: those that its WHERE and its ONs demand wherever the
-/// table stands in its FROM, be it by way of equal columns.
+/// The values that a query of joins wants of the rows of its tables: those that its WHERE and the ONs of its inner joins demand wherever
+/// the table stands in its FROM, be it by way of equal columns. Of a table on the right side of a LEFT JOIN it wants all rows.
 ///
-/// Errors: the FROM has another join or a subquery, or want of memory.
+/// Errors: the FROM has a subquery, or want of memory.
 pub fn wants_in(alloc: Global, filter: &Cond, from: &FromTree) -> Result<Wants, NoMemory>
     ensures { IfOk result (λ wants. wants ≡ wants_in_by_rule filter.now from.now) }
 {

@@ -74,23 +74,25 @@ laid_both c (x ∷ xs) ys h =
     let rest = laid_both c xs ys first.1 in
     (rw (first.0, rest.0) refl, rest.1)
 
-pub laid_wide : (c : Contents) (f : FromTree) (start : ℕ) (db : Tables) → ((t : ℕ) → AllWithin (column_bits c t) (table_rows db t)) → are_laid c (leaves_from f start) ≡ true → AreWide f db
-laid_wide c (Table t n) start db within laid =
+pub laid_wide : (c : Contents) (f : FromTree) (start : ℕ) (padded : Bool) (db : Tables) → ((t : ℕ) → AllWithin (column_bits c t) (table_rows db t)) → are_laid c (leaves_from f start padded) ≡ true → AreWide f db
+laid_wide c (Table t n) start padded db within laid =
     let bits : List ℕ = column_bits c t in
     let long : length bits ≡ n = length-map (shape_in c t).kinds bits_of_kind ∙ same_number (length (shape_in c t).kinds) n (and_both (nat_eq (length (shape_in c t).kinds) n) true laid).0 in
     all_weaker (Within bits) (λ (row : Row). length row ≡ n) (λ row h. within_long bits row h ∙ long) (table_rows db t) (within t)
   where
     same_number : (a b : ℕ) → nat_eq a b ≡ true → a ≡ b
     same_number a b e = elim (eqb_tells a b) [ inl y ↦ y.1 | inr n ↦ (let bad : true ≡ false = sym e ∙ n.0 in cc) ]
-laid_wide c (Sub' p q) start db within laid = tt
-laid_wide c (Result i n) start db within laid = tt
-laid_wide c (Cross' p (more_of-FromTree a end_of-FromTree) q (more_of-FromTree b end_of-FromTree)) start db within laid =
-    let both = laid_both c (leaves_from a start) (leaves_from b (start + columns_in a)) laid in
-    (laid_wide c a start db within both.0, laid_wide c b (start + columns_in a) db within both.1)
-laid_wide c (Inner' p (more_of-FromTree a end_of-FromTree) q (more_of-FromTree b end_of-FromTree) on) start db within laid =
-    let both = laid_both c (leaves_from a start) (leaves_from b (start + columns_in a)) laid in
-    (laid_wide c a start db within both.0, laid_wide c b (start + columns_in a) db within both.1)
-laid_wide c (Left' p a q b on) start db within laid = tt
+laid_wide c (Sub' p q) start padded db within laid = tt
+laid_wide c (Result i n) start padded db within laid = tt
+laid_wide c (Cross' p (more_of-FromTree a end_of-FromTree) q (more_of-FromTree b end_of-FromTree)) start padded db within laid =
+    let both = laid_both c (leaves_from a start padded) (leaves_from b (start + columns_in a) padded) laid in
+    (laid_wide c a start padded db within both.0, laid_wide c b (start + columns_in a) padded db within both.1)
+laid_wide c (Inner' p (more_of-FromTree a end_of-FromTree) q (more_of-FromTree b end_of-FromTree) on) start padded db within laid =
+    let both = laid_both c (leaves_from a start padded) (leaves_from b (start + columns_in a) padded) laid in
+    (laid_wide c a start padded db within both.0, laid_wide c b (start + columns_in a) padded db within both.1)
+laid_wide c (Left' p (more_of-FromTree a end_of-FromTree) q (more_of-FromTree b end_of-FromTree) on) start padded db within laid =
+    let both = laid_both c (leaves_from a start padded) (leaves_from b (start + columns_in a) true) laid in
+    (laid_wide c a start padded db within both.0, laid_wide c b (start + columns_in a) true db within both.1)
 
 -- ---- the answer over them is one over all rows
 
@@ -99,21 +101,21 @@ module _ (c : Contents) (q : Query) (ts : Tables) (within : (t : ℕ) → AllWit
   wanted_safe wants readable = readable.safe (merged (narrow wants ts)) (λ t. narrowed_within wants ts (column_bits c t) t (within t))
 
   module _ (plainly : joins_plainly c q ≡ true) where
-    tests : (is_alone q ≡ true) × ((is_plain (out-Query q).from && are_laid c (leaves_from (out-Query q).from 0)) ≡ true)
-    tests = and_both (is_alone q) (is_plain (out-Query q).from && are_laid c (leaves_from (out-Query q).from 0)) plainly
+    tests : (is_alone q ≡ true) × ((is_plain (out-Query q).from && are_laid c (leaves_from (out-Query q).from 0 false)) ≡ true)
+    tests = and_both (is_alone q) (is_plain (out-Query q).from && are_laid c (leaves_from (out-Query q).from 0 false)) plainly
 
-    of_from : (is_plain (out-Query q).from ≡ true) × (are_laid c (leaves_from (out-Query q).from 0) ≡ true)
-    of_from = and_both (is_plain (out-Query q).from) (are_laid c (leaves_from (out-Query q).from 0)) tests.1
+    of_from : (is_plain (out-Query q).from ≡ true) × (are_laid c (leaves_from (out-Query q).from 0 false) ≡ true)
+    of_from = and_both (is_plain (out-Query q).from) (are_laid c (leaves_from (out-Query q).from 0 false)) tests.1
 
     abbrev some : Tables
     some = merged (narrow (wants_in (out-Query q).filter (out-Query q).from) ts)
 
     plain_computes : (names : List (List ℕ)) (a : Answer) → Computes q some names a → Computes q (merged ts) names a
     plain_computes names (answer.Table ns rows) h =
-        let law = joins_suffice q (merged ts) some tests.0 of_from.0 (laid_wide c (out-Query q).from 0 (merged ts) within of_from.1) (is_narrowed (wants_in (out-Query q).filter (out-Query q).from) ts) in
+        let law = joins_suffice q (merged ts) some tests.0 of_from.0 (laid_wide c (out-Query q).from 0 false (merged ts) within of_from.1) (is_narrowed (wants_in (out-Query q).filter (out-Query q).from) ts) in
         (h.0, law.0 rows h.1)
     plain_computes names (answer.Failed (fault.Limit what.Rows k)) h =
-        let law = joins_suffice q (merged ts) some tests.0 of_from.0 (laid_wide c (out-Query q).from 0 (merged ts) within of_from.1) (is_narrowed (wants_in (out-Query q).filter (out-Query q).from) ts) in
+        let law = joins_suffice q (merged ts) some tests.0 of_from.0 (laid_wide c (out-Query q).from 0 false (merged ts) within of_from.1) (is_narrowed (wants_in (out-Query q).filter (out-Query q).from) ts) in
         (h.0, elim h.1 [ inl big ↦ absurd (no_large_step q some tests.0 big) | inr large ↦ inr (law.1 large) ])
     plain_computes names (answer.Failed fault.Memory) h = tt
     plain_computes names a h = absurd h

@@ -1,5 +1,5 @@
 -- Which tables a query reads in which groups, and all rows that were read of a table.
-use Rattle.std.specs.Prelude.{ℕ, Option, Some, None, List, [], ◌∷◌, ◌++◌, map, filter, fold, length, Bool, not, ◌&&◌, if◌then◌else◌, nat_eq, slice_get}
+use Rattle.std.specs.Prelude.{ℕ, Option, Some, None, List, [], ◌∷◌, ◌++◌, map, filter, fold, length, Bool, false, not, ◌&&◌, if◌then◌else◌, nat_eq, slice_get}
 use Rattle.std.specs.List.{list_all}
 use Rattle.cq_store.specs.Stores.{has_values}
 use Rattle.cq_meaning.specs.Values.{Row, Tables}
@@ -57,9 +57,9 @@ wanted_of groups q s = (s.table, filter (has_values (demands (out-Query q).filte
 abbrev pub are_laid : Contents → List Leaf → Bool
 are_laid c leaves = list_all (λ (l : Leaf). nat_eq (length (shape_in c l.table).kinds) l.columns) leaves
 
--- whether a query without CTEs and IN subqueries reads tables alone that inner joins join
+-- whether a query without CTEs and IN subqueries reads tables alone
 abbrev pub joins_plainly : Contents → Query → Bool
-joins_plainly c q = is_alone q && (is_plain (out-Query q).from && are_laid c (leaves_from (out-Query q).from 0))
+joins_plainly c q = is_alone q && (is_plain (out-Query q).from && are_laid c (leaves_from (out-Query q).from 0 false))
 
 -- what such a query wants of its tables' rows; others want all
 abbrev pub wants_by : Contents → Query → Wants

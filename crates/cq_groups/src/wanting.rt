@@ -1,4 +1,4 @@
-ghost use Rattle.std.specs.Prelude.{◌≡◌, ◌&&◌, length, nat_eq, IfOk};
+ghost use Rattle.std.specs.Prelude.{◌≡◌, false, length, IfOk};
 ghost use Rattle.cq_tree.specs.declared.query.Query.{out-Query};
 ghost use Rattle.cq_planning.specs.Database.{shape_in};
 ghost use Rattle.cq_demands.specs.JoinDemands.{leaves_from};
@@ -29,15 +29,15 @@ fn are_laid(catalog: &Catalog, leaves: &[Leaf]) -> bool
     leaves.iter().all(|leaf| count_columns(catalog, leaf.table) == u64::from(leaf.columns))
 }
 
-/// Whether the tables of a query whose FROM is tables that inner joins join have as many columns there as in the catalogue.
+/// Whether the tables of a query that reads tables alone have as many columns in its FROM as in the catalogue.
 fn is_laid(alloc: Global, catalog: &Catalog, query: &Query) -> Result<bool, NoMemory>
-    ensures { IfOk result (λ laid. laid ≡ are_laid_by_rule catalog.now (leaves_from (out-Query query.now).from 0)) }
+    ensures { IfOk result (λ laid. laid ≡ are_laid_by_rule catalog.now (leaves_from (out-Query query.now).from 0 false)) }
 {
     let leaves = leaves_of(alloc, &query.from)?;
     Ok(are_laid(catalog, leaves.as_slice()))
 }
 
-/// Whether a query without CTEs and IN subqueries reads tables alone that inner joins join.
+/// Whether a query without CTEs and IN subqueries reads tables alone.
 fn joins_plainly(alloc: Global, catalog: &Catalog, query: &Query) -> Result<bool, NoMemory>
     ensures { IfOk result (λ plainly. plainly ≡ joins_plainly_by_rule catalog.now query.now) }
 {
@@ -50,8 +50,8 @@ fn joins_plainly(alloc: Global, catalog: &Catalog, query: &Query) -> Result<bool
     is_laid(alloc, catalog, query)
 }
 
-/// The values that a query wants of its tables' rows: where it has neither CTEs nor IN subqueries and reads tables alone that inner
-/// joins join, those that its WHERE and its ONs demand. Other queries want all rows.
+/// The values that a query wants of its tables' rows: where it has neither CTEs nor subqueries and so reads tables alone, those that its
+/// WHERE and the ONs of its inner joins demand. Other queries want all rows.
 pub fn wants_of(alloc: Global, catalog: &Catalog, query: &Query) -> Result<Wants, NoMemory>
     ensures { IfOk result (λ wants. wants ≡ wants_by catalog.now query.now) }
 {

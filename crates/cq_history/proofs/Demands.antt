@@ -53,7 +53,7 @@ wanted_suffice q t n db dc h from has = (
   λ l. alone_large q db h ∙ sym (wanted_large q t n db dc from has) ∙ sym (alone_large q dc h) ∙ l,
 )
 
--- ---- inner joins
+-- ---- joins
 
 joins_answer : (q : Query) (db dc : Tables) (rows : List Row) → is_plain (out-Query q).from ≡ true → AreWide (out-Query q).from db → IsNarrowed (wants_in (out-Query q).filter (out-Query q).from) db dc →
     AnswersWith q dc [] rows → AnswersWith q db [] rows
@@ -78,7 +78,8 @@ plain_small (Cross' p (more_of-FromTree a end_of-FromTree) q (more_of-FromTree b
     let both = both_plain (is_plain a) (is_plain b) e in rw (plain_small a db both.0) (plain_small b db both.1)
 plain_small (Inner' p (more_of-FromTree a end_of-FromTree) q (more_of-FromTree b end_of-FromTree) on) db e =
     let both = both_plain (is_plain a) (is_plain b) e in rw (plain_small a db both.0) (plain_small b db both.1)
-plain_small (Left' p a q b on) db e = cc
+plain_small (Left' p (more_of-FromTree a end_of-FromTree) q (more_of-FromTree b end_of-FromTree) on) db e =
+    let both = both_plain (is_plain a) (is_plain b) e in rw (plain_small a db both.0) (plain_small b db both.1)
 
 joins_large : (q : Query) (db dc : Tables) → is_plain (out-Query q).from ≡ true → AreWide (out-Query q).from db → IsNarrowed (wants_in (out-Query q).filter (out-Query q).from) db dc → is_large q dc [] ≡ is_large q db []
 unfolding out-Query denote.Hole.Carrier.out

@@ -179,7 +179,7 @@ abbrev pub WantedSuffice : Type 0
 WantedSuffice = (q : Query) (table n : ℕ) (db dc : Tables) → is_alone q ≡ true → (out-Query q).from ≡ Table table n → HasWanted q table db dc →
     ((rows : List Row) → Answers q dc rows → Answers q db rows) × (IsLarge q dc → IsLarge q db)
 
--- where its FROM is tables that inner joins join, no rows matter but those that have what is wanted of their tables
+-- where its FROM is tables that joins join, no rows matter but those that have what is wanted of their tables
 abbrev pub JoinsSuffice : Type 0
 JoinsSuffice = (q : Query) (db dc : Tables) → is_alone q ≡ true → is_plain (out-Query q).from ≡ true → AreWide (out-Query q).from db → IsNarrowed (wants_in (out-Query q).filter (out-Query q).from) db dc →
     ((rows : List Row) → Answers q dc rows → Answers q db rows) × (IsLarge q dc → IsLarge q db)

@@ -27,8 +27,8 @@ pub fn statement_laws()
     ensures grows_in_one { GrowsInOne }
 {}
 
-/// On which rows a query of one table without CTE and IN subquery depends: those that WHERE can keep; and of inner joins of tables: those
-/// that have what WHERE and the ONs demand of their table. Does nothing.
+/// On which rows a query of one table without CTE and IN subquery depends: those that WHERE can keep; and of joined tables: those that have
+/// what WHERE and the ONs demand of their table. Does nothing.
 pub fn query_laws()
     ensures demands { KeptHasDemands }
     ensures wanted { WantedSuffice }

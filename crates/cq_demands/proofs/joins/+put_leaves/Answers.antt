@@ -1,5 +1,5 @@
 use Rattle.std.proofs.Common.{rules, append_assoc, arith}
-use Rattle.cq_demands.proofs.Nodes.{leaves_cross, leaves_inner, columns_cross, columns_inner}
+use Rattle.cq_demands.proofs.Nodes.{leaves_cross, leaves_inner, leaves_left, columns_cross, columns_inner, columns_left}
 use Rattle.cq_demands.proofs.joins.+put_leaves.Goals as goal
 
 pub returns-in_ok-middle-in-Cross-clause-leaves : goal.returns-in_ok-middle-in-Cross-clause-leaves
@@ -13,3 +13,9 @@ returns-in_ok-middle-in-Inner-clause-leaves t c = rw (c.in-Inner.is, leaves_inne
 
 pub returns-in_ok-middle-in-Inner-clause-end : goal.returns-in_ok-middle-in-Inner-clause-end
 returns-in_ok-middle-in-Inner-clause-end t c = rw (c.in-Inner.is, columns_inner) (search (rules, arith))
+
+pub returns-in_ok-middle-in-Left-clause-leaves : goal.returns-in_ok-middle-in-Left-clause-leaves
+returns-in_ok-middle-in-Left-clause-leaves t c = rw (c.in-Left.is, leaves_left) (search (rules, append_assoc))
+
+pub returns-in_ok-middle-in-Left-clause-end : goal.returns-in_ok-middle-in-Left-clause-end
+returns-in_ok-middle-in-Left-clause-end t c = rw (c.in-Left.is, columns_left) (search (rules, arith))
