@@ -6,7 +6,7 @@ use Rattle.cq_value.specs.declared.value.Value.{Value}
 use Rattle.cq_catalog.specs.declared.info.TableInfo.{TableInfo}
 use Rattle.cq_copy.specs.declared.error.CopyError.{CopyError}
 use Rattle.cq_copy.specs.declared.format.Format.{Format}
-use Rattle.cq_copy.specs.Rows.{Row, after, value_at, filled, row_of_line, rows_of_lines}
+use Rattle.cq_copy.specs.Rows.{Row, after, value_at, filled, rows_from}
 
 -- ---- the fields of a row
 
@@ -42,19 +42,17 @@ one_row : (rows : List Row) (v : Row) (o : Result (List Row) CopyError) → ahea
 one_row rows v (Ok more) = ap (λ rs. Ok rs) (sym (append_assoc rows (v ∷ []) more))
 one_row rows v (Err e) = refl
 
-pub row_read : (t : TableInfo) (listed : List ℕ) (n : ℕ) (line : List ℕ) (more : List (List ℕ)) (rows : List Row) (v : Row) → row_of_line t listed n line ≡ Ok v
-    → ahead rows (rows_of_lines t listed n (line ∷ more)) ≡ ahead (rows ++ v ∷ []) (rows_of_lines t listed (n + 1) more)
-unfolding rows_of_lines
-row_read t listed n line more rows v e = ap (λ r. ahead rows (after r (λ values. after (rows_of_lines t listed (n + 1) more) (λ rows. Ok (values ∷ rows))))) e ∙ one_row rows v (rows_of_lines t listed (n + 1) more)
+pub row_read : {X : Type 0} (row_of : ℕ → X → Result Row CopyError) (n : ℕ) (x : X) (xs : List X) (rows : List Row) (row : Row) → row_of n x ≡ Ok row → ahead rows (rows_from row_of n (x ∷ xs)) ≡ ahead (rows ++ row ∷ []) (rows_from row_of (n + 1) xs)
+unfolding rows_from
+row_read row_of n x xs rows row e = ap (λ r. ahead rows (after r (λ row. after (rows_from row_of (n + 1) xs) (λ rows. Ok (row ∷ rows))))) e ∙ one_row rows row (rows_from row_of (n + 1) xs)
 
-pub row_refused : (t : TableInfo) (listed : List ℕ) (n : ℕ) (line : List ℕ) (more : List (List ℕ)) (rows : List Row) (why : CopyError) → row_of_line t listed n line ≡ Err why
-    → ahead rows (rows_of_lines t listed n (line ∷ more)) ≡ Err why
-unfolding rows_of_lines
-row_refused t listed n line more rows why e = ap (λ r. ahead rows (after r (λ values. after (rows_of_lines t listed (n + 1) more) (λ rows. Ok (values ∷ rows))))) e
+pub row_refused : {X : Type 0} (row_of : ℕ → X → Result Row CopyError) (n : ℕ) (x : X) (xs : List X) (rows : List Row) (why : CopyError) → row_of n x ≡ Err why → ahead rows (rows_from row_of n (x ∷ xs)) ≡ Err why
+unfolding rows_from
+row_refused row_of n x xs rows why e = ap (λ r. ahead rows (after r (λ row. after (rows_from row_of (n + 1) xs) (λ rows. Ok (row ∷ rows))))) e
 
-pub rows_done : (t : TableInfo) (listed : List ℕ) (n : ℕ) (rows : List Row) → ahead rows (rows_of_lines t listed n []) ≡ Ok rows
-unfolding rows_of_lines
-rows_done t listed n rows = ap (λ rs. Ok rs) (append-nil rows)
+pub rows_done : {X : Type 0} (row_of : ℕ → X → Result Row CopyError) (n : ℕ) (rows : List Row) → ahead rows (rows_from row_of n []) ≡ Ok rows
+unfolding rows_from
+rows_done row_of n rows = ap (λ rs. Ok rs) (append-nil rows)
 
 pub rows_begin : (o : Result (List Row) CopyError) → o ≡ ahead [] o
 rows_begin (Ok rows) = refl

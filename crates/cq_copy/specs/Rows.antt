@@ -115,14 +115,14 @@ row_of_fields f t listed row fields =
 unfoldable pub row_of_line : TableInfo → List ℕ → ℕ → List ℕ → Result Row CopyError
 row_of_line t listed row line = if is_utf8 line then row_of_fields format.Text t listed row (fields line) else Err (Encoding row)
 
--- the rows of lines from a number on, or the first refusal
-unfoldable pub rows_of_lines : TableInfo → List ℕ → ℕ → List (List ℕ) → Result (List Row) CopyError
-rows_of_lines t listed row [] = Ok []
-rows_of_lines t listed row (line ∷ lines) = after (row_of_line t listed row line) (λ values. after (rows_of_lines t listed (row + 1) lines) (λ rows. Ok (values ∷ rows)))
+-- the rows of lines or records, of which the first has this number, or the first refusal
+unfoldable pub rows_from : {X : Type 0} → (ℕ → X → Result Row CopyError) → ℕ → List X → Result (List Row) CopyError
+rows_from row_of n [] = Ok []
+rows_from row_of n (x ∷ xs) = after (row_of n x) (λ row. after (rows_from row_of (n + 1) xs) (λ rows. Ok (row ∷ rows)))
 
 -- the rows of text data
 abbrev pub rows_of_text : List ℕ → TableInfo → List ℕ → Result (List Row) CopyError
-rows_of_text bytes t listed = rows_of_lines t listed 1 (lines bytes)
+rows_of_text bytes t listed = rows_from (row_of_line t listed) 1 (lines bytes)
 
 -- ---- what is answered
 

@@ -6,11 +6,13 @@ mod error;
 mod fields;
 mod format;
 mod frame;
+mod records;
 mod text_rows;
 mod texts;
 mod values;
 
 pub use error::CopyError;
 pub use format::Format;
+pub use records::rows_of_csv;
 pub use text_rows::rows_of_text;
 pub use values::read_value;
