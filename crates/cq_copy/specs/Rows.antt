@@ -1,5 +1,5 @@
 -- The rows of data in the columns of a table, or why they are refused.
-use Rattle.std.specs.Prelude.{◌≡◌, ◌≢◌, ℕ, ◌+◌, ◌-◌, ◌^◌, min, Bool, true, false, not, ◌&&◌, ◌==◌, if◌then◌else◌, List, [], ◌∷◌, length, map, fold, slice_get, slice_set, Option, Some, None, Result, Ok, Err}
+use Rattle.std.specs.Prelude.{◌≡◌, ◌≢◌, ℕ, ◌+◌, ◌-◌, ◌^◌, min, Bool, false, not, ◌&&◌, ◌==◌, if◌then◌else◌, List, [], ◌∷◌, length, map, filter, fold, slice_get, slice_set, Option, Some, None, Result, Ok, Err}
 use Rattle.std.specs.List.{list_any}
 use Rattle.std.specs.Str.{is_utf8}
 use Rattle.cq_value.specs.declared.value.Value.{Value}
@@ -57,18 +57,17 @@ is_distribution (Reference group shard) c = false
 abbrev pub needs_value : TableInfo → ℕ → Bool
 needs_value t c = list_any (λ k. k == c) t.key && not (is_distribution t.place c)
 
--- the lower one
+-- whether a column isn't listed and may not be NULL
+abbrev pub is_missing : TableInfo → List ℕ → ℕ → Bool
+is_missing t listed c = needs_value t c && not (list_any (λ k. k == c) listed)
+
 abbrev pub lower : Option ℕ → ℕ → Option ℕ
 lower None c = Some c
 lower (Some d) c = Some (min d c)
 
--- one more column of the key, and the first so far that isn't listed and may not be NULL
-abbrev pub with_column : TableInfo → List ℕ → Option ℕ → ℕ → Option ℕ
-with_column t listed first c = if needs_value t c && not (list_any (λ k. k == c) listed) then lower first c else first
-
--- the first column that isn't listed and may not be NULL
+-- the first of these columns
 unfoldable pub missing : TableInfo → List ℕ → Option ℕ
-missing t listed = fold (with_column t listed) None t.key
+missing t listed = fold lower None (filter (is_missing t listed) t.key)
 
 -- ---- rows, by their numbers from 1
 

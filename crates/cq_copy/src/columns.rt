@@ -33,22 +33,18 @@ pub(crate) fn needs_value(table: &TableInfo, column: u32) -> bool
     table.key.as_slice().contains(&column) && !is_distribution(table.place, column)
 }
 
+fn is_missing(table: &TableInfo, listed: &[u32], column: u32) -> bool
+    ensures { result ≡ spec.is_missing table.now listed.now column }
+{
+    needs_value(table, column) && !listed.contains(&column)
+}
+
 fn lower(first: Option<u32>, column: u32) -> Option<u32>
     ensures { result ≡ spec.lower first column }
 {
     match first {
         Some(other) => Some(other.min(column)),
         None => Some(column),
-    }
-}
-
-fn with_column(table: &TableInfo, listed: &[u32], first: Option<u32>, column: u32) -> Option<u32>
-    ensures { result ≡ spec.with_column table.now listed.now first column }
-{
-    if needs_value(table, column) && !listed.contains(&column) {
-        lower(first, column)
-    } else {
-        first
     }
 }
 
@@ -59,7 +55,9 @@ pub(crate) fn missing(table: &TableInfo, listed: &[u32]) -> Option<u32>
 {
     let mut first = None;
     for column in table.key.as_slice() {
-        first = with_column(table, listed, first, *column);
+        if is_missing(table, listed, *column) {
+            first = lower(first, *column);
+        }
     }
     first
 }

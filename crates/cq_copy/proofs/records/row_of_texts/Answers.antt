@@ -1,5 +1,4 @@
-use Rattle.std.proofs.Common.{◌≡◌, List, ℕ, Bor, map, sym, ◌∙◌}
-use Rattle.cq_copy.specs.Rows.{Gives}
+use Rattle.std.proofs.Common.{sym, ◌∙◌}
 use Rattle.cq_copy.proofs.RecordLaws.{is_text, not_text}
 use Rattle.cq_copy.proofs.records.row_of_texts.Goals as goal
 

@@ -1,8 +1,7 @@
-use Rattle.std.proofs.Common.{◌≡◌, ◌<◌, ◌+◌, ℕ, List, [], Bool, true, false, length, arith, ap, sym, refl, ◌∙◌, Ok, Err}
+use Rattle.std.proofs.Common.{arith}
 use Rattle.std.proofs.lemmas.Result.{err_from_is_err_and}
 use Rattle.csv.specs.Records.{fields_of}
-use Rattle.cq_copy.specs.Rows.{Gives}
-use Rattle.cq_copy.proofs.RecordLaws.{left_begin, left_more, left_refused, left_none, left_done}
+use Rattle.cq_copy.proofs.RecordLaws.{left_more, left_refused, left_none, left_done}
 use Rattle.cq_copy.proofs.records.rows_left.Goals as goal
 
 pub returns-then-not-branch : goal.returns-then-not-branch

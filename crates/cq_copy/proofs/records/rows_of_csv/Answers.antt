@@ -1,10 +1,10 @@
-use Rattle.std.proofs.Common.{◌≡◌, ◌<◌, ◌+◌, ℕ, List, [], Bool, true, false, length, arith, ap, sym, refl, ◌∙◌, Result, Ok, Err}
+use Rattle.std.proofs.Common.{◌+◌, List, length, ap, sym, ◌∙◌, Result, Ok}
 use Rattle.csv.specs.Reading.{strip_bom}
 use Rattle.csv.specs.Records.{fields_of}
 use Rattle.csv.specs.declared.parser.State.TheVariants.{StartRecord}
 use Rattle.cq_copy.specs.declared.error.CopyError.{CopyError}
 use Rattle.cq_copy.specs.Rows.{Gives, Row}
-use Rattle.cq_copy.proofs.RecordLaws.{header_read, no_header, not_under}
+use Rattle.cq_copy.proofs.RecordLaws.{header_read, no_header}
 use Rattle.cq_copy.proofs.records.rows_of_csv.Goals as goal
 
 pub returns-then-not-branch : goal.returns-then-not-branch

@@ -1,7 +1,7 @@
-use Rattle.std.proofs.Common.{◌≡◌, ◌<◌, ◌+◌, ℕ, List, [], length, arith, ap, sym, refl, ◌∙◌, Ok, Err}
+use Rattle.std.proofs.Common.{◌≡◌, ◌+◌, length, arith, ap, sym, ◌∙◌, Ok}
 use Rattle.std.proofs.lemmas.Bool.{eqb-true}
 use Rattle.std.proofs.lemmas.Result.{err_from_is_err_and}
-use Rattle.cq_copy.specs.Rows.{Gives, row_of_line, rows_from}
+use Rattle.cq_copy.specs.Rows.{row_of_line, rows_from}
 use Rattle.cq_copy.specs.Texts.{lines}
 use Rattle.cq_copy.proofs.RowLaws.{ahead, row_read, row_refused, rows_done}
 use Rattle.cq_copy.proofs.TextLaws.{no_lines}

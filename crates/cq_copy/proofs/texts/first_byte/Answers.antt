@@ -1,7 +1,6 @@
-use Rattle.std.proofs.Common.{◌≡◌, ◌<◌, ℕ, length, arith, ap, sym, ◌∙◌, ◌∷◌, drop}
+use Rattle.std.proofs.Common.{arith}
 use Rattle.std.proofs.lemmas.List.{take_rest}
 use Rattle.std.proofs.lemmas.Bool.{ne_eqb}
-use Rattle.cq_copy.specs.Texts.{text_of, before}
 use Rattle.cq_copy.proofs.TextLaws.{text_escaped, text_last, text_plain}
 use Rattle.cq_copy.proofs.texts.first_byte.Goals as goal
 use Rattle.cq_copy.proofs.texts.first_byte.Goals.{then-first-eq92+in_default, else-first-eq92}

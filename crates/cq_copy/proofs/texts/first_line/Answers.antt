@@ -1,4 +1,4 @@
-use Rattle.std.proofs.Common.{◌≡◌, ◌<◌, ◌≤◌, length, arith, ap, subst, refl, sym, ◌∙◌}
+use Rattle.std.proofs.Common.{◌<◌, ◌≤◌, length, arith}
 use Rattle.std.proofs.lemmas.List.{take_rest}
 use Rattle.std.specs.List.{position_or_len}
 use Rattle.cq_copy.specs.Texts.{is_newline}

@@ -1,6 +1,4 @@
-use Rattle.std.proofs.Common.{◌≡◌, ◌<◌, ◌++◌, [], List, ℕ, Option, Some, length, arith, ap, sym, ◌∙◌, append-nil}
-use Rattle.std.specs.Prelude.{option_map}
-use Rattle.cq_copy.specs.Texts.{text_of}
+use Rattle.std.proofs.Common.{sym, ◌∙◌}
 use Rattle.cq_copy.proofs.TextLaws.{text_done}
 use Rattle.cq_copy.proofs.texts.text_of_field.Goals as goal
 

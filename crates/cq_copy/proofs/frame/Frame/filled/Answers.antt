@@ -1,7 +1,6 @@
-use Rattle.std.proofs.Common.{◌≡◌, ◌<◌, ℕ, List, [], Bor, length, map, get_or, drop, arith, ap, sym, refl, ◌∙◌, Ok, Err}
+use Rattle.std.proofs.Common.{◌<◌, ℕ, List, [], Bor, length, map, arith, sym, ◌∙◌}
 use Rattle.std.proofs.lemmas.List.{get_or-map, length-map}
 use Rattle.std.proofs.lemmas.Result.{err_from_is_err_and}
-use Rattle.cq_copy.specs.Rows.{Gives, value_at}
 use Rattle.cq_copy.proofs.RowLaws.{filled_next, filled_refused, filled_all}
 use Rattle.cq_copy.proofs.frame.Frame.filled.Goals as goal
 
