@@ -33,7 +33,8 @@ fn reader_of(alloc: Global, bytes: &[u8]) -> Reader<&[u8]>
 
 /// Reads the next record, and says whether there was one.
 ///
-/// Errors: want of memory; a reader of records of any length over bytes in memory fails for nothing else.
+/// Errors: want of memory, for which each error of the reader is taken. Its contract leaves a failure of the bytes' own reader open, and
+/// bytes in memory have none.
 fn read_next(reader: &mut Reader<&[u8]>, raw: &mut ByteRecord) -> Result<bool, NoMemory>
     ensures { IfOk result (λ found. (s : State) (left : List ℕ) → Reads reader.old s left → Gave (record_at default_config s [] [] left) found (fields_of raw.new) reader.new) }
 {
