@@ -1,0 +1,47 @@
+-- Data in the text format: its lines, the fields of a line, and the text for which a field stands (PostgreSQL, COPY, "Text Format").
+use Rattle.std.specs.Prelude.{ℕ, Bool, ◌||◌, ◌==◌, if◌then◌else◌, List, [], ◌∷◌, Option, Some, None, option_map}
+use Rattle.std.specs.List.{onto_first, slice_split}
+use Rattle.std.specs.Char.{is_ascii_digit}
+
+abbrev pub is_newline : ℕ → Bool
+is_newline b = b == 10
+
+abbrev pub is_tab : ℕ → Bool
+is_tab b = b == 9
+
+-- a line ends with a newline; the last may end with the data
+unfoldable pub lines : List ℕ → List (List ℕ)
+lines [] = []
+lines (b ∷ bs) = if is_newline b then [] ∷ lines bs else onto_first b (lines bs)
+
+-- tabs part the fields of a line
+abbrev pub fields : List ℕ → List (List ℕ)
+fields line = slice_split is_tab line
+
+-- what a backslash and this byte stand for: backspace, form feed, newline, carriage return, tab and vertical tab for b, f, n, r, t and v;
+-- nothing for a digit and x; the byte for another
+abbrev pub escaped : ℕ → Option ℕ
+escaped b =
+    if b == 98 then Some 8
+    else (if b == 102 then Some 12
+    else (if b == 110 then Some 10
+    else (if b == 114 then Some 13
+    else (if b == 116 then Some 9
+    else (if b == 118 then Some 11
+    else (if is_ascii_digit b || b == 120 then None
+    else Some b))))))
+
+-- a carriage return, 13, and a backslash, 92, don't stand for themselves
+abbrev pub plain : ℕ → Option ℕ
+plain b = if b == 13 || b == 92 then None else Some b
+
+-- the byte in front of the text, where there are both
+abbrev pub before : Option ℕ → Option (List ℕ) → Option (List ℕ)
+before None text = None
+before (Some b) text = option_map (λ bs. b ∷ bs) text
+
+-- the text for which a field stands, if it is written well
+unfoldable pub text_of : List ℕ → Option (List ℕ)
+text_of [] = Some []
+text_of (b ∷ []) = before (plain b) (Some [])
+text_of (b ∷ c ∷ bs) = if b == 92 then before (escaped c) (text_of bs) else before (plain b) (text_of (c ∷ bs))

@@ -1,0 +1,113 @@
+ghost use Rattle.std.specs.Prelude.{◌≡◌, map, length, slice_set, IfOk};
+ghost use Rattle.cq_copy.specs.Rows as spec;
+ghost use Rattle.cq_copy.specs.Rows.{Gives};
+
+use crate::columns::missing;
+use crate::error::CopyError;
+use crate::fields::{bad_value, value_at};
+use crate::format::Format;
+use cq_catalog::TableInfo;
+use cq_value::{NoMemory, Row, Value};
+use std::alloc::Global;
+
+/// Into what rows are read: how the data are written, a table and its listed columns, and the first column that isn't listed and may
+/// not be NULL.
+#[derive(Clone, Copy)]
+pub(crate) struct Frame<'a> {
+    pub alloc: Global,
+    format: Format,
+    table: &'a TableInfo,
+    listed: &'a [u32],
+    absent: Option<u32>,
+}
+
+/// A row of NULLs.
+fn blank(alloc: Global, table: &TableInfo) -> Result<Row, NoMemory>
+    ensures { IfOk result (λ values. values ≡ spec.blank table.now) }
+{
+    let mut values = Row::new(alloc);
+    for _ in table.columns.as_slice() {
+        values.put(Value::Null)?;
+    }
+    Ok(values)
+}
+
+/// The row with the value in its column.
+fn with_value(values: Row, column: u32, value: Value) -> Row
+    ensures { result ≡ slice_set values column value }
+{
+    let mut values = values;
+    if u64::from(column) < values.len() {
+        values.set(u64::from(column), value);
+    }
+    values
+}
+
+/// The row, if no column is missing.
+fn complete(row: u64, absent: Option<u32>, values: Row) -> Result<Row, CopyError>
+    ensures { result ≡ spec.complete row absent values }
+{
+    match absent {
+        Some(column) => Err(bad_value(row, column)),
+        None => Ok(values),
+    }
+}
+
+impl<'a> Frame<'a> {
+    /// Of data in this format, for a table and its listed columns.
+    pub(crate) fn new(
+        alloc: Global,
+        format: Format,
+        table: &'a TableInfo,
+        listed: &'a [u32],
+    ) -> Frame<'a>
+        ensures format { result.format ≡ format }
+        ensures table { result.table.now ≡ table.now }
+        ensures listed { result.listed.now ≡ listed.now }
+        ensures absent { result.absent ≡ spec.missing table.now listed.now }
+    {
+        Frame {
+            alloc,
+            format,
+            table,
+            listed,
+            absent: missing(table, listed),
+        }
+    }
+
+    /// The row with each field's value in its column, from left to right, or the first refusal of one.
+    fn filled(&self, row: u64, fields: &[&[u8]]) -> Result<Row, CopyError>
+        requires { length fields.now ≡ length self.now.listed.now }
+        ensures { Gives result (spec.filled self.now.format self.now.table.now row self.now.listed.now (map (λ f. f.now) fields.now) (spec.blank self.now.table.now)) }
+    {
+        let mut values = blank(self.alloc, self.table)?;
+        for (at, column) in self.listed.iter().enumerate() {
+            let value = value_at(
+                self.alloc,
+                self.format,
+                self.table,
+                row,
+                *column,
+                fields[at],
+            )?;
+            values = with_value(values, *column, value);
+        }
+        Ok(values)
+    }
+
+    /// The row of these fields, or its first refusal.
+    #[tactic(auto, unfolding(crate::specs::Rows::row_of_fields))]
+    pub(crate) fn row_of_fields(&self, row: u64, fields: &[&[u8]]) -> Result<Row, CopyError>
+        requires { self.now.absent ≡ spec.missing self.now.table.now self.now.listed.now }
+        ensures { Gives result (spec.row_of_fields self.now.format self.now.table.now self.now.listed.now row (map (λ f. f.now) fields.now)) }
+    {
+        if fields.len() != self.listed.len() {
+            return Err(CopyError::Columns {
+                row,
+                found: fields.len() as u64,
+            });
+        }
+        let values = self.filled(row, fields)?;
+        complete(row, self.absent, values)
+    }
+}
