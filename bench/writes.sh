@@ -1,12 +1,12 @@
 #!/bin/sh
 # How long writes of several rows and shards take, and joins of one tenant, over 4 shards, in citus_run, sqlite3 and psql: INSERTs of a row
 # of each tenant, UPDATEs and DELETEs of one row by its key and of all rows of a tenant, and joins of a tenant's rows among themselves.
-# Usage: bench/writes.sh [tenants, 20 if left out] [rows of each, 200 if left out]
+# Usage: bench/writes.sh [tenants, 20 if left out] [rows of each, 500 if left out]
 set -eu
 top=$(cd "$(dirname "$0")/.." && pwd)
 . "$top/bench/common.sh"
 tenants=${1:-20}
-rows=${2:-200}
+rows=${2:-500}
 
 on_table 'orders (tenant bigint, id bigint, customer bigint, amount integer, PRIMARY KEY (tenant, id))' \
     "SELECT create_distributed_table('orders', 'tenant', shard_count => 4)"
@@ -25,10 +25,10 @@ awk -v tenants="$tenants" -v rows="$rows" 'BEGIN {
         print ";"
     }
 }' >"$work/inserts"
-for_each 100 'UPDATE orders SET amount = amount + 1 WHERE tenant = %d AND id = %d' >"$work/updates"
+for_each 400 'UPDATE orders SET amount = amount + 1 WHERE tenant = %d AND id = %d' >"$work/updates"
 for_each 10 'UPDATE orders SET amount = amount + 1 WHERE tenant = %d AND id >= %d' >"$work/wide_updates"
-for_each 100 'DELETE FROM orders WHERE tenant = %d AND id = %d' >"$work/deletes"
-for_each 100 'SELECT a.amount, b.customer FROM orders a JOIN orders b ON b.tenant = a.tenant AND b.id = a.id WHERE a.tenant = %d AND a.id = %d' \
+for_each 400 'DELETE FROM orders WHERE tenant = %d AND id = %d' >"$work/deletes"
+for_each 400 'SELECT a.amount, b.customer FROM orders a JOIN orders b ON b.tenant = a.tenant AND b.id = a.id WHERE a.tenant = %d AND a.id = %d' \
     >"$work/joins"
 
 prepare
