@@ -49,7 +49,7 @@ struct Script<'a> {
 }
 
 /// Tables of one co-location group have each key in one shard group: `a` and `b` are beside each other, and `c` has a count of
-/// its own. A key that is taken is entered; what isn't built and what is no statement is not.
+/// its own. A key that is taken is entered; EXPLAIN and what is no statement are not.
 const BESIDE: Script = Script {
     script: b"CREATE TABLE a (k bigint, v bigint, PRIMARY KEY (k));CREATE TABLE b (k bigint, v bigint);
 CREATE TABLE c (v bigint, k bigint);SET citus.shard_count TO 4;
@@ -65,7 +65,7 @@ INSERT INTO c VALUES (9, 7);INSERT INTO a VALUES (3, 4);EXPLAIN SELECT v FROM a;
     status: Status::Done,
     written: b"CREATE TABLE\nCREATE TABLE\nCREATE TABLE\nSET\ncreate_distributed_table\n\n(1 row)
 create_distributed_table\n\n(1 row)\ncreate_distributed_table\n\n(1 row)
-INSERT 0 1\nINSERT 0 1\nINSERT 0 1\nINSERT 0 1\nERROR 30 duplicate key\nERROR 35 not built\nERROR 4 syntax at 0
+INSERT 0 1\nINSERT 0 1\nINSERT 0 1\nINSERT 0 1\nERROR 30 duplicate key\nQUERY PLAN\nCustom Scan (Citus Adaptive)\n  Planner: pushdown\n  Combine: rows\n  Task Count: 4\n  Tasks Shown: One of 4\n  ->  Task\n        Node: 1\n        Shards: a_102008\n(8 rows)\nERROR 4 syntax at 0
 v\n2\n(1 row)
 ",
     answers: 15,
