@@ -1,4 +1,4 @@
--- What the binder refuses, each with the place of the first refusal of the walk.
+-- What the binder takes, and what it refuses, each with the place of the first refusal of the walk.
 -- t, u, i and r are distributed, l is a local table.
 CREATE TABLE t (k bigint PRIMARY KEY, v bigint);
 CREATE TABLE u (k bigint, w bigint, name text, PRIMARY KEY (k, w));
@@ -9,6 +9,38 @@ SELECT create_distributed_table('t', 'k');
 SELECT create_distributed_table('u', 'k');
 SELECT create_distributed_table('i', 'k');
 SELECT create_distributed_table('r', 'id');
+
+-- Statements of every form, over empty tables; of those that move or copy rows none is built.
+SELECT * FROM t;
+SELECT t.*, u.name AS n FROM t JOIN u ON t.k = u.k;
+SELECT k + 1 AS a FROM t GROUP BY k + 1 ORDER BY a;
+SELECT k AS a, k AS a FROM t ORDER BY a;
+SELECT v, count(*), sum(k) FROM t GROUP BY v HAVING count(*) > 1 ORDER BY 2 DESC, v LIMIT 3 OFFSET 1;
+SELECT DISTINCT v FROM t ORDER BY v;
+SELECT CASE WHEN k = 1 THEN 'a' ELSE NULL END FROM t;
+SELECT coalesce(v, k, 0) FROM t;
+SELECT -1 - -v FROM t;
+SELECT v / -2, v % +3 FROM t;
+SELECT v * v AS x FROM t;
+SELECT sum(n * n) FROM i;
+SELECT k FROM t WHERE k IN (SELECT k FROM u WHERE w NOT IN (SELECT id FROM r));
+SELECT k FROM t WHERE v IS NOT NULL AND k BETWEEN 1 AND 9 OR NOT k <> 3;
+WITH c AS (SELECT k FROM t), d AS (SELECT k FROM c) SELECT c.k FROM c, d WHERE c.k = d.k;
+WITH t AS (SELECT name FROM u) SELECT name FROM t;
+SELECT s.n FROM (SELECT v, count(*) AS n FROM t GROUP BY v) s LEFT JOIN r ON s.n = r.id;
+EXPLAIN SELECT k FROM t;
+COPY u (name, k) FROM STDIN WITH (FORMAT CSV, HEADER);
+SELECT citus_move_shard_placement(102008, 1, 2);
+SELECT rebalance_table_shards();
+SELECT k + v + 1 FROM t GROUP BY k + v;
+SELECT k + v + (k + v) FROM t GROUP BY k + v;
+SELECT k + v - k, k - 1 FROM t GROUP BY k, k + v;
+SELECT v - 1 - 2 - 3 + 4 FROM t GROUP BY v - 1 - 2;
+SELECT v - 1 - 2 - v FROM t GROUP BY v - 1, v, v - 1 - 2;
+SELECT n * 2 * 3 % 5 FROM i GROUP BY n * 2;
+SELECT (n * 2 / 3 + 1) * 4 FROM i GROUP BY n * 2;
+SELECT k + v + count(*) - sum(k) FROM t GROUP BY k + v;
+SELECT count(*) FROM t GROUP BY k + v HAVING k + v + 1 > 0 ORDER BY k + v - 1;
 
 -- Names that are taken, and tables and columns that are not there, each told by its name.
 SELECT 1 FROM t, t;
@@ -230,3 +262,12 @@ SELECT k FROM u WHERE sum(name) = 1;
 SELECT v + zz FROM t GROUP BY k;
 SELECT k FROM t WHERE k = 1 ORDER BY k IN (SELECT k, v FROM t);
 SELECT k FROM u WHERE name IN (SELECT k, w FROM u);
+
+-- Statements that are bound and run.
+INSERT INTO u (w, k) VALUES (1 + 1, 5 * 5);
+INSERT INTO t (v) VALUES (1);
+CREATE TABLE z (a BIGINT, b INTEGER, c TEXT, PRIMARY KEY (a, b));
+SET citus.shard_count TO 128;
+SET citus.enable_repartition_joins TO on;
+SELECT create_distributed_table('l', 'a', colocate_with => 't');
+SELECT k, w, name FROM u WHERE k = 25;
