@@ -133,11 +133,20 @@ pub enum Fault {
         free: u64,
         needed: u64,
     },
-    /// 28: a value of an INSERT that isn't of its column's type or range, or a NULL in a column of the primary key that isn't
-    /// the distribution column.
+    /// 27: a row of COPY data has so many fields, which aren't as many as the columns.
+    Columns {
+        row: u64,
+        found: u64,
+    },
+    /// 28: a value of an INSERT or of COPY data that isn't of its column's type or range, or a NULL in a column of the primary key
+    /// that isn't the distribution column.
     Value {
         row: u64,
         column: u32,
+    },
+    /// 29: a row of COPY data isn't UTF-8.
+    Encoding {
+        row: u64,
     },
     /// 30: an inserted row has a primary key that is taken (PostgreSQL, `unique_violation`).
     Duplicate,

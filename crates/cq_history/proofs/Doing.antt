@@ -112,7 +112,7 @@ made_does rules run e d seen op counts w parts made =
     record {
       stands = subst (λ (o : Option Fault). RunsUnless o touched run e (in_deed c d) (statement.Write op) (answer.Tag (tag_of op (sum_by counts touched)))) (sym w.runs) (
         sum_by counts touched,
-        refl,
+        inl refl,
         record {
           counts = counts;
           sum = refl;

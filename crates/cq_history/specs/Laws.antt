@@ -48,7 +48,7 @@ use Rattle.cq_history.specs.Legality.{LeavesColumn, IsLegal, IsKeyed}
 use Rattle.cq_history.specs.Refusals.{is_alone}
 use Rattle.cq_demands.specs.Demands.{demands, rows_with}
 use Rattle.cq_demands.specs.JoinDemands.{is_plain, wants_in, AreWide, IsNarrowed}
-use Rattle.cq_history.specs.Standing.{most_rows, AreAmong, counted, reply_in, HasIds, IsReady, tag_of, rows_of_lines, StandsIn, Stands}
+use Rattle.cq_history.specs.Standing.{most_rows, AreAmong, counted, reply_in, HasIds, IsReady, tag_of, copied_answer, rows_of_lines, StandsIn, Stands}
 use Rattle.cq_store.specs.Stores.{StoreState, Rose}
 use Rattle.cq_history.specs.Faults.{IsShardIn, IsOnNode, near, node_read, below, range_in, AccountsFor, NamesBelow}
 use Rattle.cq_history.specs.Deeds.{Deed, first_seen, in_deed, Does, HasDeed, Grows, GoesOn, Follows, deed_over}
@@ -312,6 +312,11 @@ MadeIsAnswered = (rules : Rules) (run : Run) (e : Environment) (who : Who) (old 
     ((g : ℕ) → among g touched ≡ true → (reply_over e.catalog op g (journal_in old g) ≡ Count (counts g)) × HasIds e.catalog (part e.catalog op g) (journal_in old g)) →
     Grows who (in_each touched (λ g. entry.Write (part e.catalog op g) (Count (counts g)))) old new → length new ≡ length old →
     IsAnswered rules run e e who old new (Some (statement.Write op)) (answer.Tag (tag_of op (sum_by counts touched)))
+
+-- the write of a COPY's rows is answered as such, with that COPY's tag
+abbrev pub CopyIsAnswered : Type 0
+CopyIsAnswered = (rules : Rules) (run : Run) (e next : Environment) (who : Who) (old new : List Journal) (op : ShardOp) (a : Answer) →
+    IsAnswered rules run e next who old new (Some (statement.Write op)) a → IsAnswered rules run e next who old new (Some (statement.Write op)) (copied_answer a)
 
 -- the parts of the groups before this one could be made, and the part of this one was refused
 abbrev pub RefusedIsAnswered : Type 0

@@ -1,5 +1,5 @@
 -- When an answer stands, and the cause of each refusal. The cases are read once, over a view of the statement.
-use Rattle.std.specs.Prelude.{◌≡◌, ◌+◌, ◌<◌, ◌≤◌, ℕ, ⊤, true, List, [], ◌∷◌, map, length, Option, Some, None, option_map, codes}
+use Rattle.std.specs.Prelude.{◌≡◌, ◌⊎◌, ◌+◌, ◌<◌, ◌≤◌, ℕ, ⊤, true, List, [], ◌∷◌, map, length, Option, Some, None, option_map, codes}
 use Rattle.std.specs.List.{sum_by}
 use Rattle.cq_value.specs.declared.value.Value.TheVariants as values
 use Rattle.cq_value.specs.declared.schema.Column.{Column}
@@ -152,6 +152,24 @@ tag_of (Insert table rows) n = tag.Insert n
 tag_of (Update table filter_ sets) n = tag.Update n
 tag_of (Remove table filter_) n = tag.Delete n
 
+-- that of a COPY, which inserts the rows of its data
+abbrev pub copied : Tag → Tag
+copied tag.CreateTable = tag.CreateTable
+copied (tag.Insert n) = tag.Copy n
+copied (tag.Update n) = tag.Update n
+copied (tag.Delete n) = tag.Delete n
+copied (tag.Copy n) = tag.Copy n
+copied tag.Setting = tag.Setting
+
+-- an INSERT is written as one, or as a COPY
+abbrev pub IsTagOf : ShardOp → ℕ → Tag → Type 0
+IsTagOf op n t = (t ≡ tag_of op n) ⊎ (t ≡ copied (tag_of op n))
+
+abbrev pub copied_answer : Answer → Answer
+copied_answer (answer.Tag t) = answer.Tag (copied t)
+copied_answer (answer.Table names rows) = answer.Table names rows
+copied_answer (answer.Failed f) = answer.Failed f
+
 -- ---- EXPLAIN
 
 -- a row of one text for each line
@@ -211,7 +229,7 @@ Runs touched run e v (statement.Select q) (answer.Failed (fault.Worker node shar
 Runs touched run e v (statement.Select q) (answer.Failed fault.Memory) = (groups : List ℕ) × AreAmong groups touched × Enters v (reads groups)
 Runs touched run e v (statement.Explain q) (answer.Table names rows) = IsExplained e.catalog v q names rows
 Runs touched run e v (statement.Explain q) (answer.Failed fault.Memory) = Enters v none
-Runs touched run e v (statement.Write op) (answer.Tag t) = (n : ℕ) × (t ≡ tag_of op n) × IsMadeIn e.catalog touched v op n
+Runs touched run e v (statement.Write op) (answer.Tag t) = (n : ℕ) × IsTagOf op n t × IsMadeIn e.catalog touched v op n
 Runs touched run e v (statement.Write op) (answer.Failed fault.Duplicate) = IsRefusedIn e.catalog touched v op Duplicate
 Runs touched run e v (statement.Write op) (answer.Failed fault.ValueOutOfRange) = IsRefusedIn e.catalog touched v op OutOfRange
 Runs touched run e v (statement.Write op) (answer.Failed (fault.Limit what.Ids n)) = (n ≡ most_ids) × LacksIdsIn e.catalog touched v op

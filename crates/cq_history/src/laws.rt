@@ -3,6 +3,7 @@ ghost use Rattle.cq_demands.specs.Demands.{KeptHasDemands};
 ghost use Rattle.cq_history.specs.Laws.{OtherAccounts, FaultAccounts, NewAccounts};
 ghost use Rattle.cq_history.specs.Laws.{WantedSuffice, JoinsSuffice};
 ghost use Rattle.cq_history.specs.Laws.{LogBegins, LogGoesOn, AnswersGoOn, IdleIsAnswered, DeedIsAnswered, StaysLaidOut, CatalogGoesOn, LogStands};
+ghost use Rattle.cq_history.specs.Laws.{CopyIsAnswered};
 ghost use Rattle.cq_history.specs.Laws.{MadeIsAnswered, RefusedIsAnswered, LacksIsAnswered, ReadIsAnswered, LargeIsAnswered, ReadLacksMemory, ReadFails, WriteFails, WriteLacksMemory, ExplainIsAnswered, RefusalIsAnswered, OpensLaidOut, CatalogIsAnswered};
 
 /// The reply of a write over the undistributed database, by the replies of its parts in the groups that it touches; and what it
@@ -60,6 +61,7 @@ pub fn script_laws()
 /// Does nothing.
 pub fn answer_laws()
     ensures made { MadeIsAnswered }
+    ensures copy { CopyIsAnswered }
     ensures refused { RefusedIsAnswered }
     ensures lacks { LacksIsAnswered }
     ensures read { ReadIsAnswered }

@@ -1,11 +1,15 @@
 use Rattle.cq_history.proofs.Opening.{opens_laid_out, catalog_is_answered}
 use Rattle.cq_history.proofs.Faults.{read_fails, write_fails}
 use Rattle.cq_history.proofs.Explaining.{explain_is_answered}
+use Rattle.cq_history.proofs.Copying.{copy_is_answered}
 use Rattle.cq_history.proofs.Answering.{made_is_answered, refused_is_answered, lacks_is_answered, read_is_answered, large_is_answered, read_lacks_memory, write_lacks_memory, refusal_is_answered}
 use Rattle.cq_history.proofs.laws.answer_laws.Goals as goal
 
 pub returns-clause-made : goal.returns-clause-made
 returns-clause-made c = made_is_answered
+
+pub returns-clause-copy : goal.returns-clause-copy
+returns-clause-copy c = copy_is_answered
 
 pub returns-clause-refused : goal.returns-clause-refused
 returns-clause-refused c = refused_is_answered
