@@ -1,5 +1,5 @@
-//! The program: it answers the SQL script on standard input over two nodes, whose stores are in memory, and writes the
-//! answers to standard output. Its exit status is the number of the run's status.
+//! The program: it answers the SQL script on standard input, or the one that its words ask for, over as many nodes as they say, whose
+//! stores are in memory, and writes the answers to standard output. Its exit status is the number of the run's status.
 #![tactic(auto)]
 
 ghost use Rattle.std.specs.Prelude.{IfOk};
@@ -12,8 +12,8 @@ use std::alloc::{AllocError, Global};
 use std::process::ExitCode;
 use std::{env, io};
 
-/// The number of nodes.
-const NODES: u32 = 2;
+/// The most nodes of a run.
+const NODES: u32 = 16;
 
 /// The number of stores of each node.
 const STORES: u32 = 2048;

@@ -1,5 +1,5 @@
 -- What a run promises of its log, its answers, the bytes written and the stores.
-use Rattle.std.specs.Prelude.{◌≡◌, ◌≢◌, ◌<◌, ◌⊎◌, ◌↔◌, ℕ, IsTrue, Option, Some, List, [], ◌++◌, length, map}
+use Rattle.std.specs.Prelude.{◌≡◌, ◌≢◌, ◌+◌, ◌<◌, ◌≤◌, ◌×◌, ◌⊎◌, ⊥, ℕ, IsTrue, Option, Some, None, List, [], ◌++◌, length, drop, map, false}
 use Rattle.cq_answer.specs.declared.answered.Answered.{Answered}
 use Rattle.cq_catalog.specs.Contents.{nothing}
 use Rattle.cq_journal.specs.Records.{Journal}
@@ -7,14 +7,18 @@ use Rattle.cq_history.specs.Run.{first, environment_from}
 use Rattle.cq_history.specs.Log.{AllStand, IsWhole as IsWholeHistory}
 use Rattle.cq_history.specs.Refusals.{rules}
 use Rattle.cq_store.specs.declared.worker.Worker.{Worker}
-use Rattle.cq_cluster.specs.Cluster.{run_of}
 use Rattle.cq_cluster.specs.Ending.{record_of}
 use Rattle.cq_script.specs.Streams.{SourceState, SinkState, Rose}
+use Rattle.cq_words.specs.declared.settled.Settled.{Settled}
+use Rattle.cq_words.specs.Words.{settled}
+use Rattle.cq_journal_text.specs.Texts.{journals_text}
 use Rattle.cq_top.specs.declared.log.RunLog.{RunLog}
 use Rattle.cq_top.specs.declared.status.Status.{Status}
-use Rattle.cq_top.specs.declared.status.Status.TheVariants.{Usage, ReadFault, Stopped, WriteFault, Memory, TooLong, Script}
-use Rattle.cq_top.specs.Outputs.{IsOutput}
-use Rattle.cq_top.specs.Scripts.{node_count, most_bytes}
+use Rattle.cq_top.specs.declared.status.Status.TheVariants as status
+use Rattle.cq_top.specs.declared.ending.Ending.{Ending}
+use Rattle.cq_top.specs.declared.ending.Ending.TheVariants.{Usage, ReadFault, Memory}
+use Rattle.cq_top.specs.Scripts.{Serves, IsHalted}
+use Rattle.cq_top.specs.Serving.{run_by, Writes}
 
 pub record IsEmptyLog {X : Type 0} (log : RunLog X) : Type 0 where
   pub answers : log.answers ≡ []
@@ -27,44 +31,47 @@ pub record IsEmptyLog {X : Type 0} (log : RunLog X) : Type 0 where
 abbrev pub journals_of : {X : Type 0} → RunLog X → List Journal
 journals_of log = map record_of log.journals.list
 
+-- ---- the command line
+
+-- what the words ask for; without a word, and where they are wrong, two workers and no option
+abbrev pub settled_or : Option Settled → Settled
+settled_or None = record { workers = 2; repartition = false; csv = false; stop = false; journal = false; generate = None }
+settled_or (Some s) = s
+
+abbrev pub asked : List (List ℕ) → Settled
+asked words = settled_or (settled words)
+
+-- the command line is wrong, or there are too few workers
+abbrev pub IsMisused : List (List ℕ) → ℕ → Type 0
+IsMisused words workers = (settled words ≡ None) ⊎ (workers < (asked words).workers)
+
+-- ---- the log
+
 -- over workers that were handed in so, the log is whole: its catalogue is that which its answers give; the answers are numbered, each with
 -- the settings that those before it give; there is one journal for each shard group, opened on the group's node; each journal is a legal
 -- history, its entries are of statements of the log, in the order of the statements
-pub record IsWhole {X Y : Type 0} (entry : List (Worker Y)) (log : RunLog X) : Type 0 where
-  pub catalog : log.catalog ≡ (environment_from (first (run_of node_count entry)) log.answers).catalog
-  pub history : IsWholeHistory (run_of node_count entry) log.catalog log.answers (journals_of log)
+pub record IsWhole {X Y : Type 0} (s : Settled) (entry : List (Worker Y)) (log : RunLog X) : Type 0 where
+  pub catalog : log.catalog ≡ (environment_from (first (run_by s entry)) log.answers).catalog
+  pub history : IsWholeHistory (run_by s entry) log.catalog log.answers (journals_of log)
   pub retired : log.retired ≡ []
   pub waves : log.waves ≡ []
 
 -- every answer stands: it is its statement's meaning over the undistributed database, at every choice of places in the journals that takes the
 -- statement's own, or a refusal with its cause
-abbrev pub Stand : {X Y : Type 0} → List (Worker Y) → RunLog X → Type 0
-Stand entry log = AllStand rules (run_of node_count entry) (journals_of log) log.answers
+abbrev pub Stand : {X Y : Type 0} → Settled → List (Worker Y) → RunLog X → Type 0
+Stand s entry log = AllStand rules (run_by s entry) (journals_of log) log.answers
 
--- the command line is wrong, or there are too few workers
-abbrev pub IsMisused : ℕ → ℕ → Type 0
-IsMisused words workers = (0 < words) ⊎ (workers < node_count)
+-- ---- how a run ended
 
--- the cause of each status. A fault comes only where the count of faults rose in this call, and never from what is steady;
--- want of memory is free
-pub record HasCause (status : Status) (words workers : ℕ) (source source_end : SourceState) (sink sink_end : SinkState) : Type 0 where
-  pub usage : status ≡ Usage → IsMisused words workers
-  pub misused : IsMisused words workers → (status ≡ Usage) ⊎ ((status ≡ WriteFault) ⊎ (status ≡ Memory))
-  pub read_fault : status ≡ ReadFault → Rose source.faults source_end.faults
-  pub write_fault : status ≡ WriteFault → Rose sink.faults sink_end.faults
-  pub steady_source : IsTrue source.steady → status ≢ ReadFault
-  pub steady_sink : IsTrue sink.steady → status ≢ WriteFault
-  pub no_stop : status ≢ Stopped
-  pub no_script : status ≢ Script
-
--- how a run may end before its last line: a wrong command line ends it at once, a read fault only where the count of faults rose and never
--- a steady source's, and the limit of bytes only where there are more
-pub record MayEnd (words workers : ℕ) (source source_end : SourceState) (status : Status) : Type 0 where
-  pub usage : (status ≡ Usage) ↔ IsMisused words workers
-  pub read_fault : status ≡ ReadFault → Rose source.faults source_end.faults
-  pub steady_source : IsTrue source.steady → status ≢ ReadFault
-  pub too_long : status ≡ TooLong → (bytes : List ℕ) → source.left ≡ Some bytes → most_bytes < length bytes
-
--- what was written after the bytes that stood there before
-abbrev pub Writes : (Status → Type 0) → Status → List Answered → List ℕ → Option (List ℕ) → Type 0
-Writes MayEnd status answers before written = (shown : List ℕ) × (written ≡ Some (before ++ shown)) × IsOutput MayEnd status answers shown
+-- how a run of these words ended: the statements that are answered, what was written, and which faults came before. Want of memory is free
+pub record HasRun {X : Type 0} (words : List (List ℕ)) (workers : ℕ) (status : Status) (log : RunLog X) (source source_end : SourceState) (sink sink_end : SinkState) : Type 0 where
+  pub ending : Ending
+  pub usage : ending ≡ Usage → IsMisused words workers
+  pub misused : IsMisused words workers → (ending ≡ Usage) ⊎ (ending ≡ Memory)
+  pub serves : Serves (asked words) ending source source_end log.answers
+  pub halted : IsHalted (asked words) ending log.answers
+  pub writes : (before : List ℕ) → sink.written ≡ Some before → Writes (asked words) ending status (journals_text log.journals.list) log.answers before sink_end.written
+  pub read_fault : ending ≡ ReadFault → Rose source.faults source_end.faults
+  pub steady_source : IsTrue source.steady → ending ≢ ReadFault
+  pub write_fault : status ≡ status.WriteFault → Rose sink.faults sink_end.faults
+  pub steady_sink : IsTrue sink.steady → status ≢ status.WriteFault

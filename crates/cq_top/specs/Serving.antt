@@ -1,146 +1,151 @@
 -- How far a run is: its answers so far, what was taken of the script, and what was written.
-use Rattle.std.specs.Prelude.{◌≡◌, ◌≢◌, ◌≤◌, ◌⊎◌, ⊤, ℕ, IsTrue, Option, Some, None, List, [], ◌∷◌, ◌++◌, length, take, drop}
+use Rattle.std.specs.Prelude.{◌≡◌, ◌≢◌, ◌<◌, ◌≤◌, ◌×◌, ◌⊎◌, ⊤, ⊥, ℕ, true, IsTrue, Option, Some, None, List, [], ◌∷◌, ◌++◌, length, take, drop}
 use Rattle.cq_answer.specs.declared.answered.Answered.{Answered}
-use Rattle.cq_statement.specs.Reading.{reading_of}
-use Rattle.cq_history.specs.Run.{environment_from}
+use Rattle.cq_history.specs.Run.{Run, environment_from}
 use Rattle.cq_history.specs.Log.{IsConsistent}
 use Rattle.cq_history.specs.Refusals.{rules}
 use Rattle.cq_store.specs.Stores.{StoreState}
 use Rattle.cq_store.specs.declared.worker.Worker.{Worker}
 use Rattle.cq_cluster.specs.Cluster.{IsSound, AreWorkers, run_of}
 use Rattle.cq_cluster.specs.Accounts.{AreAccounted}
-use Rattle.cq_script.specs.Scripts.{Cut, Cutting}
+use Rattle.cq_script.specs.declared.cutter.Cutter.{Cutter}
+use Rattle.cq_script.specs.declared.cutter.Item.{Item}
+use Rattle.cq_script.specs.Scripts.{cut, items_in}
 use Rattle.cq_script.specs.Streams.{SourceState, SinkState, Rose}
-use Rattle.cq_script.specs.declared.fatal.Fatal.{Fatal}
-use Rattle.cq_script.specs.declared.fatal.Fatal.TheVariants as fatal
 use Rattle.cq_coordinator.specs.Coordination.{environment, journals}
 use Rattle.cq_session.specs.Responses.{ReadsAs}
+use Rattle.cq_words.specs.declared.settled.Settled.{Settled}
+use Rattle.cq_top.specs.declared.ending.Ending.{Ending}
+use Rattle.cq_top.specs.declared.ending.Ending.TheVariants.{Usage, WriteFault, Memory, ReadFault}
 use Rattle.cq_top.specs.declared.serving.Serving.{Serving}
+use Rattle.cq_top.specs.declared.stop.Stop.{Stop}
+use Rattle.cq_top.specs.declared.stop.Stop.TheVariants as stops
 use Rattle.cq_top.specs.declared.status.Status.{Status}
-use Rattle.cq_top.specs.declared.status.Status.TheVariants.{Done, Usage, ReadFault, WriteFault, Memory, TooLong}
-use Rattle.cq_top.specs.Outputs.{texts, IsPart}
-use Rattle.cq_top.specs.Scripts.{start, node_count, AnswersTo}
+use Rattle.cq_top.specs.declared.status.Status.TheVariants as status
+use Rattle.cq_top.specs.Outputs.{texts, IsPart, IsOutput}
+use Rattle.cq_top.specs.Scripts.{start, settings_by, begun_in, most_statements, most_bytes, IsAnswered, AnswersTo, AnswersFirst, AllSucceed, FailsLast, MayFailLast}
+
+-- what a run was given, by the command line and the workers
+abbrev pub run_by : {X : Type 0} → Settled → List (Worker X) → Run
+run_by s entry = run_of s.workers (settings_by s) entry
 
 -- over workers that were handed in so: the answers and the journals fit together, and the coordinator keeps its groups and stores
 pub record IsServingOver {X : Type 0} (state : X → StoreState) (entry : List (Worker X)) (s : Serving X) : Type 0 where
-  pub nodes : s.coordinator.cluster.nodes ≡ node_count
-  pub consistent : IsConsistent rules (run_of node_count entry) (environment s.coordinator) s.answers (journals s.coordinator)
+  pub nodes : s.coordinator.cluster.nodes ≡ s.settled.workers
+  pub consistent : IsConsistent rules (run_by s.settled entry) (environment s.coordinator) s.answers (journals s.coordinator)
   pub sound : IsSound state s.coordinator.cluster
-  pub workers : AreWorkers state node_count entry s.coordinator.cluster.groups.items s.coordinator.cluster.workers.items
+  pub workers : AreWorkers state s.settled.workers entry s.coordinator.cluster.groups.items s.coordinator.cluster.workers.items
   pub accounted : AreAccounted state s.coordinator.cluster.catalog s.answers s.coordinator.cluster.groups.items
 
 -- the same, over some workers
 abbrev pub IsServing : {X : Type 0} → (X → StoreState) → Serving X → Type 0
 IsServing {X} state s = (entry : List (Worker X)) × IsServingOver state entry s
 
--- a call after which all this is so still
-abbrev pub KeepsServing : {X : Type 0} → (X → StoreState) → Serving X → Serving X → Type 0
-KeepsServing {X} state old new = (entry : List (Worker X)) → IsServingOver state entry old → IsServingOver state entry new
+-- a call after which all this is so still, under the same words
+pub record KeepsServing {X : Type 0} (state : X → StoreState) (old new : Serving X) : Type 0 where
+  pub settled : new.settled ≡ old.settled
+  pub over : (entry : List (Worker X)) → IsServingOver state entry old → IsServingOver state entry new
 
--- one more answer, to this text
-abbrev pub AnswersNext : List Answered → List Answered → List ℕ → Type 0
-AnswersNext old new text = (a : Answered) × (new ≡ old ++ a ∷ []) × ReadsAs a.bound a.answer (reading_of text (environment_from start old).catalog.tables)
+-- ---- answers
 
--- the same, or there was no memory for it
-abbrev pub AnswersMaybe : List Answered → List Answered → List ℕ → Type 0
-AnswersMaybe old new text = (new ≡ old) ⊎ AnswersNext old new text
+-- one more answer, to this item
+abbrev pub AnswersNext : Settled → List Answered → List Answered → Item → Type 0
+AnswersNext s old new i = (a : Answered) × (new ≡ old ++ a ∷ []) × ReadsAs a.bound a.answer i.text i.copied (environment_from (start s) old).catalog.tables
 
--- one more answer, if the text has a byte
-abbrev pub AnswersAny : List Answered → List Answered → List ℕ → Type 0
-AnswersAny old new [] = new ≡ old
-AnswersAny old new (b ∷ bs) = AnswersNext old new (b ∷ bs)
-
--- the same, or there was no memory for it
-abbrev pub AnswersAnyMaybe : List Answered → List Answered → List ℕ → Type 0
-AnswersAnyMaybe old new text = (new ≡ old) ⊎ AnswersAny old new text
-
--- the statements that are whole in the bytes taken are answered, and the text is the piece begun
-abbrev pub IsAnsweredUpTo : List ℕ → List ℕ → List Answered → Type 0
-IsAnsweredUpTo taken text answers = (given : List (List ℕ)) × AnswersTo given answers × Cut taken given text
+-- the items that are whole in the bytes taken are answered, and this was begun
+pub record Reaches (s : Settled) (taken : List ℕ) (begun : Cutter) (answers : List Answered) : Type 0 where
+  pub answered : AnswersTo s (items_in taken) answers
+  pub begun : begun ≡ begun_in taken
 
 -- the same, while bytes of those taken are left
-abbrev pub IsAnswering : List ℕ → List ℕ → List ℕ → List Answered → Type 0
-IsAnswering bytes text left answers = (given : List (List ℕ)) × AnswersTo given answers × Cutting bytes given text left
+pub record IsReaching (s : Settled) (taken : List ℕ) (begun : Cutter) (left : List ℕ) (answers : List Answered) : Type 0 where
+  pub given : List Item
+  pub answered : AnswersTo s given answers
+  pub items : given ++ (cut begun left).items ≡ items_in taken
+  pub begun : (cut begun left).begun ≡ begun_in taken
+
+-- what a stop at an item says of the answers: there is one more to it, or there was no memory for that, or as many as there may be stood before
+abbrev pub StopsAt : Settled → Stop → List Answered → List Answered → Item → Type 0
+StopsAt s stops.Statements old new i = (new ≡ old) × (length old ≡ most_statements)
+StopsAt s stops.Stopped old new i = AnswersNext s old new i
+StopsAt s stop old new i = (new ≡ old) ⊎ AnswersNext s old new i
+
+-- what a stop says of these items: the first of them are answered, and at the limit as many as there may be, which aren't all
+abbrev pub StopsAmong : Settled → Stop → List Item → List Answered → Type 0
+StopsAmong s stops.Statements found answers = (most_statements < length found) × (length answers ≡ most_statements) × AnswersFirst s found answers
+StopsAmong s stop found answers = AnswersFirst s found answers
+
+-- under --stop no statement failed yet
+abbrev pub IsCalm : Settled → List Answered → Type 0
+IsCalm s answers = s.stop ≡ true → AllSucceed answers
+
+-- what a stop says of statements that failed
+abbrev pub HaltsBy : Settled → Stop → List Answered → Type 0
+HaltsBy s stops.Stopped answers = (s.stop ≡ true) × FailsLast answers
+HaltsBy s stops.Statements answers = IsCalm s answers
+HaltsBy s stop answers = s.stop ≡ true → MayFailLast answers
 
 -- where the source tells its bytes: so many are taken, and answered up to there
-abbrev pub IsTaken : SourceState → SourceState → ℕ → List ℕ → List Answered → Type 0
-IsTaken first now taken text answers = (bytes : List ℕ) → first.left ≡ Some bytes → (now.left ≡ Some (drop taken bytes)) × (taken ≤ length bytes) × IsAnsweredUpTo (take taken bytes) text answers
+abbrev pub IsTaken : Settled → SourceState → SourceState → ℕ → Cutter → List Answered → Type 0
+IsTaken s first now taken begun answers = (bytes : List ℕ) → first.left ≡ Some bytes → (now.left ≡ Some (drop taken bytes)) × (taken ≤ length bytes) × Reaches s (take taken bytes) begun answers
+
+-- ---- what is written
 
 -- the texts of the answers are written, after the bytes that stood there before
-abbrev pub IsShown : List ℕ → SinkState → List Answered → Type 0
-IsShown before sink answers = sink.written ≡ Some (before ++ texts answers)
+abbrev pub IsShown : Settled → List ℕ → SinkState → List Answered → Type 0
+IsShown s before sink answers = sink.written ≡ Some (before ++ texts s.csv answers)
 
 -- where writing was cut off
-abbrev pub IsShownInPart : List ℕ → SinkState → List Answered → Type 0
-IsShownInPart before sink answers = (shown : List ℕ) × (sink.written ≡ Some (before ++ shown)) × IsPart answers shown
+abbrev pub IsShownInPart : Settled → List ℕ → SinkState → List Answered → Type 0
+IsShownInPart s before sink answers = (shown : List ℕ) × (sink.written ≡ Some (before ++ shown)) × IsPart s.csv answers shown
 
 -- a call that writes the texts of the answers that it adds
-abbrev pub ShowsMore : SinkState → SinkState → List Answered → List Answered → Type 0
-ShowsMore old new answers more = (before : List ℕ) → IsShown before old answers → IsShown before new more
+abbrev pub ShowsMore : Settled → SinkState → SinkState → List Answered → List Answered → Type 0
+ShowsMore s old new answers more = (before : List ℕ) → IsShown s before old answers → IsShown s before new more
 
 -- a call that was cut off in writing them
-abbrev pub ShowsPart : SinkState → SinkState → List Answered → List Answered → Type 0
-ShowsPart old new answers more = (before : List ℕ) → IsShown before old answers → IsShownInPart before new more
+abbrev pub ShowsPart : Settled → SinkState → SinkState → List Answered → List Answered → Type 0
+ShowsPart s old new answers more = (before : List ℕ) → IsShown s before old answers → IsShownInPart s before new more
 
--- what was written when a run stops with this status, before its last line
-abbrev pub IsShownBy : Status → List ℕ → SinkState → List Answered → Type 0
-IsShownBy WriteFault before sink answers = IsShownInPart before sink answers
-IsShownBy Memory before sink answers = IsShownInPart before sink answers
-IsShownBy status before sink answers = IsShown before sink answers
+-- a call that was stopped: in the middle of writing, or behind the text of the last answer
+abbrev pub ShowsBy : Settled → Stop → SinkState → SinkState → List Answered → List Answered → Type 0
+ShowsBy s stops.WriteFault old new answers more = ShowsPart s old new answers more
+ShowsBy s stops.Memory old new answers more = ShowsPart s old new answers more
+ShowsBy s stop old new answers more = ShowsMore s old new answers more
 
--- how the reading of a script may end
-abbrev pub IsReadingEnd : Status → Type 0
-IsReadingEnd Done = ⊤
-IsReadingEnd ReadFault = ⊤
-IsReadingEnd TooLong = ⊤
-IsReadingEnd WriteFault = ⊤
-IsReadingEnd Memory = ⊤
-IsReadingEnd status = ⊥
+-- what was written when a run ends so, before its tail
+abbrev pub IsShownBy : Settled → Ending → List ℕ → SinkState → List Answered → Type 0
+IsShownBy s WriteFault before sink answers = IsShownInPart s before sink answers
+IsShownBy s Memory before sink answers = IsShownInPart s before sink answers
+IsShownBy s ending before sink answers = IsShown s before sink answers
 
--- the end of the last statement, which may be cut off
-abbrev pub IsLastEnd : Status → Type 0
-IsLastEnd Done = ⊤
-IsLastEnd WriteFault = ⊤
-IsLastEnd Memory = ⊤
-IsLastEnd status = ⊥
+-- what was written by a run that ended so, with this status, after the bytes that stood there before
+abbrev pub Writes : Settled → Ending → Status → List ℕ → List Answered → List ℕ → Option (List ℕ) → Type 0
+Writes s ending status journals answers before written = (shown : List ℕ) × (written ≡ Some (before ++ shown)) × IsOutput s ending status journals answers shown
 
--- a write fault comes only where the sink's count rose, and never from a steady sink
-pub record BlamesSink (status : Status) (old new : SinkState) : Type 0 where
-  pub rose : status ≡ WriteFault → Rose old.faults new.faults
-  pub never : IsTrue old.steady → status ≢ WriteFault
+-- how the reading of a script ends
+abbrev pub IsReadingEnd : Ending → Type 0
+IsReadingEnd Usage = ⊥
+IsReadingEnd ending = ⊤
+
+-- ---- faults
+
+-- the sink's count never falls, and whether it is steady stays
+pub record KeepsSink (old new : SinkState) : Type 0 where
   pub faults : old.faults ≤ new.faults
   pub steady : new.steady ≡ old.steady
 
+-- a stop for a fault comes only where the sink's count rose, and never from a steady sink
+pub record BlamesSink (fault : Type 0) (old new : SinkState) : Type 0 where
+  pub rose : fault → Rose old.faults new.faults
+  pub never : IsTrue old.steady → fault → ⊥
+
+-- a status for a fault comes only where the run ended so, or the sink's count rose behind that
+pub record BlamesTail (ending : Ending) (status : Status) (old new : SinkState) : Type 0 where
+  pub rose : status ≡ status.WriteFault → (ending ≡ WriteFault) ⊎ Rose old.faults new.faults
+  pub never : IsTrue old.steady → status ≡ status.WriteFault → ending ≡ WriteFault
+
 -- a read fault comes only where the source's count rose, and never from a steady source
-pub record BlamesSource (status : Status) (old new : SourceState) : Type 0 where
-  pub rose : status ≡ ReadFault → Rose old.faults new.faults
-  pub never : IsTrue old.steady → status ≢ ReadFault
-
--- the line is the last one of a run that ends so
-abbrev pub HasLastLine : Status → Option Fatal → Type 0
-HasLastLine Usage line = line ≡ Some fatal.Usage
-HasLastLine ReadFault line = line ≡ Some fatal.Read
-HasLastLine TooLong line = line ≡ Some fatal.LimitBytes
-HasLastLine status line = line ≡ None
-
--- this status and no other
-abbrev pub Is : Status → Status → Type 0
-Is status s = s ≡ status
-
--- how a run may end before its last line
-abbrev pub IsRunEnd : Status → Type 0
-IsRunEnd Usage = ⊤
-IsRunEnd status = IsReadingEnd status
-
--- the status stays, unless the last line can't be written
-abbrev pub IsEndedBy : Status → Status → Type 0
-IsEndedBy Usage end = (end ≡ Usage) ⊎ ((end ≡ WriteFault) ⊎ (end ≡ Memory))
-IsEndedBy ReadFault end = (end ≡ ReadFault) ⊎ ((end ≡ WriteFault) ⊎ (end ≡ Memory))
-IsEndedBy TooLong end = (end ≡ TooLong) ⊎ ((end ≡ WriteFault) ⊎ (end ≡ Memory))
-IsEndedBy status end = end ≡ status
-
--- a write fault that isn't one of before comes only where the sink's count rose, and never from a steady sink
-pub record BlamesLast (status end : Status) (old new : SinkState) : Type 0 where
-  pub rose : end ≡ WriteFault → (status ≡ WriteFault) ⊎ Rose old.faults new.faults
-  pub never : IsTrue old.steady → end ≡ WriteFault → status ≡ WriteFault
-  pub faults : old.faults ≤ new.faults
+pub record BlamesSource (ending : Ending) (old new : SourceState) : Type 0 where
+  pub rose : ending ≡ ReadFault → Rose old.faults new.faults
+  pub never : IsTrue old.steady → ending ≢ ReadFault

@@ -1,38 +1,60 @@
-ghost use Rattle.std.specs.Prelude.{◌≡◌, ◌≤◌, ◌⊎◌, ◌≢◌, ℕ, List, length, Some, None, IsTrue, option_map};
-ghost use Rattle.cq_script.specs.Texts.{fatal_line};
-ghost use Rattle.cq_script.specs.Streams.{Rose};
-ghost use Rattle.cq_answer.specs.declared.answered.Answered.{Answered};
-ghost use Rattle.cq_top.specs.Outputs.{last_line};
-ghost use Rattle.cq_top.specs.Runs.{Writes};
-ghost use Rattle.cq_top.specs.Serving.{Is, IsShownBy, IsEndedBy, HasLastLine, BlamesLast};
+ghost use Rattle.std.specs.Prelude.{◌≡◌};
+ghost use Rattle.cq_top.specs.Outputs.{status_of, fatal_of as fatal_by};
 
 use crate::status::Status;
-use cq_script::{Fatal, Sink, SinkError, emit};
+use cq_script::Fatal;
 
-/// The last line of a run that ends so, if it has one.
-fn fatal_of(status: Status) -> Option<Fatal>
-    ensures { HasLastLine status result }
-{
-    match status {
-        Status::Usage => Some(Fatal::Usage),
-        Status::ReadFault => Some(Fatal::Read),
-        Status::TooLong => Some(Fatal::LimitBytes),
-        _ => None,
-    }
+/// What ends a run.
+#[derive(Clone, Copy, Debug, PartialEq, Eq)]
+pub enum Ending {
+    /// The script was read to its end.
+    Done,
+    /// The words are wrong, or there are too few workers.
+    Usage,
+    /// The source failed.
+    ReadFault,
+    /// A statement failed under `--stop`.
+    Stopped,
+    /// The sink failed.
+    WriteFault,
+    /// Want of memory.
+    Memory,
+    /// The script has too many bytes.
+    Bytes,
+    /// The script has too many statements.
+    Statements,
+    /// In this line, counted from 1, a directive is out of its place, or more than blanks stands behind a COPY.
+    Line(u64),
 }
 
-/// Writes the last line of a run that ends with this status, if it has one, and gives the status with which it ends then.
-pub fn end_with<K: Sink>(sink: &mut K, status: Status) -> Status
-    ensures ended { IsEndedBy status result }
-    ensures writes { (before : List ℕ) (answers : List Answered) → IsShownBy status before (K.shown sink.old) answers → Writes (Is status) result answers before (K.shown sink.new).written }
-    ensures blames { BlamesLast status result (K.shown sink.old) (K.shown sink.new) }
-{
-    let Some(fatal) = fatal_of(status) else {
-        return status;
-    };
-    match emit(sink, fatal.line()) {
-        Ok(()) => status,
-        Err(SinkError::Failed) => Status::WriteFault,
-        Err(SinkError::Memory) => Status::Memory,
+impl Ending {
+    /// The status of a run that ends so.
+    pub fn status(self) -> Status
+        ensures { result ≡ status_of self }
+    {
+        match self {
+            Ending::Done => Status::Done,
+            Ending::Usage => Status::Usage,
+            Ending::ReadFault => Status::ReadFault,
+            Ending::Stopped => Status::Stopped,
+            Ending::WriteFault => Status::WriteFault,
+            Ending::Memory => Status::Memory,
+            Ending::Bytes | Ending::Statements => Status::TooLong,
+            Ending::Line(_) => Status::Script,
+        }
+    }
+
+    /// What the last line of a run that ends so says, if it has one.
+    pub fn fatal(self) -> Option<Fatal>
+        ensures { result ≡ fatal_by self }
+    {
+        match self {
+            Ending::Usage => Some(Fatal::Usage),
+            Ending::ReadFault => Some(Fatal::Read),
+            Ending::Bytes => Some(Fatal::LimitBytes),
+            Ending::Statements => Some(Fatal::LimitStatements),
+            Ending::Line(line) => Some(Fatal::Line(line)),
+            Ending::Done | Ending::Stopped | Ending::WriteFault | Ending::Memory => None,
+        }
     }
 }

@@ -1,5 +1,5 @@
-//! The top call: `run` takes a script from a source, answers its statements over two workers, and writes the answers to a
-//! sink. Its contract is what the product promises.
+//! The top call: `run` takes a script from a source, answers its statements over the workers that the command line asks for, and
+//! writes the answers to a sink. Its contract is what the product promises.
 #![tactic(auto)]
 
 mod ending;
@@ -11,10 +11,12 @@ mod serve;
 mod serving;
 mod status;
 mod stop;
+mod tail;
 
 pub use cq_group as group;
 pub use cq_group::{Gate, IdleGate, Point};
 pub use log::{Retired, RetiredList, RunLog};
 pub use making::make_workers;
 pub use running::{run, run_over};
+pub use ending::Ending;
 pub use status::Status;

@@ -1,22 +1,25 @@
-ghost use Rattle.std.specs.Prelude.{◌≡◌, ◌<◌, ◌≤◌, ◌↔◌, ℕ, List, [], length, Some, map};
+ghost use Rattle.std.specs.Prelude.{◌≡◌, ◌<◌, ◌≤◌, ◌≢◌, ◌×◌, ◌⊎◌, ℕ, List, [], length, Some, IfOk, IfErr};
 ghost use Rattle.cq_store.specs.declared.worker.Worker.{Worker};
 ghost use Rattle.cq_cluster.specs.Cluster.{AreIdle};
 ghost use Rattle.cq_cluster.specs.Accounts.{AllAccounted};
 ghost use Rattle.cq_cluster.specs.Ending.{IsFinal};
-ghost use Rattle.cq_top.specs.Scripts.{node_count, Serves};
-ghost use Rattle.cq_top.specs.Serving.{IsServing, IsServingOver, IsShownBy, IsReadingEnd, IsRunEnd, BlamesSink, BlamesSource};
-ghost use Rattle.cq_top.specs.Runs.{IsEmptyLog, IsWhole, Stand, IsMisused, HasCause, MayEnd, Writes};
+ghost use Rattle.cq_words.specs.Words.{settled as settled_by};
+ghost use Rattle.cq_top.specs.Scripts.{IsHalted, Serves};
+ghost use Rattle.cq_top.specs.Serving.{IsServing, IsServingOver, KeepsServing, IsShownBy, IsReadingEnd, KeepsSink, BlamesSink, BlamesSource};
+ghost use Rattle.cq_top.specs.Runs.{IsEmptyLog, IsWhole, Stand, IsMisused, HasRun, asked};
 
-use crate::ending::end_with;
+use crate::ending::Ending;
 use crate::log::RunLog;
-use crate::reading::serve;
+use crate::reading::{serve_bytes, serve_source};
 use crate::serving::Serving;
 use crate::status::Status;
+use crate::tail::end_with;
 use cq_cluster::Ended;
 use cq_coordinator::Coordinator;
 use cq_group::Gate;
-use cq_script::{Sink, Source};
+use cq_script::{Generator, Sink, Source};
 use cq_store::{Store, Worker};
+use cq_words::{Settled, WordsError, read_words};
 use std::alloc::Global;
 use std::mem;
 use std::sync::Wait;
@@ -25,20 +28,48 @@ use std::thread::Threads;
 /// The most shard groups of a run.
 const MOST_GROUPS: u64 = 512;
 
+/// What the command line asks for where it has no word.
+const PLAIN: Settled = Settled {
+    workers: 2,
+    repartition: false,
+    csv: false,
+    stop: false,
+    journal: false,
+    generate: None,
+};
+
+/// What the words ask for, where there are as many workers; or how the run ends at once.
+fn settle(alloc: Global, words: &[String], workers: usize) -> Result<Settled, Ending>
+    ensures ok { IfOk result (λ s. (settled_by words.now ≡ Some s) × (s.workers ≤ workers) × (0 < s.workers) × (s.workers ≤ 16)) }
+    ensures err { IfErr result (λ ending. ((ending ≡ Ending.Usage) × IsMisused words.now workers) ⊎ (ending ≡ Ending.Memory)) }
+{
+    match read_words(alloc, words) {
+        Ok(settled) => {
+            if settled.workers as usize > workers {
+                return Err(Ending::Usage);
+            }
+            Ok(settled)
+        }
+        Err(WordsError::Usage) => Err(Ending::Usage),
+        Err(WordsError::Memory) => Err(Ending::Memory),
+    }
+}
+
 /// Puts what a run did into its log, and the stores of its groups back into the workers' lists. Takes no memory.
 fn close<S: Store>(serving: Serving<S>, workers: &mut Vec<Worker<S>>, log: &mut RunLog<S>)
     requires serving { IsServing S.state serving }
     requires fresh { IsEmptyLog log.old }
     requires room { 512 ≤ log.old.journals.room }
     ensures answers { log.new.answers ≡ serving.answers }
-    ensures whole { (entry : List (Worker S)) → IsServingOver S.state entry serving → IsWhole entry log.new }
-    ensures stand { (entry : List (Worker S)) → IsServingOver S.state entry serving → Stand entry log.new }
-    ensures last { (entry : List (Worker S)) → IsServingOver S.state entry serving → IsFinal S.state node_count entry log.new.catalog log.new.journals.list workers.new.items }
-    ensures accounts { AllAccounted S.state node_count log.new.answers workers.new.items }
+    ensures whole { (entry : List (Worker S)) → IsServingOver S.state entry serving → IsWhole serving.settled entry log.new }
+    ensures stand { (entry : List (Worker S)) → IsServingOver S.state entry serving → Stand serving.settled entry log.new }
+    ensures last { (entry : List (Worker S)) → IsServingOver S.state entry serving → IsFinal S.state serving.settled.workers entry log.new.catalog log.new.journals.list workers.new.items }
+    ensures accounts { AllAccounted S.state serving.settled.workers log.new.answers workers.new.items }
 {
     let Serving {
         coordinator,
         answers,
+        ..
     } = serving;
     let Coordinator { cluster, .. } = coordinator;
     let Ended {
@@ -50,64 +81,69 @@ fn close<S: Store>(serving: Serving<S>, workers: &mut Vec<Worker<S>>, log: &mut 
     log.catalog = catalog;
 }
 
-/// Answers the script of the source over the workers.
-fn run_script<S: Store, I: Source, K: Sink, G: Gate>(
+/// Answers the script of the source, or the one that the command line asks for.
+fn serve<S: Store, I: Source, K: Sink, G: Gate>(
     alloc: Global,
+    gate: &G,
+    serving: &mut Serving<S>,
     source: &mut I,
     sink: &mut K,
-    gate: &G,
-    workers: &mut Vec<Worker<S>>,
-    log: &mut RunLog<S>,
-) -> Status
-    requires idle { AreIdle S.state workers.old.items }
-    requires enough { node_count ≤ length workers.old.items }
-    requires fresh { IsEmptyLog log.old }
+) -> Ending
+    requires fresh { serving.old.answers ≡ [] }
+    requires serving { IsServing S.state serving.old }
+    ensures serving { IsServing S.state serving.new }
+    ensures keeps { KeepsServing S.state serving.old serving.new }
     ensures end { IsReadingEnd result }
-    ensures whole { IsWhole workers.old.items log.new }
-    ensures stand { Stand workers.old.items log.new }
-    ensures served { (bytes : List ℕ) → (I.told source.old).left ≡ Some bytes → Serves result bytes (I.told source.new).left log.new.answers }
-    ensures shown { (before : List ℕ) → (K.shown sink.old).written ≡ Some before → IsShownBy result before (K.shown sink.new) log.new.answers }
+    ensures serves { Serves serving.old.settled result (I.told source.old) (I.told source.new) serving.new.answers }
+    ensures halted { IsHalted serving.old.settled result serving.new.answers }
+    ensures shown { (before : List ℕ) → (K.shown sink.old).written ≡ Some before → IsShownBy serving.old.settled result before (K.shown sink.new) serving.new.answers }
     ensures source { BlamesSource result (I.told source.old) (I.told source.new) }
-    ensures sink { BlamesSink result (K.shown sink.old) (K.shown sink.new) }
-    ensures last { IsFinal S.state node_count workers.old.items log.new.catalog log.new.journals.list workers.new.items }
-    ensures accounts { AllAccounted S.state node_count log.new.answers workers.new.items }
+    ensures sink { KeepsSink (K.shown sink.old) (K.shown sink.new) }
+    ensures blames { BlamesSink (result ≡ Ending.WriteFault) (K.shown sink.old) (K.shown sink.new) }
 {
-    if log.journals.reserve(MOST_GROUPS).is_err() {
-        return Status::Memory;
+    match serving.settled.generate {
+        None => serve_source(alloc, gate, serving, source, sink),
+        Some((number, rows)) => match Generator::new(number, rows).script(alloc) {
+            Ok(script) => serve_bytes(alloc, gate, serving, sink, script.as_slice()),
+            Err(_) => Ending::Memory,
+        },
     }
-    let mut serving = Serving::new(alloc, mem::replace(workers, Vec::new(alloc)));
-    let status = serve(alloc, gate, &mut serving, source, sink);
-    close(serving, workers, log);
-    status
 }
 
-/// Answers the script, unless the words are wrong or there are fewer than two workers.
-fn run_words<S: Store, I: Source, K: Sink, G: Gate>(
+/// Answers the script over the workers, and gives how the run ended.
+fn run_script<S: Store, I: Source, K: Sink, G: Gate>(
     alloc: Global,
-    words: &[String],
+    settled: Settled,
     source: &mut I,
     sink: &mut K,
     gate: &G,
     workers: &mut Vec<Worker<S>>,
     log: &mut RunLog<S>,
-) -> Status
+) -> Ending
     requires idle { AreIdle S.state workers.old.items }
+    requires some { 0 < settled.workers }
+    requires few { settled.workers ≤ 16 }
+    requires enough { settled.workers ≤ length workers.old.items }
     requires fresh { IsEmptyLog log.old }
-    ensures end { IsRunEnd result }
-    ensures usage { (result ≡ Status.Usage) ↔ IsMisused (length words.now) (length workers.old.items) }
-    ensures whole { IsWhole workers.old.items log.new }
-    ensures stand { Stand workers.old.items log.new }
-    ensures served { (bytes : List ℕ) → (I.told source.old).left ≡ Some bytes → Serves result bytes (I.told source.new).left log.new.answers }
-    ensures shown { (before : List ℕ) → (K.shown sink.old).written ≡ Some before → IsShownBy result before (K.shown sink.new) log.new.answers }
+    ensures end { IsReadingEnd result }
+    ensures whole { IsWhole settled workers.old.items log.new }
+    ensures stand { Stand settled workers.old.items log.new }
+    ensures serves { Serves settled result (I.told source.old) (I.told source.new) log.new.answers }
+    ensures halted { IsHalted settled result log.new.answers }
+    ensures shown { (before : List ℕ) → (K.shown sink.old).written ≡ Some before → IsShownBy settled result before (K.shown sink.new) log.new.answers }
     ensures source { BlamesSource result (I.told source.old) (I.told source.new) }
-    ensures sink { BlamesSink result (K.shown sink.old) (K.shown sink.new) }
-    ensures last { IsFinal S.state node_count workers.old.items log.new.catalog log.new.journals.list workers.new.items }
-    ensures accounts { AllAccounted S.state node_count log.new.answers workers.new.items }
+    ensures sink { KeepsSink (K.shown sink.old) (K.shown sink.new) }
+    ensures blames { BlamesSink (result ≡ Ending.WriteFault) (K.shown sink.old) (K.shown sink.new) }
+    ensures last { IsFinal S.state settled.workers workers.old.items log.new.catalog log.new.journals.list workers.new.items }
+    ensures accounts { AllAccounted S.state settled.workers log.new.answers workers.new.items }
 {
-    if !words.is_empty() || workers.len() < 2 {
-        return Status::Usage;
+    if log.journals.reserve(MOST_GROUPS).is_err() {
+        return Ending::Memory;
     }
-    run_script(alloc, source, sink, gate, workers, log)
+    let mut serving = Serving::new(alloc, settled, mem::replace(workers, Vec::new(alloc)));
+    let ending = serve(alloc, gate, &mut serving, source, sink);
+    close(serving, workers, log);
+    ending
 }
 
 /// The same as `run`, over stores of any one kind.
@@ -123,23 +159,27 @@ pub fn run_over<R: Threads + Wait + Sync, S: Store, I: Source, K: Sink, G: Gate>
 ) -> Status
     requires idle { AreIdle S.state workers.old.items }
     requires fresh { IsEmptyLog log.old }
-    ensures stand { Stand workers.old.items log.new }
-    ensures whole { IsWhole workers.old.items log.new }
-    ensures serves { (bytes : List ℕ) → (I.told source.old).left ≡ Some bytes → Serves result bytes (I.told source.new).left log.new.answers }
-    ensures writes { (before : List ℕ) → (K.shown sink.old).written ≡ Some before → Writes (MayEnd (length words.now) (length workers.old.items) (I.told source.old) (I.told source.new)) result log.new.answers before (K.shown sink.new).written }
-    ensures last { IsFinal S.state node_count workers.old.items log.new.catalog log.new.journals.list workers.new.items }
-    ensures accounts { AllAccounted S.state node_count log.new.answers workers.new.items }
-    ensures cause { HasCause result (length words.now) (length workers.old.items) (I.told source.old) (I.told source.new) (K.shown sink.old) (K.shown sink.new) }
+    ensures stand { Stand (asked words.now) workers.old.items log.new }
+    ensures whole { IsWhole (asked words.now) workers.old.items log.new }
+    ensures ran { HasRun words.now (length workers.old.items) result log.new (I.told source.old) (I.told source.new) (K.shown sink.old) (K.shown sink.new) }
+    ensures last { IsFinal S.state (asked words.now).workers workers.old.items log.new.catalog log.new.journals.list workers.new.items }
+    ensures accounts { AllAccounted S.state (asked words.now).workers log.new.answers workers.new.items }
 {
-    let status = run_words(alloc, words, source, sink, gate, workers, log);
-    end_with(sink, status)
+    match settle(alloc, words, workers.len()) {
+        Ok(settled) => {
+            let ending = run_script(alloc, settled, source, sink, gate, workers, log);
+            end_with(alloc, sink, &settled, ending, &log.journals)
+        }
+        Err(ending) => end_with(alloc, sink, &PLAIN, ending, &log.journals),
+    }
 }
 
-/// Runs the script of the source over the first two workers, and writes the answers to the sink.
+/// Runs the script of the source, or the one that the words ask for, and writes the answers to the sink.
 ///
-/// Takes no words. Each worker holds spare stores of its own node: 1, 2 and so on; the shards of distributed tables and the copies of reference
-/// tables take them. A call of a store may fail: its statement is answered so then, with the store's count of faults before and after, and leaves
-/// all as it was. The log is new, and keeps the answers, the catalog and each group's journal. Gives the status that the process ends with.
+/// The words are those of the command line behind the program's name. The first workers are used, as many as the words say. Each worker
+/// holds spare stores of its own node: 1, 2 and so on; the shards of distributed tables and the copies of reference tables take them. A call
+/// of a store may fail: its statement is answered so then, with the store's count of faults before and after, and leaves all as it was. The log
+/// is new, and keeps the answers, the catalogue and each group's journal. Gives the status that the process ends with.
 pub fn run<R: Threads + Wait + Sync, S: Source, K: Sink, G: Gate>(
     rt: &R,
     alloc: Global,
@@ -152,13 +192,11 @@ pub fn run<R: Threads + Wait + Sync, S: Source, K: Sink, G: Gate>(
 ) -> Status
     requires idle { AreIdle ⟦<Box<dyn Store + Send> as Store>⟧.state workers.old.items }
     requires fresh { IsEmptyLog log.old }
-    ensures stand { Stand workers.old.items log.new }
-    ensures whole { IsWhole workers.old.items log.new }
-    ensures serves { (bytes : List ℕ) → (S.told source.old).left ≡ Some bytes → Serves result bytes (S.told source.new).left log.new.answers }
-    ensures writes { (before : List ℕ) → (K.shown sink.old).written ≡ Some before → Writes (MayEnd (length words.now) (length workers.old.items) (S.told source.old) (S.told source.new)) result log.new.answers before (K.shown sink.new).written }
-    ensures last { IsFinal ⟦<Box<dyn Store + Send> as Store>⟧.state node_count workers.old.items log.new.catalog log.new.journals.list workers.new.items }
-    ensures accounts { AllAccounted ⟦<Box<dyn Store + Send> as Store>⟧.state node_count log.new.answers workers.new.items }
-    ensures cause { HasCause result (length words.now) (length workers.old.items) (S.told source.old) (S.told source.new) (K.shown sink.old) (K.shown sink.new) }
+    ensures stand { Stand (asked words.now) workers.old.items log.new }
+    ensures whole { IsWhole (asked words.now) workers.old.items log.new }
+    ensures ran { HasRun words.now (length workers.old.items) result log.new (S.told source.old) (S.told source.new) (K.shown sink.old) (K.shown sink.new) }
+    ensures last { IsFinal ⟦<Box<dyn Store + Send> as Store>⟧.state (asked words.now).workers workers.old.items log.new.catalog log.new.journals.list workers.new.items }
+    ensures accounts { AllAccounted ⟦<Box<dyn Store + Send> as Store>⟧.state (asked words.now).workers log.new.answers workers.new.items }
 {
     run_over(rt, alloc, words, source, sink, gate, workers, log)
 }

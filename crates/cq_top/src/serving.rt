@@ -1,31 +1,35 @@
 ghost use Rattle.std.specs.Prelude.{◌≡◌, ◌<◌, ◌+◌, ◌≤◌, ◌^◌, ◌⊎◌, [], ◌∷◌, ◌++◌, length, IfOk, OnOk, OnErr};
 ghost use Rattle.cq_cluster.specs.Cluster.{AreIdle};
-ghost use Rattle.cq_top.specs.Scripts.{node_count};
+ghost use Rattle.cq_top.specs.Scripts.{settings_by};
 ghost use Rattle.cq_top.specs.Serving.{IsServing, IsServingOver, KeepsServing, AnswersNext};
 
 use cq_answer::{Answer, Answered, AnsweredList, Fault, Settings};
 use cq_cluster::Cluster;
 use cq_coordinator::Coordinator;
+use cq_script::Item;
 use cq_session::{Response, respond};
 use cq_store::{Store, Worker};
 use cq_tree::Who;
 use cq_value::NoMemory;
+use cq_words::Settled;
 use std::alloc::Global;
 
-/// The settings of a run's start: no repartition joins, 32 shards for a new table, and pools of 16 (Citus documentation,
-/// "Configuration Reference").
-const FIRST_SETTINGS: Settings = Settings {
-    repartition: false,
-    shard_count: 32,
-    pool: 16,
-};
+/// The settings of a run's start: 32 shards for a new table, pools of 16, and repartition joins as the command line says (Citus
+/// documentation, "Configuration Reference").
+fn first_settings(settled: &Settled) -> Settings
+    ensures { result ≡ settings_by settled.now }
+{
+    Settings {
+        repartition: settled.repartition,
+        shard_count: 32,
+        pool: 16,
+    }
+}
 
-/// How many workers a run uses.
-const NODES: u32 = 2;
-
-/// A run in the middle: its coordinator, and the answers so far.
+/// A run in the middle: what the command line asks for, its coordinator, and the answers so far.
 #[derive(Drop)]
 pub struct Serving<S> {
+    pub settled: Settled,
     pub coordinator: Coordinator<S>,
     pub answers: AnsweredList,
 }
@@ -45,30 +49,35 @@ fn pending(number: u64, settings: Settings) -> Answered
 
 impl<S: Store> Serving<S> {
     /// Before the first statement: no table, the first settings and no answer, over these workers. Takes no memory.
-    pub fn new(alloc: Global, workers: Vec<Worker<S>>) -> Serving<S>
+    pub fn new(alloc: Global, settled: Settled, workers: Vec<Worker<S>>) -> Serving<S>
         requires idle { AreIdle S.state workers.items }
-        requires enough { node_count ≤ length workers.items }
+        requires some { 0 < settled.workers }
+        requires few { settled.workers ≤ 16 }
+        requires enough { settled.workers ≤ length workers.items }
         ensures serving { IsServingOver S.state workers.items result }
+        ensures settled { result.settled ≡ settled }
         ensures fresh { result.answers ≡ [] }
     {
+        let settings = first_settings(&settled);
         Serving {
             coordinator: Coordinator {
-                cluster: Cluster::new(alloc, workers, NODES),
-                settings: FIRST_SETTINGS,
+                cluster: Cluster::new(alloc, workers, settled.workers),
+                settings,
             },
             answers: AnsweredList::new(alloc),
+            settled,
         }
     }
 
-    /// Answers a statement's text. The answer is the last then.
+    /// Answers an item of the script. The answer is the last then.
     ///
     /// Errors: there is no memory for the answer; nothing is done then.
-    pub fn answer(&mut self, alloc: Global, text: &[u8]) -> Result<(), NoMemory>
+    pub fn answer(&mut self, alloc: Global, item: &Item) -> Result<(), NoMemory>
         requires room { length self.old.answers < 2 ^ 62 }
         requires serving { IsServing S.state self.old }
         ensures serving { IsServing S.state self.new }
         ensures keeps { KeepsServing S.state self.old self.new }
-        ensures next { OnOk result (AnswersNext self.old.answers self.new.answers text.now) }
+        ensures next { OnOk result (AnswersNext self.old.settled self.old.answers self.new.answers item.now) }
         ensures err { OnErr result (self.new.answers ≡ self.old.answers) }
     {
         let number = self.answers.len() + 1;
@@ -78,7 +87,13 @@ impl<S: Store> Serving<S> {
             session: 0,
             statement: number,
         };
-        let Response { bound, answer } = respond(alloc, &mut self.coordinator, who, text);
+        let Response { bound, answer } = respond(
+            alloc,
+            &mut self.coordinator,
+            who,
+            item.text.as_slice(),
+            item.copied.as_slice(),
+        );
         self.answers.set(
             number - 1,
             Answered {
