@@ -1,4 +1,3 @@
 pub mod ScheduleLaws
 pub mod TextLaws
 pub mod WritingLaws
-pub mod CuttingLaws

@@ -1,90 +1,52 @@
-ghost use Rattle.std.specs.Prelude.{◌≡◌, [], ◌∷◌, ◌++◌, IfOk, OnOk, OnErr, MatchOption};
-ghost use Rattle.cq_script.specs.Scripts.{pieces, scan, NoEnd, Gives};
-ghost use Rattle.cq_script.specs.declared.scan.Scan.TheVariants.{Code};
+use crate::scan::Scan;
+use cq_value::Items;
 
-use crate::scan::{Scan, split_at_end};
-use cq_value::NoMemory;
-use std::alloc::Global;
-use std::marker::Model;
+/// Bytes, which contracts see as their list.
+pub type Bytes = Items<u8>;
 
-/// A piece of a script that a semicolon ended, and the bytes after the semicolon.
+/// A statement's text, from its first token on, and the data of a COPY, which are empty for all others.
 #[derive(Debug, Drop)]
-pub struct Step<'a> {
-    pub piece: Vec<u8>,
-    pub left: &'a [u8],
+pub struct Item {
+    pub text: Bytes,
+    pub copied: Bytes,
 }
 
-/// Cuts a script that comes in parts into pieces, of a statement each. Contracts see it as the piece that was begun, so far.
+/// Where a line of a COPY's data stands: at its start, behind a backslash there, behind `\.` there, or farther on.
+#[derive(Clone, Copy, Debug, PartialEq, Eq)]
+pub enum Line {
+    Start,
+    Slash,
+    End,
+    Within,
+}
+
+/// Where a script stands.
+#[derive(Clone, Copy, Debug, PartialEq, Eq)]
+pub enum Place {
+    /// Between statements; `fresh`: a line begins.
+    Gap { fresh: bool },
+    /// Between statements, behind one dash.
+    GapDash,
+    /// In a comment between statements.
+    GapComment,
+    /// In a statement.
+    Text(Scan),
+    /// In the rest of a COPY's line, behind its semicolon.
+    Rest,
+    /// In a COPY's data.
+    Data(Line),
+    /// In a line that begins with a backslash where no statement has begun.
+    Directive,
+    /// Behind a line that is out of its place: nothing follows.
+    Out,
+}
+
+/// Cuts a script that comes in parts into items. It holds where the script stands, the number of the line, from 1, and what
+/// was begun.
 #[derive(Debug, Drop)]
 pub struct Cutter {
-    alloc: Global,
-    text: Vec<u8>,
-    at: Scan,
-}
-
-impl Model for Cutter {
-    ghost use Rattle.std.specs.Prelude.{◌≡◌, List, ℕ};
-    ghost use Rattle.cq_script.specs.Scripts.{scan, NoEnd};
-    ghost use Rattle.cq_script.specs.declared.scan.Scan.TheVariants.{Code};
-
-    ghost Value = { List ℕ };
-
-    ghost view = { λ c. c.text.items };
-
-    ghost invariant = { λ c. NoEnd Code c.text.items × (c.at ≡ scan Code c.text.items) };
-}
-
-/// Puts the bytes last.
-fn extend(text: &mut Vec<u8>, bytes: &[u8]) -> Result<(), NoMemory>
-    ensures ok { OnOk result (text.new.items ≡ text.old.items ++ bytes.now) }
-    ensures err { OnErr result (text.new.items ≡ text.old.items) }
-{
-    match text.extend_from_slice(bytes) {
-        Ok(()) => Ok(()),
-        Err(_) => Err(NoMemory),
-    }
-}
-
-impl Cutter {
-    /// At the front of a script.
-    pub fn new(alloc: Global) -> Cutter
-        ensures { result ≡ [] }
-    {
-        Cutter {
-            alloc,
-            text: Vec::new(alloc),
-            at: Scan::Code,
-        }
-    }
-
-    /// Takes bytes up to the first semicolon that ends a piece, and gives the piece and the bytes left; or takes all of
-    /// them, if they end none.
-    ///
-    /// Errors: for want of memory; the cutter stays as it was.
-    pub fn next_in<'a>(&mut self, bytes: &'a [u8]) -> Result<Option<Step<'a>>, NoMemory>
-        ensures step { IfOk result (λ step. MatchOption step (pieces (self.old ++ bytes.now) ≡ self.new ∷ []) (λ s. Gives self.old bytes.now s.piece.items s.left.now × (self.new ≡ []))) }
-        ensures err { OnErr result (self.new ≡ self.old) }
-    {
-        match split_at_end(self.at, bytes) {
-            Ok((front, left)) => {
-                extend(&mut self.text, front)?;
-                let piece = std::mem::replace(&mut self.text, Vec::new(self.alloc));
-                self.at = Scan::Code;
-                Ok(Some(Step { piece, left }))
-            }
-            Err(end) => {
-                extend(&mut self.text, bytes)?;
-                self.at = end;
-                Ok(None)
-            }
-        }
-    }
-
-    /// At the end of the script, the piece that was begun.
-    pub fn finish(self) -> Vec<u8>
-        ensures { result.items ≡ self }
-    {
-        let Cutter { text, .. } = self;
-        text
-    }
+    at: Place,
+    line: u64,
+    text: Bytes,
+    copied: Bytes,
 }
