@@ -1,21 +1,24 @@
--- Answers, one after another, to the texts of a script.
-use Rattle.std.proofs.Common.{suc, zero, ◌≡◌, ◌+◌, ◌-◌, ◌≤◌, inl, inr, ℕ, List, [], ◌∷◌, ◌++◌, length, take, drop, refl, sym, ◌∙◌, ap, subst, arith, Some, Option, append-nil}
+-- Answers, one after another, to the items of a script.
+use Rattle.std.proofs.Common.{suc, zero, ◌≡◌, ◌+◌, ◌-◌, ◌<◌, ◌≤◌, ◌⊎◌, inl, inr, ℕ, Bool, true, false, List, [], ◌∷◌, ◌++◌, length, take, drop, refl, sym, ◌∙◌, ap, subst, arith, Some, None, Option, append-nil, append_assoc}
 use Rattle.std.specs.Prelude.{fold, min, ◌↔◌}
 use Rattle.std.proofs.Math.ListN.{set}
 use Rattle.std.proofs.lemmas.Grind.{common_steps}
 use Rattle.cq_answer.specs.declared.answered.Answered.{Answered}
-use Rattle.cq_statement.specs.Reading.{reading_of}
 use Rattle.cq_history.specs.Run.{Environment, after}
 use Rattle.cq_session.specs.Responses.{ReadsAs}
-use Rattle.cq_script.specs.Scripts.{Gives, pieces, statement_of, statements, whole_statements, if_any}
+use Rattle.cq_script.specs.declared.cutter.Cutter.{Cutter}
+use Rattle.cq_script.specs.declared.cutter.Item.{Item}
+use Rattle.cq_script.specs.Scripts.{Cut, Gives, first, cut, items, items_in, one, last, misplaced, misplaced_at_end}
 use Rattle.cq_script.specs.Streams.{SourceState, SinkState, Took, Moved}
-use Rattle.cq_script.proofs.CuttingLaws.{cut_first, cutting_more, cutting_gives, cutting_done, cut_last}
+use Rattle.cq_script.proofs.CuttingLaws.{cut_append}
+use Rattle.cq_words.specs.declared.settled.Settled.{Settled}
+use Rattle.cq_top.specs.declared.ending.Ending.{Ending}
+use Rattle.cq_top.specs.declared.ending.Ending.TheVariants.{Done, Line}
 use Rattle.cq_top.specs.declared.stop.Stop.{Stop}
 use Rattle.cq_top.specs.declared.stop.Stop.TheVariants as stops
-use Rattle.cq_top.specs.declared.status.Status.{Status}
-use Rattle.cq_top.specs.declared.status.Status.TheVariants.{WriteFault, Memory}
-use Rattle.cq_top.specs.Scripts.{start, AnswersFrom, AnswersTo, AnswersFirst, AnswersSome, most_bytes, IsAnswered}
-use Rattle.cq_top.specs.Serving.{AnswersNext, AnswersAny, AnswersAnyMaybe, IsAnsweredUpTo, IsAnswering, IsTaken, IsShownInPart, IsShownBy}
+use Rattle.cq_top.specs.Outputs.{ending_of}
+use Rattle.cq_top.specs.Scripts.{start, AnswersFrom, AnswersTo, AnswersFirst, begun_in, most_bytes, most_statements, read_of, IsAll, IsReached, IsAnswered, fails, AllSucceed, FailsLast, MayFailLast, IsHalted}
+use Rattle.cq_top.specs.Serving.{AnswersNext, Reaches, IsReaching, StopsAt, StopsAmong, IsCalm, HaltsBy, IsTaken, IsShown, IsShownBy, ShowsBy}
 
 -- the last item is exchanged
 pub set_last : {X : Type 0} (xs ys zs : List X) (p a : X) (n : ℕ) → n ≡ length xs + 1 → ys ≡ xs ++ p ∷ [] → zs ≡ set ys (n - 1) a → zs ≡ xs ++ a ∷ []
@@ -25,84 +28,169 @@ set_last xs ys zs p a n e y z = z ∙ ap (λ v. set v (n - 1) a) y ∙ ap (λ m.
     at_last [] p a = refl
     at_last (x ∷ xs) p a = ap (λ v. x ∷ v) (at_last xs p a)
 
--- one more text with its answer
-answers_from_more : (e : Environment) (texts : List (List ℕ)) (answers : List Answered) (text : List ℕ) (a : Answered) → AnswersFrom e texts answers →
-    ReadsAs a.bound a.answer (reading_of text (fold (λ v (b : Answered). after v b.bound b.answer) e answers).catalog.tables) → AnswersFrom e (texts ++ text ∷ []) (answers ++ a ∷ [])
-answers_from_more e [] [] text a all r = (r, tt)
-answers_from_more e (t ∷ texts) (b ∷ answers) text a all r = (all.0, answers_from_more (after e b.bound b.answer) texts answers text a all.1 r)
-answers_from_more e [] (b ∷ answers) text a all r = absurd all
-answers_from_more e (t ∷ texts) [] text a all r = absurd all
+-- one more item with its answer
+answers_from_more : (e : Environment) (found : List Item) (answers : List Answered) (i : Item) (a : Answered) → AnswersFrom e found answers →
+    ReadsAs a.bound a.answer i.text i.copied (fold (λ v (b : Answered). after v b.bound b.answer) e answers).catalog.tables → AnswersFrom e (found ++ i ∷ []) (answers ++ a ∷ [])
+answers_from_more e [] [] i a all r = (r, tt)
+answers_from_more e (j ∷ found) (b ∷ answers) i a all r = (all.0, answers_from_more (after e b.bound b.answer) found answers i a all.1 r)
+answers_from_more e [] (b ∷ answers) i a all r = absurd all
+answers_from_more e (j ∷ found) [] i a all r = absurd all
 
-pub answers_more : (texts : List (List ℕ)) (old new : List Answered) (text : List ℕ) → AnswersTo texts old → AnswersNext old new text → AnswersTo (texts ++ text ∷ []) new
-answers_more texts old new text all next = subst (AnswersTo (texts ++ text ∷ [])) (sym next.1) (answers_from_more start texts old text next.0 all next.2)
+pub answers_more : (s : Settled) (found : List Item) (old new : List Answered) (i : Item) → AnswersTo s found old → AnswersNext s old new i → AnswersTo s (found ++ i ∷ []) new
+answers_more s found old new i all next = subst (AnswersTo s (found ++ i ∷ [])) (sym next.1) (answers_from_more (start s) found old i next.0 all next.2)
 
--- one more text with its answer, if it has a byte
-pub answers_any : (texts : List (List ℕ)) (old new : List Answered) (text : List ℕ) → AnswersTo texts old → AnswersAny old new text → AnswersTo (texts ++ if_any text) new
-answers_any texts old new [] all same = subst (λ v. AnswersTo v new) (sym (append-nil texts)) (subst (AnswersTo texts) (sym same) all)
-answers_any texts old new (b ∷ bs) all next = answers_more texts old new (b ∷ bs) all next
+-- as many items as answers
+same_count : (e : Environment) (found : List Item) (answers : List Answered) → AnswersFrom e found answers → length found ≡ length answers
+same_count e [] [] all = refl
+same_count e (j ∷ found) (b ∷ answers) all = ap suc (same_count (after e b.bound b.answer) found answers all.1)
+same_count e [] (b ∷ answers) all = absurd all
+same_count e (j ∷ found) [] all = absurd all
 
--- the texts of the answers are a front of the texts
-pub answers_first : (texts given rest : List (List ℕ)) (answers : List Answered) → given ++ rest ≡ texts → AnswersTo given answers → AnswersFirst texts answers
-answers_first texts given rest answers e all = (given, rest, sym e, all)
+-- ---- bytes that are taken
 
 -- nothing is taken yet
-pub answered_first : IsAnsweredUpTo [] [] []
-answered_first = ([], tt, cut_first)
+pub reaches_nothing : (s : Settled) → Reaches s [] first []
+unfolding items_in
+reaches_nothing s = record { answered = tt; begun = refl }
 
 -- more bytes are taken
-pub answering_more : (taken more text : List ℕ) (answers : List Answered) → IsAnsweredUpTo taken text answers → IsAnswering (taken ++ more) text more answers
-answering_more taken more text answers a = (a.0, a.1, cutting_more taken more a.0 text a.2)
+pub reaching_more : (s : Settled) (taken more : List ℕ) (begun : Cutter) (answers : List Answered) → Reaches s taken begun answers → IsReaching s (taken ++ more) begun more answers
+unfolding items_in
+reaching_more s taken more begun answers r =
+    let whole = cut_append first taken more in
+    let here : cut begun more ≡ cut (begun_in taken) more = ap (λ (c : Cutter). cut c more) r.begun in
+    record {
+      given = items_in taken;
+      answered = r.answered;
+      items = ap (λ (c : Cut). items_in taken ++ c.items) here ∙ sym (ap (λ (c : Cut). c.items) whole);
+      begun = ap (λ (c : Cut). c.begun) here ∙ sym (ap (λ (c : Cut). c.begun) whole);
+    }
 
--- the statement of a piece is answered
-pub answering_next : (bytes text left piece after : List ℕ) (old new : List Answered) → IsAnswering bytes text left old → Gives text left piece after → AnswersAny old new (statement_of piece) → IsAnswering bytes [] after new
-answering_next bytes text left piece after old new a g next = (a.0 ++ if_any (statement_of piece), answers_any a.0 old new (statement_of piece) a.1 next, cutting_gives bytes a.0 text left piece after a.2 g)
+-- an item of the bytes left is answered
+pub reaching_next : (s : Settled) (taken left after : List ℕ) (begun next : Cutter) (i : Item) (old new : List Answered) → IsReaching s taken begun left old → Gives begun left i next after → AnswersNext s old new i → IsReaching s taken next after new
+reaching_next s taken left after begun next i old new r g a = record {
+  given = r.given ++ i ∷ [];
+  answered = answers_more s r.given old new i r.answered a;
+  items = append_assoc r.given (i ∷ []) (cut next after).items ∙ ap (λ (c : Cut). r.given ++ c.items) (sym g.first) ∙ r.items;
+  begun = ap (λ (c : Cut). c.begun) (sym g.first) ∙ r.begun;
+}
 
--- all bytes are used
-pub answering_done : (bytes text left after : List ℕ) (answers : List Answered) → IsAnswering bytes text left answers → pieces (text ++ left) ≡ after ∷ [] → IsAnsweredUpTo bytes after answers
-answering_done bytes text left after answers a c = (a.0, a.1, cutting_done bytes a.0 text left after a.2 c)
+-- no item is left
+pub reaching_done : (s : Settled) (taken left : List ℕ) (begun new : Cutter) (answers : List Answered) → IsReaching s taken begun left answers → cut begun left ≡ record { items = []; begun = new } → Reaches s taken new answers
+reaching_done s taken left begun new answers r none = record {
+  answered = subst (λ (v : List Item). AnswersTo s v answers) (sym (append-nil r.given) ∙ ap (λ (c : Cut). r.given ++ c.items) (sym none) ∙ r.items) r.answered;
+  begun = ap (λ (c : Cut). c.begun) (sym none) ∙ r.begun;
+}
 
--- in the middle of the bytes, the first of their whole statements are answered
-pub answering_first : (bytes text left : List ℕ) (answers : List Answered) → IsAnswering bytes text left answers → AnswersFirst (whole_statements bytes) answers
-answering_first bytes text left answers a = answers_first (whole_statements bytes) a.0 (whole_statements (text ++ left)) answers a.2.whole a.1
+-- a stop before the next item
+pub reaching_first : (s : Settled) (taken left : List ℕ) (begun : Cutter) (answers : List Answered) → IsReaching s taken begun left answers → AnswersFirst s (items_in taken) answers
+reaching_first s taken left begun answers r = (r.given, (cut begun left).items, sym r.items, r.answered)
 
--- the statement of a piece is answered, or there was no memory for it
-pub answering_maybe : (bytes text left piece after : List ℕ) (old new : List Answered) → IsAnswering bytes text left old → Gives text left piece after → AnswersAnyMaybe old new (statement_of piece) → AnswersFirst (whole_statements bytes) new
-answering_maybe bytes text left piece after old new a g (inl e) = subst (AnswersFirst (whole_statements bytes)) (sym e) (answering_first bytes text left old a)
-answering_maybe bytes text left piece after old new a g (inr next) = answering_first bytes [] after new (answering_next bytes text left piece after old new a g next)
+-- or at it
+too_many : (s : Settled) (given rest found : List Item) (i : Item) (answers : List Answered) → given ++ i ∷ rest ≡ found → AnswersTo s given answers → length answers ≡ most_statements → most_statements < length found
+too_many s given rest found i answers e all full =
+    let n = same_count (start s) given answers all in
+    let l : length given + suc (length rest) ≡ length found = sym (length-append given (i ∷ rest)) ∙ ap length e in
+    omega (arith, n, l, full)
+  where
+    length-append : {X : Type 0} (xs ys : List X) → length (xs ++ ys) ≡ length xs + length ys
+    length-append xs ys = grind (arith, common_steps)
 
-pub answered_whole : (taken text : List ℕ) (answers : List Answered) → IsAnsweredUpTo taken text answers → AnswersTo (whole_statements taken) answers
-answered_whole taken text answers a = subst (λ v. AnswersTo v answers) a.2.whole a.1
+either_first : (s : Settled) (given rest found : List Item) (i : Item) (old new : List Answered) → given ++ i ∷ rest ≡ found → AnswersTo s given old → ((new ≡ old) ⊎ AnswersNext s old new i) → AnswersFirst s found new
+either_first s given rest found i old new e all (inl same) = (given, i ∷ rest, sym e, subst (AnswersTo s given) (sym same) all)
+either_first s given rest found i old new e all (inr next) = (given ++ i ∷ [], rest, sym e ∙ sym (append_assoc given (i ∷ []) rest), answers_more s given old new i all next)
 
--- the end of the script, where the statement of the last piece is answered
-pub answered_last : (bytes text : List ℕ) (old new : List Answered) → IsAnsweredUpTo bytes text old → AnswersAny old new (statement_of text) → AnswersTo (statements bytes) new
-answered_last bytes text old new a next = subst (λ v. AnswersTo v new) (cut_last bytes a.0 text a.2) (answers_any a.0 old new (statement_of text) a.1 next)
+pub stops_among : (s : Settled) (stop : Stop) (given rest found : List Item) (i : Item) (old new : List Answered) → given ++ i ∷ rest ≡ found → AnswersTo s given old → StopsAt s stop old new i → StopsAmong s stop found new
+stops_among s stops.WriteFault given rest found i old new e all at = either_first s given rest found i old new e all at
+stops_among s stops.Memory given rest found i old new e all at = either_first s given rest found i old new e all at
+stops_among s stops.Stopped given rest found i old new e all at = either_first s given rest found i old new e all (inr at)
+stops_among s stops.Statements given rest found i old new e all at = (
+  too_many s given rest found i old e all at.1,
+  ap length at.0 ∙ at.1,
+  either_first s given rest found i old new e all (inl at.0),
+)
 
--- or not
-pub answered_but_last : (bytes text : List ℕ) (answers : List Answered) → IsAnsweredUpTo bytes text answers → AnswersFirst (statements bytes) answers
-answered_but_last bytes text answers a = answers_first (statements bytes) a.0 (if_any (statement_of text)) answers (cut_last bytes a.0 text a.2) a.1
+pub reaching_stops : (s : Settled) (stop : Stop) (taken left after : List ℕ) (begun next : Cutter) (i : Item) (old new : List Answered) → IsReaching s taken begun left old → Gives begun left i next after → StopsAt s stop old new i →
+    StopsAmong s stop (items_in taken) new
+reaching_stops s stop taken left after begun next i old new r g at =
+    stops_among s stop r.given (cut next after).items (items_in taken) i old new (ap (λ (c : Cut). r.given ++ c.items) (sym g.first) ∙ r.items) r.answered at
 
--- the end of the script, where the answer of the last statement may be missing
-pub answered_maybe : (bytes text : List ℕ) (old new : List Answered) → IsAnsweredUpTo bytes text old → AnswersAnyMaybe old new (statement_of text) → AnswersFirst (statements bytes) new
-answered_maybe bytes text old new a (inl e) = subst (AnswersFirst (statements bytes)) (sym e) (answered_but_last bytes text old a)
-answered_maybe bytes text old new a (inr next) = answers_first (statements bytes) (statements bytes) [] new (append-nil (statements bytes)) (answered_last bytes text old new a next)
+-- ---- the end of a run
 
--- a run that is stopped has answered the first statements
-pub answered_stop : (stop : Stop) (status : Status) (bytes : List ℕ) (n : ℕ) (answers : List Answered) → ((stop ≡ stops.WriteFault) ↔ (status ≡ WriteFault)) → ((stop ≡ stops.Memory) ↔ (status ≡ Memory)) → AnswersSome bytes n answers → IsAnswered status bytes n answers
-answered_stop stops.WriteFault status bytes n answers w m first = subst (λ (s : Status). IsAnswered s bytes n answers) (sym (w.0 refl)) first
-answered_stop stops.Memory status bytes n answers w m first = subst (λ (s : Status). IsAnswered s bytes n answers) (sym (m.0 refl)) first
+pub stopped_answered : (s : Settled) (stop : Stop) (bytes : List ℕ) (taken : ℕ) (found : List Item) (answers : List Answered) → IsReached bytes taken found → StopsAmong s stop found answers → IsAnswered s (ending_of stop) bytes taken answers
+stopped_answered s stops.WriteFault bytes taken found answers r a = (found, r, a)
+stopped_answered s stops.Memory bytes taken found answers r a = (found, r, a)
+stopped_answered s stops.Stopped bytes taken found answers r a = (found, r, a)
+stopped_answered s stops.Statements bytes taken found answers r a = (found, r, a.0, a.1, a.2)
 
-pub shown_stop : (stop : Stop) (status : Status) (before : List ℕ) (sink : SinkState) (answers : List Answered) → ((stop ≡ stops.WriteFault) ↔ (status ≡ WriteFault)) → ((stop ≡ stops.Memory) ↔ (status ≡ Memory)) → IsShownInPart before sink answers → IsShownBy status before sink answers
-shown_stop stops.WriteFault status before sink answers w m part = subst (λ (s : Status). IsShownBy s before sink answers) (sym (w.0 refl)) part
-shown_stop stops.Memory status before sink answers w m part = subst (λ (s : Status). IsShownBy s before sink answers) (sym (m.0 refl)) part
+pub stopped_halted : (s : Settled) (stop : Stop) (answers : List Answered) → HaltsBy s stop answers → IsHalted s (ending_of stop) answers
+stopped_halted s stops.WriteFault answers h = h
+stopped_halted s stops.Memory answers h = h
+stopped_halted s stops.Stopped answers h = h
+stopped_halted s stops.Statements answers h = h
+
+pub stopped_shown : (s : Settled) (stop : Stop) (old new : SinkState) (before : List ℕ) (answers more : List Answered) → ShowsBy s stop old new answers more → IsShown s before old answers → IsShownBy s (ending_of stop) before new more
+stopped_shown s stops.WriteFault old new before answers more f shown = f before shown
+stopped_shown s stops.Memory old new before answers more f shown = f before shown
+stopped_shown s stops.Stopped old new before answers more f shown = f before shown
+stopped_shown s stops.Statements old new before answers more f shown = f before shown
+
+unfolded_items : (bytes : List ℕ) → items_in bytes ++ one (last (begun_in bytes)) ≡ items bytes
+unfolding items
+unfolded_items bytes = refl
+
+-- the end of the script: the statement that it ends is answered, or there is none
+pub ended_whole : (s : Settled) (bytes : List ℕ) (begun : Cutter) (answers : List Answered) → Reaches s bytes begun answers → last begun ≡ None → AnswersTo s (items bytes) answers
+ended_whole s bytes begun answers r none =
+    subst (λ (v : List Item). AnswersTo s v answers) (sym (append-nil (items_in bytes)) ∙ ap (λ o. items_in bytes ++ one o) (sym none ∙ ap last r.begun) ∙ unfolded_items bytes) r.answered
+
+pub ended_next : (s : Settled) (bytes : List ℕ) (begun : Cutter) (i : Item) (old new : List Answered) → Reaches s bytes begun old → last begun ≡ Some i → AnswersNext s old new i → AnswersTo s (items bytes) new
+ended_next s bytes begun i old new r some next =
+    subst (λ (v : List Item). AnswersTo s v new) (ap (λ o. items_in bytes ++ one o) (sym some ∙ ap last r.begun) ∙ unfolded_items bytes) (answers_more s (items_in bytes) old new i r.answered next)
+
+pub ended_stops : (s : Settled) (stop : Stop) (bytes : List ℕ) (begun : Cutter) (i : Item) (old new : List Answered) → length bytes ≤ most_bytes → Reaches s bytes begun old → last begun ≡ Some i → StopsAt s stop old new i →
+    IsAnswered s (ending_of stop) bytes (length bytes) new
+ended_stops s stop bytes begun i old new few r some at =
+    stopped_answered s stop bytes (length bytes) (items bytes) new (inr ((few, refl), refl))
+    (stops_among s stop (items_in bytes) [] (items bytes) i old new (ap (λ o. items_in bytes ++ one o) (sym some ∙ ap last r.begun) ∙ unfolded_items bytes) r.answered at)
+
+-- or there was no memory to look for it
+pub ended_first : (s : Settled) (ending : Ending) (bytes : List ℕ) (begun : Cutter) (answers : List Answered) → length bytes ≤ most_bytes → Reaches s bytes begun answers →
+    (found : List Item) × IsReached bytes (length bytes) found × AnswersFirst s found answers
+ended_first s ending bytes begun answers few r = (items bytes, inr ((few, refl), refl), items_in bytes, one (last (begun_in bytes)), sym (unfolded_items bytes), r.answered)
+
+-- all bytes count
+take_whole : (xs : List ℕ) → take (length xs) xs ≡ xs
+take_whole xs = grind (arith, common_steps)
+
+pub read_whole : (bytes : List ℕ) → length bytes ≤ most_bytes → read_of bytes (length bytes) ≡ bytes
+read_whole bytes few = ap (λ k. take k bytes) (omega (arith, few)) ∙ take_whole bytes
+
+pub ended_line : (s : Settled) (bytes : List ℕ) (begun : Cutter) (line : ℕ) (answers : List Answered) → length bytes ≤ most_bytes → Reaches s bytes begun answers → misplaced_at_end begun ≡ Some line →
+    IsAnswered s (Line line) bytes (length bytes) answers
+ended_line s bytes begun line answers few r is = (
+  inr ((few, refl), ap misplaced_at_end (sym r.begun) ∙ is),
+  subst (λ (v : List ℕ). AnswersTo s (items_in v) answers) (sym (read_whole bytes few)) r.answered,
+)
+
+pub ended_done : (s : Settled) (bytes : List ℕ) (begun : Cutter) (old new : List Answered) → length bytes ≤ most_bytes → Reaches s bytes begun old → misplaced_at_end begun ≡ None → AnswersTo s (items bytes) new →
+    IsAnswered s Done bytes (length bytes) new
+ended_done s bytes begun old new few r none all = ((few, refl), ap misplaced_at_end (sym r.begun) ∙ none, all)
+
+-- ---- the bytes of a source
+
+misplaced_first : misplaced first ≡ None
+unfolding misplaced
+misplaced_first = refl
 
 -- before anything is taken
-pub taken_first : (s : SourceState) → IsTaken s s 0 [] []
-taken_first s bytes e = (e, omega arith, answered_first)
+pub taken_first : (s : Settled) (source : SourceState) → IsTaken s source source 0 first []
+taken_first s source bytes e = (e, omega arith, reaches_nothing s)
 
 -- what is left after n more bytes, and those bytes
-more_taken : (first old new : SourceState) (taken n : ℕ) (room text bytes : List ℕ) (answers : List Answered) → IsTaken first old taken text answers → Took old new n room → first.left ≡ Some bytes →
+more_taken : (s : Settled) (first old new : SourceState) (taken n : ℕ) (room bytes : List ℕ) (begun : Cutter) (answers : List Answered) → IsTaken s first old taken begun answers → Took old new n room → first.left ≡ Some bytes →
     (new.left ≡ Some (drop (taken + n) bytes)) × (taken + n ≤ length bytes) × (take n room ≡ take n (drop taken bytes)) × ((n ≡ 0) ↔ (drop taken bytes ≡ []))
-more_taken first old new taken n room text bytes answers t took e =
+more_taken s first old new taken n room bytes begun answers t took e =
     let p = t bytes e in
     let moved = subst (λ (o : Option (List ℕ)). Moved o new.left n room) p.0 took.moved in (
       moved.0 ∙ ap Some (drop_drop taken n bytes),
@@ -115,17 +203,14 @@ more_taken first old new taken n room text bytes answers t took e =
     drop_drop a b xs = grind (arith, common_steps)
 
 -- the end of the source
-pub taken_end : (first old new : SourceState) (taken : ℕ) (room text bytes : List ℕ) (answers : List Answered) → IsTaken first old taken text answers → Took old new 0 room → first.left ≡ Some bytes →
-    (taken ≡ length bytes) × (new.left ≡ Some (drop (length bytes) bytes)) × IsAnsweredUpTo bytes text answers
-taken_end first old new taken room text bytes answers t took e =
+pub taken_end : (s : Settled) (first old new : SourceState) (taken : ℕ) (room bytes : List ℕ) (begun : Cutter) (answers : List Answered) → IsTaken s first old taken begun answers → Took old new 0 room → first.left ≡ Some bytes →
+    (taken ≡ length bytes) × (new.left ≡ Some (drop (length bytes) bytes)) × Reaches s bytes begun answers
+taken_end s first old new taken room bytes begun answers t took e =
     let p = t bytes e in
-    let m = more_taken first old new taken 0 room text bytes answers t took e in
+    let m = more_taken s first old new taken 0 room bytes begun answers t took e in
     let none : drop taken bytes ≡ [] = m.3.0 refl in
     let all : taken ≡ length bytes = (let l = ap length none in let q = p.1 in grind (arith, common_steps, l, q)) in
-    (all, m.0 ∙ ap (λ k. Some (drop k bytes)) (omega (arith, all)), subst (λ (v : List ℕ). IsAnsweredUpTo v text answers) (ap (λ k. take k bytes) all ∙ take_whole bytes) p.2)
-  where
-    take_whole : (xs : List ℕ) → take (length xs) xs ≡ xs
-    take_whole xs = grind (arith, common_steps)
+    (all, m.0 ∙ ap (λ k. Some (drop k bytes)) (omega (arith, all)), subst (λ (v : List ℕ). Reaches s v begun answers) (ap (λ k. take k bytes) all ∙ take_whole bytes) p.2)
 
 -- the bytes taken so far and the first of the new ones
 front_more : (bytes room : List ℕ) (taken n end : ℕ) → end ≤ n → take n room ≡ take n (drop taken bytes) → take taken bytes ++ take end room ≡ take (taken + end) bytes
@@ -142,24 +227,58 @@ front_more bytes room taken n end h e = ap (λ v. take taken bytes ++ v) (front 
     take_plus [] (suc a) n = grind (arith, common_steps)
     take_plus (x ∷ xs) (suc a) n = let e : suc a + n ≡ suc (a + n) = omega arith in rw e (ap (λ v. x ∷ v) (take_plus xs a n))
 
--- a piece was taken, and the statements that its first bytes end are answered
-pub taken_piece : (first old new : SourceState) (taken n end : ℕ) (room text after piece bytes : List ℕ) (answers more : List Answered) → IsTaken first old taken text answers → Took old new n room → end ≤ n → piece ≡ take end room →
-    ((given : List ℕ) → IsAnsweredUpTo given text answers → IsAnsweredUpTo (given ++ piece) after more) → first.left ≡ Some bytes →
-    (new.left ≡ Some (drop (taken + n) bytes)) × (taken + n ≤ length bytes) × IsAnsweredUpTo (take (taken + end) bytes) after more
-taken_piece first old new taken n end room text after piece bytes answers more t took h is f e =
-    let m = more_taken first old new taken n room text bytes answers t took e in
-    (m.0, m.1, subst (λ (v : List ℕ). IsAnsweredUpTo v after more) (ap (λ v. take taken bytes ++ v) is ∙ front_more bytes room taken n end h m.2) (f (take taken bytes) (t bytes e).2))
+-- a piece was taken, and the items that its first bytes end are answered
+pub taken_piece : (s : Settled) (first old new : SourceState) (taken n end : ℕ) (room piece bytes : List ℕ) (begun after : Cutter) (answers more : List Answered) → IsTaken s first old taken begun answers → Took old new n room → end ≤ n →
+    piece ≡ take end room → ((given : List ℕ) → Reaches s given begun answers → Reaches s (given ++ piece) after more) → first.left ≡ Some bytes →
+    (new.left ≡ Some (drop (taken + n) bytes)) × (taken + n ≤ length bytes) × Reaches s (take (taken + end) bytes) after more
+taken_piece s first old new taken n end room piece bytes begun after answers more t took h is f e =
+    let m = more_taken s first old new taken n room bytes begun answers t took e in
+    (m.0, m.1, subst (λ (v : List ℕ). Reaches s v after more) (ap (λ v. take taken bytes ++ v) is ∙ front_more bytes room taken n end h m.2) (f (take taken bytes) (t bytes e).2))
 
--- or the first of them are
-pub taken_piece_first : (first old new : SourceState) (taken n end : ℕ) (room text piece bytes : List ℕ) (answers more : List Answered) → IsTaken first old taken text answers → Took old new n room → end ≤ n → piece ≡ take end room →
-    taken + end ≡ min (taken + n) most_bytes → ((given : List ℕ) → IsAnsweredUpTo given text answers → AnswersFirst (whole_statements (given ++ piece)) more) → first.left ≡ Some bytes →
-    (new.left ≡ Some (drop (taken + n) bytes)) × AnswersSome bytes (taken + n) more
-taken_piece_first first old new taken n end room text piece bytes answers more t took h is upto f e =
-    let m = more_taken first old new taken n room text bytes answers t took e in
-    let front : take taken bytes ++ piece ≡ take (taken + end) bytes = ap (λ v. take taken bytes ++ v) is ∙ front_more bytes room taken n end h m.2 in
-    (m.0, inl (subst (λ (v : List ℕ). AnswersFirst (whole_statements v) more) (front ∙ ap (λ k. take k bytes) upto) (f (take taken bytes) (t bytes e).2)))
+-- or answering them was stopped
+pub taken_stops : (s : Settled) (stop : Stop) (first old new : SourceState) (taken n end : ℕ) (room piece bytes : List ℕ) (begun : Cutter) (answers more : List Answered) → IsTaken s first old taken begun answers → Took old new n room → end ≤ n →
+    piece ≡ take end room → taken + end ≡ min (taken + n) most_bytes → ((given : List ℕ) → Reaches s given begun answers → StopsAmong s stop (items_in (given ++ piece)) more) → first.left ≡ Some bytes →
+    (new.left ≡ Some (drop (taken + n) bytes)) × IsAnswered s (ending_of stop) bytes (taken + n) more
+taken_stops s stop first old new taken n end room piece bytes begun answers more t took h is upto f e =
+    let m = more_taken s first old new taken n room bytes begun answers t took e in
+    let front : take taken bytes ++ piece ≡ read_of bytes (taken + n) = ap (λ v. take taken bytes ++ v) is ∙ front_more bytes room taken n end h m.2 ∙ ap (λ k. take k bytes) upto in
+    (m.0, stopped_answered s stop bytes (taken + n) (items_in (read_of bytes (taken + n))) more (inl refl) (subst (λ (v : List ℕ). StopsAmong s stop (items_in v) more) front (f (take taken bytes) (t bytes e).2)))
 
-pub length-take_le : {X : Type 0} (n : ℕ) (xs : List X) → length (take n xs) ≤ n
-length-take_le zero xs = omega arith
-length-take_le (suc n) [] = omega arith
-length-take_le (suc n) (x ∷ xs) = omega (arith, length-take_le n xs)
+-- a line is out of its place
+pub taken_line : (s : Settled) (bytes : List ℕ) (n end line : ℕ) (begun : Cutter) (answers : List Answered) → end ≡ min n most_bytes → Reaches s (take end bytes) begun answers → misplaced begun ≡ Some line → IsAnswered s (Line line) bytes n answers
+taken_line s bytes n end line begun answers upto r is =
+    let read : take end bytes ≡ read_of bytes n = ap (λ k. take k bytes) upto in
+    (inl (ap (λ (v : List ℕ). misplaced (begun_in v)) (sym read) ∙ ap misplaced (sym r.begun) ∙ is), subst (λ (v : List ℕ). AnswersTo s (items_in v) answers) read r.answered)
+
+-- none is
+pub none_misplaced : (s : Settled) (taken : List ℕ) (begun : Cutter) (answers : List Answered) → Reaches s taken begun answers → misplaced begun ≡ None → misplaced (begun_in taken) ≡ None
+none_misplaced s taken begun answers r none = ap misplaced (sym r.begun) ∙ none
+
+pub nothing_misplaced : (c : Cutter) → c ≡ first → misplaced c ≡ None
+nothing_misplaced c e = ap misplaced e ∙ misplaced_first
+
+-- ---- statements that fail
+
+pub calm_first : (s : Settled) (answers : List Answered) → answers ≡ [] → IsCalm s answers
+calm_first s answers e stops = subst AllSucceed (sym e) tt
+
+succeed_more : (answers : List Answered) (a : Answered) → AllSucceed answers → fails a.answer ≡ false → AllSucceed (answers ++ a ∷ [])
+succeed_more [] a all h = (h, tt)
+succeed_more (b ∷ answers) a all h = (all.0, succeed_more answers a all.1 h)
+
+-- whatever the next answer is
+pub may_fail_next : (s : Settled) (old new : List Answered) (i : Item) → IsCalm s old → AnswersNext s old new i → s.stop ≡ true → MayFailLast new
+may_fail_next s old new i calm next stops = subst MayFailLast (sym next.1) (by (fails next.0.answer) refl)
+  where
+    by : (b : Bool) → fails next.0.answer ≡ b → MayFailLast (old ++ next.0 ∷ [])
+    by true h = inr (old, next.0, refl, h, calm stops)
+    by false h = inl (succeed_more old next.0 (calm stops) h)
+
+pub may_fail_same : (s : Settled) (old new : List Answered) → IsCalm s old → new ≡ old → s.stop ≡ true → MayFailLast new
+may_fail_same s old new calm same stops = inl (subst AllSucceed (sym same) (calm stops))
+
+pub calm_next : (s : Settled) (old new : List Answered) (i : Item) (failed : Bool) → IsCalm s old → (next : AnswersNext s old new i) → failed ≡ fails next.0.answer → failed ≡ false → IsCalm s new
+calm_next s old new i failed calm next is not stops = subst AllSucceed (sym next.1) (succeed_more old next.0 (calm stops) (sym is ∙ not))
+
+pub fails_next : (s : Settled) (old new : List Answered) (i : Item) (failed : Bool) → IsCalm s old → (next : AnswersNext s old new i) → failed ≡ fails next.0.answer → failed ≡ true → s.stop ≡ true → FailsLast new
+fails_next s old new i failed calm next is yes stops = (old, next.0, next.1, sym is ∙ yes, calm stops)

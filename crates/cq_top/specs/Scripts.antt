@@ -1,5 +1,5 @@
 -- The answers to the statements of a script: each is read over the tables that the answers before it give.
-use Rattle.std.specs.Prelude.{◌≡◌, ◌+◌, ◌<◌, ◌≤◌, ◌×◌, ◌⊎◌, ⊤, ⊥, ℕ, min, true, List, [], ◌∷◌, ◌++◌, length, take, drop, Option, Some, None}
+use Rattle.std.specs.Prelude.{◌≡◌, ◌+◌, ◌<◌, ◌≤◌, ◌×◌, ◌⊎◌, ⊤, ⊥, ℕ, Bool, min, true, false, List, [], ◌∷◌, ◌++◌, length, take, drop, Option, Some, None}
 use Rattle.std.specs.List.{AllByRecursion}
 use Rattle.cq_answer.specs.declared.answer.Answer.{Answer}
 use Rattle.cq_answer.specs.declared.answer.Answer.TheVariants.{Tag, Table, Failed}
@@ -94,22 +94,17 @@ Serves s ending source source_end answers = (bytes : List ℕ) → script_of s.g
 
 -- ---- statements that fail
 
-abbrev pub IsFailure : Answer → Type 0
-IsFailure (Tag tag) = ⊥
-IsFailure (Table names rows) = ⊥
-IsFailure (Failed fault) = ⊤
-
-abbrev pub IsSuccess : Answer → Type 0
-IsSuccess (Tag tag) = ⊤
-IsSuccess (Table names rows) = ⊤
-IsSuccess (Failed fault) = ⊥
+abbrev pub fails : Answer → Bool
+fails (Tag tag) = false
+fails (Table names rows) = false
+fails (Failed fault) = true
 
 abbrev pub AllSucceed : List Answered → Type 0
-AllSucceed answers = AllByRecursion (λ (a : Answered). IsSuccess a.answer) answers
+AllSucceed answers = AllByRecursion (λ (a : Answered). fails a.answer ≡ false) answers
 
 -- the last failed, and none before it
 abbrev pub FailsLast : List Answered → Type 0
-FailsLast answers = (before : List Answered) × (a : Answered) × (answers ≡ before ++ a ∷ []) × IsFailure a.answer × AllSucceed before
+FailsLast answers = (before : List Answered) × (a : Answered) × (answers ≡ before ++ a ∷ []) × (fails a.answer ≡ true) × AllSucceed before
 
 -- the last may have failed, and none before it
 abbrev pub MayFailLast : List Answered → Type 0

@@ -1,7 +1,7 @@
 ghost use Rattle.std.specs.Prelude.{◌≡◌, ◌<◌, ◌+◌, ◌≤◌, ◌⊎◌, ◌≢◌, ℕ, List, [], ◌∷◌, ◌++◌, length, IfOk, IfErr, OnOk, OnErr, Some, IsTrue, slice_get, true};
 ghost use Rattle.cq_script.specs.Scripts.{items_in};
 ghost use Rattle.cq_script.specs.Texts.{text_under};
-ghost use Rattle.cq_top.specs.Scripts.{most_statements, AnswersFirst};
+ghost use Rattle.cq_top.specs.Scripts.{most_statements, fails};
 ghost use Rattle.cq_top.specs.Serving.{IsServing, KeepsServing, AnswersNext, Reaches, StopsAmong, StopsAt, IsCalm, HaltsBy, ShowsMore, ShowsBy, KeepsSink, BlamesSink};
 
 use crate::serving::Serving;
@@ -25,8 +25,9 @@ fn text_at(alloc: Global, answers: &AnsweredList, place: u64, csv: bool) -> Resu
 }
 
 /// Whether the answer at a place is a refusal.
-fn failed_at(answers: &AnsweredList, place: u64) -> bool
+fn fails_at(answers: &AnsweredList, place: u64) -> bool
     requires { place < length answers.now }
+    ensures { (a : _) → slice_get answers.now place ≡ Some a → result ≡ fails a.answer }
 {
     matches!(answers.as_slice()[place as usize].answer, Answer::Failed(_))
 }
@@ -72,7 +73,7 @@ pub fn answer_one<S: Store, K: Sink, G: Gate>(
         Err(error) => return Err(stop_of(error)),
     }
     gate.at(0, Point::Answered);
-    if serving.settled.stop && failed_at(&serving.answers, place) {
+    if serving.settled.stop && fails_at(&serving.answers, place) {
         return Err(Stop::Stopped);
     }
     Ok(())
