@@ -1,21 +1,26 @@
--- Writing the texts of answers, one after another.
-use Rattle.std.proofs.Common.{◌≡◌, ℕ, List, [], ◌∷◌, ◌++◌, length, take, drop, refl, sym, ◌∙◌, ap, subst, Some, None, Option, slice_get, append_assoc, append-nil}
+-- Writing the texts of answers, one after another, and what stands behind them.
+use Rattle.std.proofs.Common.{◌≡◌, ◌<◌, ◌⊎◌, inl, inr, ℕ, Bool, true, false, List, [], ◌∷◌, ◌++◌, length, take, drop, refl, sym, ◌∙◌, ap, subst, arith, Some, None, Option, slice_get, append_assoc, append-nil}
 use Rattle.std.specs.Prelude.{option_map}
 use Rattle.std.proofs.lemmas.List.{take-append-drop}
 use Rattle.cq_answer.specs.declared.answered.Answered.{Answered}
-use Rattle.cq_script.specs.Texts.{text_of, fatal_line}
-use Rattle.cq_script.specs.declared.fatal.Fatal.{Fatal}
-use Rattle.cq_script.specs.declared.fatal.Fatal.TheVariants as fatal
+use Rattle.cq_script.specs.declared.cutter.Item.{Item}
+use Rattle.cq_script.specs.declared.sink.SinkError.{SinkError}
+use Rattle.cq_script.specs.declared.sink.SinkError.TheVariants as errors
+use Rattle.cq_script.specs.Texts.{text_under}
 use Rattle.cq_script.specs.Streams.{SinkState, Wrote, WrotePart}
-use Rattle.cq_top.specs.Runs.{Writes}
+use Rattle.cq_words.specs.declared.settled.Settled.{Settled}
 use Rattle.cq_top.specs.declared.status.Status.{Status}
-use Rattle.cq_top.specs.declared.status.Status.TheVariants.{Done, Usage, ReadFault, Stopped, WriteFault, Memory, TooLong, Script}
-use Rattle.cq_top.specs.Outputs.{texts, all_but_last, IsFront, IsPart, IsCutOff, IsOutput, last_line}
-use Rattle.cq_top.specs.Serving.{Is, AnswersNext, IsShown, IsShownInPart, IsShownBy, HasLastLine, ShowsMore, ShowsPart}
+use Rattle.cq_top.specs.declared.status.Status.TheVariants as status
+use Rattle.cq_top.specs.declared.stop.Stop.{Stop}
+use Rattle.cq_top.specs.declared.stop.Stop.TheVariants as stops
+use Rattle.cq_top.specs.declared.ending.Ending.{Ending}
+use Rattle.cq_top.specs.declared.ending.Ending.TheVariants.{Done, Usage, ReadFault, Stopped, WriteFault, Memory, Bytes, Statements, Line}
+use Rattle.cq_top.specs.Outputs.{texts, all_but_last, IsFront, IsPart, stop_by, ending_of, status_of, tail_of, IsTailOf, IsOutput}
+use Rattle.cq_top.specs.Serving.{AnswersNext, IsShown, IsShownInPart, IsShownBy, ShowsMore, ShowsPart, ShowsBy, HasTail, Writes}
 
-pub texts-more : (answers : List Answered) (a : Answered) → texts (answers ++ a ∷ []) ≡ texts answers ++ text_of a.answer
-texts-more [] a = append-nil (text_of a.answer)
-texts-more (b ∷ answers) a = ap (λ v. text_of b.answer ++ v) (texts-more answers a) ∙ sym (append_assoc (text_of b.answer) (texts answers) (text_of a.answer))
+pub texts-more : (csv : Bool) (answers : List Answered) (a : Answered) → texts csv (answers ++ a ∷ []) ≡ texts csv answers ++ text_under csv a.answer
+texts-more csv [] a = append-nil (text_under csv a.answer)
+texts-more csv (b ∷ answers) a = ap (λ v. text_under csv b.answer ++ v) (texts-more csv answers a) ∙ sym (append_assoc (text_under csv b.answer) (texts csv answers) (text_under csv a.answer))
 
 all_but_last-more : (answers : List Answered) (a : Answered) → all_but_last (answers ++ a ∷ []) ≡ answers
 all_but_last-more [] a = refl
@@ -26,146 +31,166 @@ front_self : (bytes : List ℕ) → IsFront bytes bytes
 front_self bytes = ([], append-nil bytes)
 
 -- the texts of all answers but the last are a front of all their texts
-but_last_front : (answers : List Answered) → IsFront (texts (all_but_last answers)) (texts answers)
-but_last_front [] = front_self []
-but_last_front (a ∷ []) = (text_of a.answer ++ [], refl)
-but_last_front (a ∷ b ∷ answers) =
-    let rest = but_last_front (b ∷ answers) in
-    (rest.0, append_assoc (text_of a.answer) (texts (all_but_last (b ∷ answers))) rest.0 ∙ ap (λ v. text_of a.answer ++ v) rest.1)
+but_last_front : (csv : Bool) (answers : List Answered) → IsFront (texts csv (all_but_last answers)) (texts csv answers)
+but_last_front csv [] = front_self []
+but_last_front csv (a ∷ []) = (text_under csv a.answer ++ [], refl)
+but_last_front csv (a ∷ b ∷ answers) =
+    let rest = but_last_front csv (b ∷ answers) in
+    (rest.0, append_assoc (text_under csv a.answer) (texts csv (all_but_last (b ∷ answers))) rest.0 ∙ ap (λ v. text_under csv a.answer ++ v) rest.1)
 
 -- nothing more was written
-pub part_whole : (answers : List Answered) → IsPart answers (texts answers)
-part_whole answers = record { front = front_self (texts answers); before_last = but_last_front answers }
+pub part_whole : (csv : Bool) (answers : List Answered) → IsPart csv answers (texts csv answers)
+part_whole csv answers = record { front = front_self (texts csv answers); before_last = but_last_front csv answers }
 
-pub shows_whole_part : (old new : SinkState) (answers : List Answered) → new ≡ old → ShowsPart old new answers answers
-shows_whole_part old new answers e before shown = (texts answers, ap (λ (s : SinkState). s.written) e ∙ shown, part_whole answers)
+pub shows_whole_part : (s : Settled) (old new : SinkState) (answers more : List Answered) → new ≡ old → more ≡ answers → ShowsPart s old new answers more
+shows_whole_part s old new answers more e same before shown =
+    subst (λ (v : List Answered). IsShownInPart s before new v) (sym same) (texts s.csv answers, ap (λ (k : SinkState). k.written) e ∙ shown, part_whole s.csv answers)
 
 -- an answer was added, and nothing of it written
-added_unshown : (answers : List Answered) (a : Answered) → IsPart (answers ++ a ∷ []) (texts answers)
-added_unshown answers a = record {
-  front = (text_of a.answer, sym (texts-more answers a));
-  before_last = subst (λ (v : List Answered). IsFront (texts v) (texts answers)) (sym (all_but_last-more answers a)) (front_self (texts answers));
+added_unshown : (csv : Bool) (answers : List Answered) (a : Answered) → IsPart csv (answers ++ a ∷ []) (texts csv answers)
+added_unshown csv answers a = record {
+  front = (text_under csv a.answer, sym (texts-more csv answers a));
+  before_last = subst (λ (v : List Answered). IsFront (texts csv v) (texts csv answers)) (sym (all_but_last-more answers a)) (front_self (texts csv answers));
 }
 
-pub shows_unshown : (old new : SinkState) (before now : List Answered) (text : List ℕ) → new ≡ old → AnswersNext before now text → ShowsPart old new before now
-shows_unshown old new before now text e next base shown =
-    subst (IsShownInPart base new) (sym next.1) (texts before, ap (λ (s : SinkState). s.written) e ∙ shown, added_unshown before next.0)
+pub shows_unshown : (s : Settled) (old new : SinkState) (before now : List Answered) (i : Item) → new ≡ old → AnswersNext s before now i → ShowsPart s old new before now
+shows_unshown s old new before now i e next base shown =
+    subst (IsShownInPart s base new) (sym next.1) (texts s.csv before, ap (λ (k : SinkState). k.written) e ∙ shown, added_unshown s.csv before next.0)
 
 -- an answer was added, and its text written
-last_of : (xs : List Answered) (a : Answered) → slice_get (xs ++ a ∷ []) (length xs) ≡ Some a
+pub last_of : (xs : List Answered) (a : Answered) → slice_get (xs ++ a ∷ []) (length xs) ≡ Some a
 last_of [] a = refl
 last_of (x ∷ xs) a = last_of xs a
 
-its_text : (before now : List Answered) (text bytes : List ℕ) (place : ℕ) → place ≡ length before → (next : AnswersNext before now text) → ((a : Answered) → slice_get now place ≡ Some a → bytes ≡ text_of a.answer) → bytes ≡ text_of next.0.answer
-its_text before now text bytes place e next of = of next.0 (subst (λ n. slice_get now n ≡ Some next.0) (sym e) (subst (λ (v : List Answered). slice_get v (length before) ≡ Some next.0) (sym next.1) (last_of before next.0)))
+pub at_last : (s : Settled) (before now : List Answered) (i : Item) (place : ℕ) → place ≡ length before → (next : AnswersNext s before now i) → slice_get now place ≡ Some next.0
+at_last s before now i place e next = subst (λ n. slice_get now n ≡ Some next.0) (sym e) (subst (λ (v : List Answered). slice_get v (length before) ≡ Some next.0) (sym next.1) (last_of before next.0))
 
-pub shows_answer : (old new : SinkState) (before now : List Answered) (text bytes : List ℕ) (place : ℕ) → place ≡ length before → AnswersNext before now text → ((a : Answered) → slice_get now place ≡ Some a → bytes ≡ text_of a.answer) → Wrote old new bytes → ShowsMore old new before now
-shows_answer old new before now text bytes place e next of w base shown =
-    w.written ∙ ap (option_map (λ u. u ++ bytes)) shown ∙ ap Some (append_assoc base (texts before) bytes ∙ ap (λ v. base ++ v) (ap (λ v. texts before ++ v) (its_text before now text bytes place e next of) ∙ sym (texts-more before next.0) ∙ ap texts (sym next.1)))
+its_text : (s : Settled) (before now : List Answered) (i : Item) (bytes : List ℕ) (place : ℕ) → place ≡ length before → (next : AnswersNext s before now i) → ((a : Answered) → slice_get now place ≡ Some a → bytes ≡ text_under s.csv a.answer) →
+    bytes ≡ text_under s.csv next.0.answer
+its_text s before now i bytes place e next of = of next.0 (at_last s before now i place e next)
 
--- or a part of it
-pub shows_answer_part : (old new : SinkState) (before now : List Answered) (text bytes : List ℕ) (place : ℕ) → place ≡ length before → AnswersNext before now text → ((a : Answered) → slice_get now place ≡ Some a → bytes ≡ text_of a.answer) → WrotePart old new bytes → ShowsPart old new before now
-shows_answer_part old new before now text bytes place e next of w base shown =
-    let n = w.0 in
-    let its = its_text before now text bytes place e next of in
+pub shows_answer : (s : Settled) (old new : SinkState) (before now : List Answered) (i : Item) (bytes : List ℕ) (place : ℕ) → place ≡ length before → AnswersNext s before now i →
+    ((a : Answered) → slice_get now place ≡ Some a → bytes ≡ text_under s.csv a.answer) → Wrote old new bytes → ShowsMore s old new before now
+shows_answer s old new before now i bytes place e next of w base shown =
     let a = next.0 in
-    subst (IsShownInPart base new) (sym next.1) (
-      texts before ++ take n bytes,
-      w.2.written ∙ ap (option_map (λ u. u ++ take n bytes)) shown ∙ ap Some (append_assoc base (texts before) (take n bytes)),
+    w.written ∙ ap (option_map (λ u. u ++ bytes)) shown
+    ∙ ap Some (append_assoc base (texts s.csv before) bytes ∙ ap (λ v. base ++ v) (ap (λ v. texts s.csv before ++ v) (its_text s before now i bytes place e next of) ∙ sym (texts-more s.csv before a) ∙ ap (texts s.csv) (sym next.1)))
+
+pub shows_answer_part : (s : Settled) (old new : SinkState) (before now : List Answered) (i : Item) (bytes : List ℕ) (place : ℕ) → place ≡ length before → AnswersNext s before now i →
+    ((a : Answered) → slice_get now place ≡ Some a → bytes ≡ text_under s.csv a.answer) → WrotePart old new bytes → ShowsPart s old new before now
+shows_answer_part s old new before now i bytes place e next of part base shown =
+    let a = next.0 in
+    let n = part.0 in
+    let its = its_text s before now i bytes place e next of in
+    subst (IsShownInPart s base new) (sym next.1) (
+      texts s.csv before ++ take n bytes,
+      part.2.written ∙ ap (option_map (λ u. u ++ take n bytes)) shown ∙ ap Some (append_assoc base (texts s.csv before) (take n bytes)),
       record {
-        front = (drop n bytes, append_assoc (texts before) (take n bytes) (drop n bytes) ∙ ap (λ v. texts before ++ v) (take-append-drop n bytes ∙ its) ∙ sym (texts-more before a));
-        before_last = subst (λ (v : List Answered). IsFront (texts v) (texts before ++ take n bytes)) (sym (all_but_last-more before a)) (take n bytes, refl);
+        front = (drop n bytes, append_assoc (texts s.csv before) (take n bytes) (drop n bytes) ∙ ap (λ v. texts s.csv before ++ v) (take-append-drop n bytes ∙ its) ∙ sym (texts-more s.csv before a));
+        before_last = subst (λ (v : List Answered). IsFront (texts s.csv v) (texts s.csv before ++ take n bytes)) (sym (all_but_last-more before a)) (take n bytes, refl);
       },
     )
 
-pub shows_nothing : (s : SinkState) (answers : List Answered) → ShowsMore s s answers answers
-shows_nothing s answers before shown = shown
+-- writing was cut off by an error of the sink
+pub shows_cut : (s : Settled) (error : SinkError) (old new : SinkState) (before now : List Answered) → ShowsPart s old new before now → ShowsBy s (stop_by error) old new before now
+shows_cut s errors.Failed old new before now part = part
+shows_cut s errors.Memory old new before now part = part
 
-pub shows_then : (old mid new : SinkState) (a b c : List Answered) → ShowsMore old mid a b → ShowsMore mid new b c → ShowsMore old new a c
-shows_then old mid new a b c f g before shown = g before (f before shown)
+pub shows_nothing : (s : Settled) (sink : SinkState) (answers : List Answered) → ShowsMore s sink sink answers answers
+shows_nothing s sink answers before shown = shown
 
-pub shows_then_part : (old mid new : SinkState) (a b c : List Answered) → ShowsMore old mid a b → ShowsPart mid new b c → ShowsPart old new a c
-shows_then_part old mid new a b c f g before shown = g before (f before shown)
+pub shows_then : (s : Settled) (old mid new : SinkState) (a b c : List Answered) → ShowsMore s old mid a b → ShowsMore s mid new b c → ShowsMore s old new a c
+shows_then s old mid new a b c f g before shown = g before (f before shown)
 
--- the last line of a run that stops early
-pub shows_last_line : (old new : SinkState) (answers : List Answered) (line before : List ℕ) → IsShown before old answers → Wrote old new line → new.written ≡ Some (before ++ (texts answers ++ line))
-shows_last_line old new answers line before shown w = w.written ∙ ap (option_map (λ u. u ++ line)) shown ∙ ap Some (append_assoc before (texts answers) line)
+pub shows_then_by : (s : Settled) (stop : Stop) (old mid new : SinkState) (a b c : List Answered) → ShowsMore s old mid a b → ShowsBy s stop mid new b c → ShowsBy s stop old new a c
+shows_then_by s stops.WriteFault old mid new a b c f g before shown = g before (f before shown)
+shows_then_by s stops.Memory old mid new a b c f g before shown = g before (f before shown)
+shows_then_by s stops.Statements old mid new a b c f g before shown = g before (f before shown)
+shows_then_by s stops.Stopped old mid new a b c f g before shown = g before (f before shown)
 
--- the last line, whole
-pub writes_line : (old new : SinkState) (answers : List Answered) (status : Status) (before line : List ℕ) → line ≡ last_line status → IsShown before old answers → Wrote old new line → (shown : List ℕ) × (new.written ≡ Some (before ++ shown)) × (shown ≡ texts answers ++ last_line status)
-writes_line old new answers status before line e shown w = (texts answers ++ line, shows_last_line old new answers line before shown w, ap (λ v. texts answers ++ v) e)
+-- a run that was not cut off has written all texts
+pub shown_whole : (s : Settled) (ending : Ending) (before : List ℕ) (sink : SinkState) (answers : List Answered) → IsShown s before sink answers → IsShownBy s ending before sink answers
+shown_whole s WriteFault before sink answers shown = (texts s.csv answers, shown, part_whole s.csv answers)
+shown_whole s Memory before sink answers shown = (texts s.csv answers, shown, part_whole s.csv answers)
+shown_whole s Done before sink answers shown = shown
+shown_whole s Usage before sink answers shown = shown
+shown_whole s ReadFault before sink answers shown = shown
+shown_whole s Stopped before sink answers shown = shown
+shown_whole s Bytes before sink answers shown = shown
+shown_whole s Statements before sink answers shown = shown
+shown_whole s (Line line) before sink answers shown = shown
 
--- or a part of it
-pub cuts_line : (old new : SinkState) (answers : List Answered) (status : Status) (before line : List ℕ) → line ≡ last_line status → IsShown before old answers → WrotePart old new line →
-    (shown : List ℕ) × (new.written ≡ Some (before ++ shown)) × IsCutOff (Is status) answers shown
-cuts_line old new answers status before line e shown w =
-    let n = w.0 in (
-      texts answers ++ take n line,
-      shows_last_line old new answers (take n line) before shown w.2,
-      record {
-        before = status;
-        may = refl;
-        front = (drop n line, append_assoc (texts answers) (take n line) (drop n line) ∙ ap (λ v. texts answers ++ v) (take-append-drop n line ∙ e));
-        before_last = (let f = but_last_front answers in (f.0 ++ take n line, sym (append_assoc (texts (all_but_last answers)) f.0 (take n line)) ∙ ap (λ v. v ++ take n line) f.1));
-      },
-    )
+-- ---- what stands behind the answers
 
--- what ends the run before may be so, where it is this
-pub writes_by : (MayEnd : Status → Type 0) (status end : Status) (answers : List Answered) (before : List ℕ) (written : Option (List ℕ)) → MayEnd status → Writes (Is status) end answers before written → Writes MayEnd end answers before written
-writes_by MayEnd status end answers before written may w = (w.0, w.1, output_by MayEnd status end answers w.0 may w.2)
+-- so many bytes of the tail were written behind the texts
+behind : (s : Settled) (old new : SinkState) (before part : List ℕ) (answers : List Answered) → IsShown s before old answers → Wrote old new part → new.written ≡ Some (before ++ (texts s.csv answers ++ part))
+behind s old new before part answers shown w = w.written ∙ ap (option_map (λ u. u ++ part)) shown ∙ ap Some (append_assoc before (texts s.csv answers) part)
+
+-- what was written of a run that was not cut off before its tail
+output_of : (s : Settled) (ending : Ending) (st : Status) (journals tail : List ℕ) (answers : List Answered) → IsTailOf ending st (tail_of s ending journals) tail → HasTail ending →
+    IsOutput s ending st journals answers (texts s.csv answers ++ tail)
+output_of s WriteFault st journals tail answers t h = absurd (h.0 refl)
+output_of s Memory st journals tail answers t h = absurd (h.1 refl)
+output_of s Done st journals tail answers t h = (tail, t, refl)
+output_of s Usage st journals tail answers t h = (tail, t, refl)
+output_of s ReadFault st journals tail answers t h = (tail, t, refl)
+output_of s Stopped st journals tail answers t h = (tail, t, refl)
+output_of s Bytes st journals tail answers t h = (tail, t, refl)
+output_of s Statements st journals tail answers t h = (tail, t, refl)
+output_of s (Line line) st journals tail answers t h = (tail, t, refl)
+
+shown_before : (s : Settled) (ending : Ending) (before : List ℕ) (sink : SinkState) (answers : List Answered) → HasTail ending → IsShownBy s ending before sink answers → IsShown s before sink answers
+shown_before s WriteFault before sink answers h shown = absurd (h.0 refl)
+shown_before s Memory before sink answers h shown = absurd (h.1 refl)
+shown_before s Done before sink answers h shown = shown
+shown_before s Usage before sink answers h shown = shown
+shown_before s ReadFault before sink answers h shown = shown
+shown_before s Stopped before sink answers h shown = shown
+shown_before s Bytes before sink answers h shown = shown
+shown_before s Statements before sink answers h shown = shown
+shown_before s (Line line) before sink answers h shown = shown
+
+writes_tail : (s : Settled) (ending : Ending) (st : Status) (old new : SinkState) (before part journals : List ℕ) (answers : List Answered) → HasTail ending → IsShownBy s ending before old answers → Wrote old new part →
+    IsTailOf ending st (tail_of s ending journals) part → Writes s ending st journals answers before new.written
+writes_tail s ending st old new before part journals answers h shown w t =
+    (texts s.csv answers ++ part, behind s old new before part answers (shown_before s ending before old answers h shown) w, output_of s ending st journals part answers t h)
+
+-- all of it
+pub writes_whole : (s : Settled) (ending : Ending) (old new : SinkState) (before bytes journals : List ℕ) (answers : List Answered) → HasTail ending → IsShownBy s ending before old answers → bytes ≡ tail_of s ending journals → Wrote old new bytes →
+    Writes s ending (status_of ending) journals answers before new.written
+writes_whole s ending old new before bytes journals answers h shown is w = writes_tail s ending (status_of ending) old new before bytes journals answers h shown w (inl (refl, is))
+
+-- a part of it
+cut_status : (error : SinkError) → (status_of (ending_of (stop_by error)) ≡ status.WriteFault) ⊎ (status_of (ending_of (stop_by error)) ≡ status.Memory)
+cut_status errors.Failed = inl refl
+cut_status errors.Memory = inr refl
+
+pub writes_part : (s : Settled) (ending : Ending) (error : SinkError) (old new : SinkState) (before bytes journals : List ℕ) (answers : List Answered) → HasTail ending → IsShownBy s ending before old answers → bytes ≡ tail_of s ending journals → WrotePart old new bytes →
+    Writes s ending (status_of (ending_of (stop_by error))) journals answers before new.written
+writes_part s ending error old new before bytes journals answers h shown is part =
+    writes_tail s ending (status_of (ending_of (stop_by error))) old new before (take part.0 bytes) journals answers h shown part.2
+    (inr (cut_status error, part.0, subst (λ (v : List ℕ). part.0 < length v) is part.1, ap (take part.0) is))
+
+-- nothing of it
+wrote_nothing : (sink : SinkState) → Wrote sink sink []
+wrote_nothing sink = record { written = sym (nothing_more sink.written); counts = omega arith; steady = refl; calm = λ s. refl }
   where
-    cut_by : (MayEnd : Status → Type 0) (status : Status) (answers : List Answered) (shown : List ℕ) → MayEnd status → IsCutOff (Is status) answers shown → IsCutOff MayEnd answers shown
-    cut_by MayEnd status answers shown may c = record { before = c.before; may = subst MayEnd (sym c.may) may; front = c.front; before_last = c.before_last }
+    nothing_more : (o : Option (List ℕ)) → option_map (λ w. w ++ []) o ≡ o
+    nothing_more None = refl
+    nothing_more (Some v) = ap Some (append-nil v)
 
-    output_by : (MayEnd : Status → Type 0) (status end : Status) (answers : List Answered) (shown : List ℕ) → MayEnd status → IsOutput (Is status) end answers shown → IsOutput MayEnd end answers shown
-    output_by MayEnd status WriteFault answers shown may o = cut_by MayEnd status answers shown may o
-    output_by MayEnd status Memory answers shown may o = cut_by MayEnd status answers shown may o
-    output_by MayEnd status end answers shown may o = o
+pub writes_none : (s : Settled) (ending : Ending) (sink : SinkState) (before journals : List ℕ) (answers : List Answered) → HasTail ending → IsShownBy s ending before sink answers → 0 < length (tail_of s ending journals) →
+    Writes s ending status.Memory journals answers before sink.written
+writes_none s ending sink before journals answers h shown some = writes_tail s ending status.Memory sink sink before [] journals answers h shown (wrote_nothing sink) (inr (inr refl, 0, some, refl))
 
--- a part of the answers' texts, where no last line is written
-pub writes_part : (sink : SinkState) (status : Status) (answers : List Answered) (before : List ℕ) → last_line status ≡ [] → IsShownInPart before sink answers → (shown : List ℕ) × (sink.written ≡ Some (before ++ shown)) × IsCutOff (Is status) answers shown
-writes_part sink status answers before none part = (
-  part.0,
-  part.1,
-  record {
-    before = status;
-    may = refl;
-    front = (let f = part.2.front in (f.0, f.1 ∙ sym (append-nil (texts answers)) ∙ ap (λ v. texts answers ++ v) (sym none)));
-    before_last = part.2.before_last;
-  },
-)
-
--- without a last line
-pub writes_texts : (sink : SinkState) (answers : List Answered) (before : List ℕ) → IsShown before sink answers → (shown : List ℕ) × (sink.written ≡ Some (before ++ shown)) × (shown ≡ texts answers ++ [])
-writes_texts sink answers before shown = (texts answers, shown, sym (append-nil (texts answers)))
-
-pub line_is : (status : Status) (f : Fatal) → HasLastLine status (Some f) → fatal_line f ≡ last_line status
-line_is Done f h = cc
-line_is Usage f h = ap fatal_line (let e : f ≡ fatal.Usage = cc in e)
-line_is ReadFault f h = ap fatal_line (let e : f ≡ fatal.Read = cc in e)
-line_is Stopped f h = cc
-line_is WriteFault f h = cc
-line_is Memory f h = cc
-line_is TooLong f h = ap fatal_line (let e : f ≡ fatal.LimitBytes = cc in e)
-line_is Script f h = cc
-
-pub shown_whole : (status : Status) (f : Fatal) (before : List ℕ) (sink : SinkState) (answers : List Answered) → HasLastLine status (Some f) → IsShownBy status before sink answers → IsShown before sink answers
-shown_whole Done f before sink answers h s = s
-shown_whole Usage f before sink answers h s = s
-shown_whole ReadFault f before sink answers h s = s
-shown_whole Stopped f before sink answers h s = s
-shown_whole WriteFault f before sink answers h s = cc
-shown_whole Memory f before sink answers h s = cc
-shown_whole TooLong f before sink answers h s = s
-shown_whole Script f before sink answers h s = s
-
--- a run that has no last line
-pub writes_shown : (sink : SinkState) (status : Status) (answers : List Answered) (before : List ℕ) → HasLastLine status None → IsShownBy status before sink answers → Writes (Is status) status answers before sink.written
-writes_shown sink Done answers before h s = writes_texts sink answers before s
-writes_shown sink Usage answers before h s = cc
-writes_shown sink ReadFault answers before h s = cc
-writes_shown sink Stopped answers before h s = writes_texts sink answers before s
-writes_shown sink WriteFault answers before h s = writes_part sink WriteFault answers before refl s
-writes_shown sink Memory answers before h s = writes_part sink Memory answers before refl s
-writes_shown sink TooLong answers before h s = cc
-writes_shown sink Script answers before h s = writes_texts sink answers before s
+-- there is none
+pub writes_texts : (s : Settled) (ending : Ending) (sink : SinkState) (before journals : List ℕ) (answers : List Answered) → tail_of s ending journals ≡ [] → IsShownBy s ending before sink answers → Writes s ending (status_of ending) journals answers before sink.written
+writes_texts s WriteFault sink before journals answers none shown = (shown.0, shown.1, refl, shown.2)
+writes_texts s Memory sink before journals answers none shown = (shown.0, shown.1, refl, shown.2)
+writes_texts s Done sink before journals answers none shown = writes_whole s Done sink sink before [] journals answers (cc, cc) shown (sym none) (wrote_nothing sink)
+writes_texts s Usage sink before journals answers none shown = writes_whole s Usage sink sink before [] journals answers (cc, cc) shown (sym none) (wrote_nothing sink)
+writes_texts s ReadFault sink before journals answers none shown = writes_whole s ReadFault sink sink before [] journals answers (cc, cc) shown (sym none) (wrote_nothing sink)
+writes_texts s Stopped sink before journals answers none shown = writes_whole s Stopped sink sink before [] journals answers (cc, cc) shown (sym none) (wrote_nothing sink)
+writes_texts s Bytes sink before journals answers none shown = writes_whole s Bytes sink sink before [] journals answers (cc, cc) shown (sym none) (wrote_nothing sink)
+writes_texts s Statements sink before journals answers none shown = writes_whole s Statements sink sink before [] journals answers (cc, cc) shown (sym none) (wrote_nothing sink)
+writes_texts s (Line line) sink before journals answers none shown = writes_whole s (Line line) sink sink before [] journals answers (cc, cc) shown (sym none) (wrote_nothing sink)

@@ -123,6 +123,10 @@ IsShownBy s ending before sink answers = IsShown s before sink answers
 abbrev pub Writes : Settled → Ending → Status → List ℕ → List Answered → List ℕ → Option (List ℕ) → Type 0
 Writes s ending status journals answers before written = (shown : List ℕ) × (written ≡ Some (before ++ shown)) × IsOutput s ending status journals answers shown
 
+-- a run that is cut off has no tail
+abbrev pub HasTail : Ending → Type 0
+HasTail ending = (ending ≢ WriteFault) × (ending ≢ Memory)
+
 -- how the reading of a script ends
 abbrev pub IsReadingEnd : Ending → Type 0
 IsReadingEnd Usage = ⊥

@@ -1,9 +1,8 @@
-ghost use Rattle.std.specs.Prelude.{◌≡◌, ℕ, List, [], length, Some, None};
+ghost use Rattle.std.specs.Prelude.{◌≡◌, ◌<◌, ◌×◌, ℕ, List, [], length, IfOk, OnErr, MatchOption};
 ghost use Rattle.cq_answer.specs.declared.answered.Answered.{Answered};
 ghost use Rattle.cq_journal_text.specs.Texts.{journals_text};
-ghost use Rattle.cq_script.specs.Texts.{fatal_line};
 ghost use Rattle.cq_top.specs.Outputs.{tail_of};
-ghost use Rattle.cq_top.specs.Serving.{IsShownBy, KeepsSink, BlamesTail, Writes};
+ghost use Rattle.cq_top.specs.Serving.{IsShownBy, KeepsSink, BlamesTail, HasTail, Writes};
 
 use crate::ending::Ending;
 use crate::status::Status;
@@ -22,6 +21,8 @@ fn tail_text(
     ending: Ending,
     journals: &Journals,
 ) -> Result<Option<Vec<u8>>, NoMemory>
+    ensures found { IfOk result (λ found. MatchOption found (tail_of settled.now ending (journals_text journals.now.list) ≡ []) (λ text. (text.items ≡ tail_of settled.now ending (journals_text journals.now.list)) × HasTail ending)) }
+    ensures err { OnErr result ((0 < length (tail_of settled.now ending (journals_text journals.now.list))) × HasTail ending) }
 {
     if let Some(fatal) = ending.fatal() {
         return Ok(Some(fatal.line(alloc)?));
