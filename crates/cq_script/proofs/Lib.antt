@@ -1,3 +1,4 @@
 pub mod ScheduleLaws
 pub mod TextLaws
 pub mod WritingLaws
+pub mod CuttingLaws

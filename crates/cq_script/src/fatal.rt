@@ -1,5 +1,6 @@
 ghost use Rattle.std.specs.Prelude.{◌≡◌, ◌++◌, IfOk, OnOk};
 ghost use Rattle.cq_script.specs.Texts.{fatal_line};
+ghost use Rattle.cq_script.specs.declared.fatal.Fatal.TheVariants as ends;
 
 use crate::words::{push_with, push_words};
 use cq_value::NoMemory;
@@ -26,6 +27,13 @@ pub enum Fatal {
     Line(u64),
 }
 
+fn push_line(out: &mut Vec<u8>, line: u64) -> Result<(), AllocError>
+    ensures { OnOk result (out.new.items ≡ out.old.items ++ fatal_line (ends.Line line)) }
+{
+    push_with(out, b"FATAL directive at line ", line)?;
+    push_words(out, b"\n")
+}
+
 /// Puts the last line of a run last.
 #[tactic(auto, unfolding(crate::specs::Texts::fatal_line))]
 fn push_fatal(out: &mut Vec<u8>, fatal: Fatal) -> Result<(), AllocError>
@@ -36,10 +44,7 @@ fn push_fatal(out: &mut Vec<u8>, fatal: Fatal) -> Result<(), AllocError>
         Fatal::Read => push_words(out, b"FATAL read\n"),
         Fatal::LimitBytes => push_words(out, b"FATAL limit bytes 16777216\n"),
         Fatal::LimitStatements => push_words(out, b"FATAL limit statements 20000\n"),
-        Fatal::Line(line) => {
-            push_with(out, b"FATAL directive at line ", line)?;
-            push_words(out, b"\n")
-        }
+        Fatal::Line(line) => push_line(out, line),
     }
 }
 

@@ -2,6 +2,7 @@
 //! statement and the data of a COPY, and the text of each answer.
 #![tactic(auto)]
 
+mod copying;
 mod cutter;
 mod fatal;
 mod fault;
@@ -14,7 +15,7 @@ mod source;
 mod standard;
 mod words;
 
-pub use cutter::{Bytes, Cutter, Item, Line, Place};
+pub use cutter::{Bytes, Cutter, Item, Line, Place, Step};
 pub use fatal::{Fatal, MOST_BYTES, MOST_STATEMENTS};
 pub use memory::{MemSink, MemSource};
 pub use rendering::render;
