@@ -38,7 +38,7 @@ fn finish<S: Store, K: Sink, G: Gate>(
     if let Some(line) = cutter.misplaced_at_end() {
         return Ending::Line(line);
     }
-    match cutter.finish(alloc) {
+    match cutter.finish() {
         Err(_) => Ending::Memory,
         Ok(None) => Ending::Done,
         Ok(Some(item)) => match answer_one(alloc, gate, serving, sink, &item) {

@@ -1,4 +1,5 @@
-ghost use Rattle.std.specs.Prelude.{◌≡◌, ◌<◌, ◌≤◌, ◌≢◌, ◌×◌, ◌⊎◌, ℕ, List, [], length, Some, IfOk, IfErr};
+ghost use Rattle.std.specs.Prelude.{◌≡◌, ◌<◌, ◌≤◌, ◌≢◌, ◌×◌, ◌⊎◌, ℕ, List, [], length, map, Some, IfOk, IfErr};
+ghost use Rattle.std.specs.String.{string_bytes};
 ghost use Rattle.cq_store.specs.declared.worker.Worker.{Worker};
 ghost use Rattle.cq_cluster.specs.Cluster.{AreIdle};
 ghost use Rattle.cq_cluster.specs.Accounts.{AllAccounted};
@@ -40,8 +41,8 @@ const PLAIN: Settled = Settled {
 
 /// What the words ask for, where there are as many workers; or how the run ends at once.
 fn settle(alloc: Global, words: &[String], workers: usize) -> Result<Settled, Ending>
-    ensures ok { IfOk result (λ s. (settled_by words.now ≡ Some s) × (s.workers ≤ workers) × (0 < s.workers) × (s.workers ≤ 16)) }
-    ensures err { IfErr result (λ ending. ((ending ≡ Ending.Usage) × IsMisused words.now workers) ⊎ (ending ≡ Ending.Memory)) }
+    ensures ok { IfOk result (λ s. (settled_by (map string_bytes words.now) ≡ Some s) × (s.workers ≤ workers) × (0 < s.workers) × (s.workers ≤ 16)) }
+    ensures err { IfErr result (λ ending. ((ending ≡ Ending.Usage) × IsMisused (map string_bytes words.now) workers) ⊎ (ending ≡ Ending.Memory)) }
 {
     match read_words(alloc, words) {
         Ok(settled) => {
@@ -159,11 +160,11 @@ pub fn run_over<R: Threads + Wait + Sync, S: Store, I: Source, K: Sink, G: Gate>
 ) -> Status
     requires idle { AreIdle S.state workers.old.items }
     requires fresh { IsEmptyLog log.old }
-    ensures stand { Stand (asked words.now) workers.old.items log.new }
-    ensures whole { IsWhole (asked words.now) workers.old.items log.new }
-    ensures ran { HasRun words.now (length workers.old.items) result log.new (I.told source.old) (I.told source.new) (K.shown sink.old) (K.shown sink.new) }
-    ensures last { IsFinal S.state (asked words.now).workers workers.old.items log.new.catalog log.new.journals.list workers.new.items }
-    ensures accounts { AllAccounted S.state (asked words.now).workers log.new.answers workers.new.items }
+    ensures stand { Stand (asked (map string_bytes words.now)) workers.old.items log.new }
+    ensures whole { IsWhole (asked (map string_bytes words.now)) workers.old.items log.new }
+    ensures ran { HasRun (map string_bytes words.now) (length workers.old.items) result log.new (I.told source.old) (I.told source.new) (K.shown sink.old) (K.shown sink.new) }
+    ensures last { IsFinal S.state (asked (map string_bytes words.now)).workers workers.old.items log.new.catalog log.new.journals.list workers.new.items }
+    ensures accounts { AllAccounted S.state (asked (map string_bytes words.now)).workers log.new.answers workers.new.items }
 {
     match settle(alloc, words, workers.len()) {
         Ok(settled) => {
@@ -192,11 +193,11 @@ pub fn run<R: Threads + Wait + Sync, S: Source, K: Sink, G: Gate>(
 ) -> Status
     requires idle { AreIdle ⟦<Box<dyn Store + Send> as Store>⟧.state workers.old.items }
     requires fresh { IsEmptyLog log.old }
-    ensures stand { Stand (asked words.now) workers.old.items log.new }
-    ensures whole { IsWhole (asked words.now) workers.old.items log.new }
-    ensures ran { HasRun words.now (length workers.old.items) result log.new (S.told source.old) (S.told source.new) (K.shown sink.old) (K.shown sink.new) }
-    ensures last { IsFinal ⟦<Box<dyn Store + Send> as Store>⟧.state (asked words.now).workers workers.old.items log.new.catalog log.new.journals.list workers.new.items }
-    ensures accounts { AllAccounted ⟦<Box<dyn Store + Send> as Store>⟧.state (asked words.now).workers log.new.answers workers.new.items }
+    ensures stand { Stand (asked (map string_bytes words.now)) workers.old.items log.new }
+    ensures whole { IsWhole (asked (map string_bytes words.now)) workers.old.items log.new }
+    ensures ran { HasRun (map string_bytes words.now) (length workers.old.items) result log.new (S.told source.old) (S.told source.new) (K.shown sink.old) (K.shown sink.new) }
+    ensures last { IsFinal ⟦<Box<dyn Store + Send> as Store>⟧.state (asked (map string_bytes words.now)).workers workers.old.items log.new.catalog log.new.journals.list workers.new.items }
+    ensures accounts { AllAccounted ⟦<Box<dyn Store + Send> as Store>⟧.state (asked (map string_bytes words.now)).workers log.new.answers workers.new.items }
 {
     run_over(rt, alloc, words, source, sink, gate, workers, log)
 }

@@ -8,13 +8,10 @@ use crate::serving::Serving;
 use crate::stop::{Stop, stop_of};
 use cq_answer::{Answer, AnsweredList};
 use cq_group::{Gate, Point};
-use cq_script::{Cutter, Item, Sink, emit, render};
+use cq_script::{Cutter, Item, MOST_STATEMENTS, Sink, emit, render};
 use cq_store::Store;
 use cq_value::NoMemory;
 use std::alloc::Global;
-
-/// The most statements of a script.
-const MOST_STATEMENTS: u64 = 20_000;
 
 /// The text of the answer at a place.
 fn text_at(alloc: Global, answers: &AnsweredList, place: u64, csv: bool) -> Result<Vec<u8>, NoMemory>
@@ -59,7 +56,7 @@ pub fn answer_one<S: Store, K: Sink, G: Gate>(
     ensures blames { IfErr result (λ stop. BlamesSink (stop ≡ Stop.WriteFault) (K.shown sink.old) (K.shown sink.new)) }
 {
     let place = serving.answers.len();
-    if place >= MOST_STATEMENTS {
+    if place >= MOST_STATEMENTS as u64 {
         return Err(Stop::Statements);
     }
     let Ok(()) = serving.answer(alloc, item) else {
