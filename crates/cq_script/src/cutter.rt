@@ -251,9 +251,9 @@ impl Cutter {
             ..
         } = self;
         match at {
-            Place::Gap { .. } | Place::GapComment | Place::Directive | Place::Out => return Ok(
-                None,
-            ),
+            Place::Gap { .. } | Place::GapComment | Place::Directive | Place::Out => {
+                return Ok(None);
+            }
             Place::GapDash => text.put(b'-')?,
             Place::Data(Line::Slash) => copied.put(b'\\')?,
             Place::Text(_) | Place::Rest | Place::Data(_) => {}
