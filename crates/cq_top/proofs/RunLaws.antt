@@ -31,32 +31,32 @@ use Rattle.cq_top.specs.Runs.{IsEmptyLog, IsWhole, Stand, IsMisused, HasCause, M
 use Rattle.cq_top.proofs.Answering.{answers_first}
 
 -- a log of consistent answers and journals
-pub whole_of : {X Y : Type 0} (log : RunLog X) (entry : List (Worker Y)) (e : Environment) (journals : List Journal) → IsConsistent rules (run_of node_count entry) e log.answers journals → log.catalog ≡ e.catalog →
+pub whole_of : {X Y : Type 0} (log : RunLog X) (entry : List (Worker Y)) (e : Environment) (journals : List Journal) → IsConsistent rules (run_of node_count first_settings entry) e log.answers journals → log.catalog ≡ e.catalog →
     journals_of log ≡ journals → log.retired ≡ [] → log.waves ≡ [] → IsWhole entry log
 whole_of log entry e journals c catalog is retired waves = record {
   catalog = catalog ∙ ap (λ (v : Environment). v.catalog) c.environment;
-  history = subst (IsWholeHistory (run_of node_count entry) log.catalog log.answers) (sym is) (subst (λ (v : Contents). IsWholeHistory (run_of node_count entry) v log.answers journals) (sym catalog) c.log);
+  history = subst (IsWholeHistory (run_of node_count first_settings entry) log.catalog log.answers) (sym is) (subst (λ (v : Contents). IsWholeHistory (run_of node_count first_settings entry) v log.answers journals) (sym catalog) c.log);
   retired = retired;
   waves = waves;
 }
 
-pub stand_of : {X : Type 0} (entry : List (Worker X)) (e : Environment) (answers : List Answered) (journals kept : List Journal) → IsConsistent rules (run_of node_count entry) e answers journals → kept ≡ journals →
-    AllStand rules (run_of node_count entry) kept answers
-stand_of entry e answers journals kept c is = subst (λ (v : List Journal). AllStand rules (run_of node_count entry) v answers) (sym is) (log_stands rules (run_of node_count entry) e answers journals c).0
+pub stand_of : {X : Type 0} (entry : List (Worker X)) (e : Environment) (answers : List Answered) (journals kept : List Journal) → IsConsistent rules (run_of node_count first_settings entry) e answers journals → kept ≡ journals →
+    AllStand rules (run_of node_count first_settings entry) kept answers
+stand_of entry e answers journals kept c is = subst (λ (v : List Journal). AllStand rules (run_of node_count first_settings entry) v answers) (sym is) (log_stands rules (run_of node_count first_settings entry) e answers journals c).0
 
 -- before the first statement
 pub consistent_new : {X : Type 0} (entry : List (Worker X)) (c : Contents) (answers : List Answered) (journals : List Journal) → c ≡ nothing → answers ≡ [] → journals ≡ [] →
-    IsConsistent rules (run_of node_count entry) (record { catalog = c; settings = first_settings }) answers journals
-consistent_new entry c answers journals a b d = rw (a, b, d) (log_begins rules (run_of node_count entry))
+    IsConsistent rules (run_of node_count first_settings entry) (record { catalog = c; settings = first_settings }) answers journals
+consistent_new entry c answers journals a b d = rw (a, b, d) (log_begins rules (run_of node_count first_settings entry))
 
 -- the empty log
 pub empty_whole : {X Y : Type 0} (entry : List (Worker Y)) (log : RunLog X) → IsEmptyLog log → IsWhole entry log
 empty_whole entry log e =
-    whole_of log entry (first (run_of node_count entry)) [] (subst (λ (v : List Answered). IsConsistent rules (run_of node_count entry) (first (run_of node_count entry)) v []) (sym e.answers) (log_begins rules (run_of node_count entry))) e.catalog
+    whole_of log entry (first (run_of node_count first_settings entry)) [] (subst (λ (v : List Answered). IsConsistent rules (run_of node_count first_settings entry) (first (run_of node_count first_settings entry)) v []) (sym e.answers) (log_begins rules (run_of node_count first_settings entry))) e.catalog
     (ap (map record_of) e.journals) e.retired e.waves
 
 pub empty_stands : {X Y : Type 0} (entry : List (Worker Y)) (log : RunLog X) → IsEmptyLog log → Stand entry log
-empty_stands entry log e = subst (λ (v : List Answered). AllStand rules (run_of node_count entry) (journals_of log) v) (sym e.answers) tt
+empty_stands entry log e = subst (λ (v : List Answered). AllStand rules (run_of node_count first_settings entry) (journals_of log) v) (sym e.answers) tt
 
 -- workers whose stores all wait
 spare_of_waiting : {X : Type 0} (state : X → StoreState) (node : ℕ) (xs : List X) → All (λ x. IsWaiting node (state x)) xs → AllByRecursion (λ x. IsSpare (state x)) xs

@@ -3,7 +3,7 @@ use Rattle.std.specs.Prelude.{◌≡◌, ◌≢◌, ◌<◌, ◌⊎◌, ◌↔�
 use Rattle.cq_answer.specs.declared.answered.Answered.{Answered}
 use Rattle.cq_catalog.specs.Contents.{nothing}
 use Rattle.cq_journal.specs.Records.{Journal}
-use Rattle.cq_history.specs.Run.{first, environment_from}
+use Rattle.cq_history.specs.Run.{first, first_settings, environment_from}
 use Rattle.cq_history.specs.Log.{AllStand, IsWhole as IsWholeHistory}
 use Rattle.cq_history.specs.Refusals.{rules}
 use Rattle.cq_store.specs.declared.worker.Worker.{Worker}
@@ -31,15 +31,15 @@ journals_of log = map record_of log.journals.list
 -- the settings that those before it give; there is one journal for each shard group, opened on the group's node; each journal is a legal
 -- history, its entries are of statements of the log, in the order of the statements
 pub record IsWhole {X Y : Type 0} (entry : List (Worker Y)) (log : RunLog X) : Type 0 where
-  pub catalog : log.catalog ≡ (environment_from (first (run_of node_count entry)) log.answers).catalog
-  pub history : IsWholeHistory (run_of node_count entry) log.catalog log.answers (journals_of log)
+  pub catalog : log.catalog ≡ (environment_from (first (run_of node_count first_settings entry)) log.answers).catalog
+  pub history : IsWholeHistory (run_of node_count first_settings entry) log.catalog log.answers (journals_of log)
   pub retired : log.retired ≡ []
   pub waves : log.waves ≡ []
 
 -- every answer stands: it is its statement's meaning over the undistributed database, at every choice of places in the journals that takes the
 -- statement's own, or a refusal with its cause
 abbrev pub Stand : {X Y : Type 0} → List (Worker Y) → RunLog X → Type 0
-Stand entry log = AllStand rules (run_of node_count entry) (journals_of log) log.answers
+Stand entry log = AllStand rules (run_of node_count first_settings entry) (journals_of log) log.answers
 
 -- the command line is wrong, or there are too few workers
 abbrev pub IsMisused : ℕ → ℕ → Type 0

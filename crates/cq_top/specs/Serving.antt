@@ -2,7 +2,7 @@
 use Rattle.std.specs.Prelude.{◌≡◌, ◌≢◌, ◌≤◌, ◌⊎◌, ⊤, ℕ, IsTrue, Option, Some, None, List, [], ◌∷◌, ◌++◌, length, take, drop}
 use Rattle.cq_answer.specs.declared.answered.Answered.{Answered}
 use Rattle.cq_statement.specs.Reading.{reading_of}
-use Rattle.cq_history.specs.Run.{environment_from}
+use Rattle.cq_history.specs.Run.{environment_from, first_settings}
 use Rattle.cq_history.specs.Log.{IsConsistent}
 use Rattle.cq_history.specs.Refusals.{rules}
 use Rattle.cq_store.specs.Stores.{StoreState}
@@ -24,7 +24,7 @@ use Rattle.cq_top.specs.Scripts.{start, node_count, AnswersTo}
 -- over workers that were handed in so: the answers and the journals fit together, and the coordinator keeps its groups and stores
 pub record IsServingOver {X : Type 0} (state : X → StoreState) (entry : List (Worker X)) (s : Serving X) : Type 0 where
   pub nodes : s.coordinator.cluster.nodes ≡ node_count
-  pub consistent : IsConsistent rules (run_of node_count entry) (environment s.coordinator) s.answers (journals s.coordinator)
+  pub consistent : IsConsistent rules (run_of node_count first_settings entry) (environment s.coordinator) s.answers (journals s.coordinator)
   pub sound : IsSound state s.coordinator.cluster
   pub workers : AreWorkers state node_count entry s.coordinator.cluster.groups.items s.coordinator.cluster.workers.items
   pub accounted : AreAccounted state s.coordinator.cluster.catalog s.answers s.coordinator.cluster.groups.items
