@@ -5,6 +5,7 @@ use Rattle.cq_answer.specs.declared.answered.Answered.{Answered}
 use Rattle.cq_answer.specs.declared.fault.Fault.{Fault}
 use Rattle.cq_answer.specs.declared.fault.Fault.TheVariants as fault
 use Rattle.cq_answer.specs.Faults.{fault_of_catalog}
+use Rattle.cq_answer.specs.declared.answered.Settings.{Settings}
 use Rattle.cq_catalog.specs.Contents.{Contents}
 use Rattle.cq_catalog.specs.Distribution.{decision_of, distribution_refusal, opened_at, distributed_by}
 use Rattle.cq_catalog.specs.Refusals.{IsCause}
@@ -78,8 +79,8 @@ module _ {X : Type 0} (state : X → StoreState) where
     pub record IsDistributed : Type 0 where
       pub sound : IsSound state new
       pub grows : (who : Who) → Grows who none (journals old) (journals new)
-      pub opens : (entry : List (Worker X)) → OpensGroups (run_of old.nodes entry) old.catalog new.catalog (journals new)
-      pub allowed : (entry : List (Worker X)) → AreWorkers state old.nodes entry old.groups.items old.workers.items → distribution_fault (run_of old.nodes entry) old.catalog default table column count beside ≡ None
+      pub opens : (initial : Settings) (entry : List (Worker X)) → OpensGroups (run_of old.nodes initial entry) old.catalog new.catalog (journals new)
+      pub allowed : (initial : Settings) (entry : List (Worker X)) → AreWorkers state old.nodes entry old.groups.items old.workers.items → distribution_fault (run_of old.nodes initial entry) old.catalog default table column count beside ≡ None
       pub stores : KeepsStores state old new
       pub accounted : (answers : List Answered) → AreAccounted state old.catalog answers old.groups.items → AreAccounted state new.catalog answers new.groups.items
 
@@ -100,7 +101,7 @@ module _ {X : Type 0} (state : X → StoreState) where
               (subst IsWhole (sym made) after)
               (subst (λ (v : Contents). 0 < v.next_shard) (sym made) (ids_distributed c d.table d.column d.kind d.target s.ids)) done.same_length done.stores;
           grows = done.grows;
-          opens = λ entry. subst (λ (v : Contents). OpensGroups (run_of old.nodes entry) c v (journals new)) (sym made) (opens_distributed state old.nodes entry c d.table d.column d.kind d.target new.groups.items done.after after);
+          opens = λ initial entry. subst (λ (v : Contents). OpensGroups (run_of old.nodes initial entry) c v (journals new)) (sym made) (opens_distributed state old.nodes initial entry c d.table d.column d.kind d.target new.groups.items done.after after);
           allowed = by_shortage state old table column count beside default o None s p.allowed p.opened p.room;
           stores = keeps_stores old new nodes done.stores;
           accounted = λ answers was. subst (λ (v : Contents). AreAccounted state v answers new.groups.items) (sym made) (done.accounted answers was);

@@ -20,6 +20,7 @@ use Rattle.cq_history.specs.Journals.{journal_in, none}
 use Rattle.cq_history.specs.Laws.{OpensGroups}
 use Rattle.cq_history.proofs.Entries.{index_beyond}
 use Rattle.cq_history.proofs.Script.{with_none, grows_none}
+use Rattle.cq_answer.specs.declared.answered.Settings.{Settings}
 use Rattle.cq_store.specs.Stores.{StoreState}
 use Rattle.cq_store.specs.declared.worker.Worker.{Worker}
 use Rattle.cq_group.specs.declared.group.GroupState.{GroupState}
@@ -92,9 +93,9 @@ module _ {X : Type 0} where
           (subst (λ n. IsFresh n (slice_index_or (journals_of opened) i (nothing g))) is (fresh_in first i opened (nothing g) all (record { number = sym is; base = λ table. refl; entries = refl })))
 
 -- the groups of a catalogue are opened on their nodes
-pub opens_of : {X : Type 0} (state : X → StoreState) (nodes : ℕ) (entry : List (Worker X)) (c later : Contents) (groups : List (GroupState X)) → AreGroups state nodes later groups → IsWhole later →
-    ((k : ℕ) → k < length c.colocations → slice_get later.colocations k ≡ slice_get c.colocations k) → OpensGroups (run_of nodes entry) c later (journals_of groups)
-opens_of {X} state nodes entry c later groups all whole kept = record {
+pub opens_of : {X : Type 0} (state : X → StoreState) (nodes : ℕ) (initial : Settings) (entry : List (Worker X)) (c later : Contents) (groups : List (GroupState X)) → AreGroups state nodes later groups → IsWhole later →
+    ((k : ℕ) → k < length c.colocations → slice_get later.colocations k ≡ slice_get c.colocations k) → OpensGroups (run_of nodes initial entry) c later (journals_of groups)
+opens_of {X} state nodes initial entry c later groups all whole kept = record {
   groups = length-map groups (λ (g : GroupState X). journal_of g) ∙ all.count;
   kept = kept;
   opened = λ k g new least most. by_item k g (slice_get later.colocations k) refl least most;
@@ -115,18 +116,18 @@ opens_of {X} state nodes entry c later groups all whole kept = record {
         let at = all.each k i co x.0 e (omega (arith, l, m)) x.1 in
         ap (λ (j : Journal). j.opening) (journal_at groups g x.0 (subst (λ n. slice_get groups n ≡ Some x.0) index x.1)) ∙ at.opening
 
-pub opens_distributed : {X : Type 0} (state : X → StoreState) (nodes : ℕ) (entry : List (Worker X)) (c : Contents) (table column : ℕ) (kind : Kind) (target : Target) (groups : List (GroupState X)) →
-    AreGroups state nodes (distributed_at c table column kind target) groups → IsWhole (distributed_at c table column kind target) → OpensGroups (run_of nodes entry) c (distributed_at c table column kind target) (journals_of groups)
-opens_distributed state nodes entry c table column kind (Joins colocation) groups all whole = opens_of state nodes entry c (distributed_at c table column kind (Joins colocation)) groups all whole (λ k h. refl)
-opens_distributed state nodes entry c table column kind (Opens count joinable) groups all whole =
-    opens_of state nodes entry c (distributed_at c table column kind (Opens count joinable)) groups all whole (λ k h. before_more c.colocations (_ ∷ []) k h)
+pub opens_distributed : {X : Type 0} (state : X → StoreState) (nodes : ℕ) (initial : Settings) (entry : List (Worker X)) (c : Contents) (table column : ℕ) (kind : Kind) (target : Target) (groups : List (GroupState X)) →
+    AreGroups state nodes (distributed_at c table column kind target) groups → IsWhole (distributed_at c table column kind target) → OpensGroups (run_of nodes initial entry) c (distributed_at c table column kind target) (journals_of groups)
+opens_distributed state nodes initial entry c table column kind (Joins colocation) groups all whole = opens_of state nodes initial entry c (distributed_at c table column kind (Joins colocation)) groups all whole (λ k h. refl)
+opens_distributed state nodes initial entry c table column kind (Opens count joinable) groups all whole =
+    opens_of state nodes initial entry c (distributed_at c table column kind (Opens count joinable)) groups all whole (λ k h. before_more c.colocations (_ ∷ []) k h)
 
 -- a local table more opens none
-pub opens_created : {X : Type 0} (state : X → StoreState) (nodes : ℕ) (entry : List (Worker X)) (c : Contents) (name : List ℕ) (columns : List Column) (key : List ℕ) (groups : List (GroupState X)) →
-    AreGroups state nodes (with_table c name columns key) groups → IsWhole (with_table c name columns key) → OpensGroups (run_of nodes entry) c (with_table c name columns key) (journals_of groups)
-opens_created state nodes entry c name columns key groups all whole = opens_of state nodes entry c (with_table c name columns key) groups all whole (λ k h. refl)
+pub opens_created : {X : Type 0} (state : X → StoreState) (nodes : ℕ) (initial : Settings) (entry : List (Worker X)) (c : Contents) (name : List ℕ) (columns : List Column) (key : List ℕ) (groups : List (GroupState X)) →
+    AreGroups state nodes (with_table c name columns key) groups → IsWhole (with_table c name columns key) → OpensGroups (run_of nodes initial entry) c (with_table c name columns key) (journals_of groups)
+opens_created state nodes initial entry c name columns key groups all whole = opens_of state nodes initial entry c (with_table c name columns key) groups all whole (λ k h. refl)
 
 -- nor does a reference table open co-location groups
-pub opens_referenced : {X : Type 0} (state : X → StoreState) (nodes : ℕ) (entry : List (Worker X)) (c : Contents) (table : List ℕ) (groups : List (GroupState X)) → AreGroups state nodes (with_reference c table) groups →
-    IsWhole (with_reference c table) → OpensGroups (run_of nodes entry) c (with_reference c table) (journals_of groups)
-opens_referenced state nodes entry c table groups all whole = opens_of state nodes entry c (with_reference c table) groups all whole (λ k h. refl)
+pub opens_referenced : {X : Type 0} (state : X → StoreState) (nodes : ℕ) (initial : Settings) (entry : List (Worker X)) (c : Contents) (table : List ℕ) (groups : List (GroupState X)) → AreGroups state nodes (with_reference c table) groups →
+    IsWhole (with_reference c table) → OpensGroups (run_of nodes initial entry) c (with_reference c table) (journals_of groups)
+opens_referenced state nodes initial entry c table groups all whole = opens_of state nodes initial entry c (with_reference c table) groups all whole (λ k h. refl)

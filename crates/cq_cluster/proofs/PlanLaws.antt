@@ -8,6 +8,7 @@ use Rattle.cq_value.specs.declared.schema.With.{With}
 use Rattle.cq_answer.specs.declared.fault.Fault.{Fault}
 use Rattle.cq_answer.specs.declared.fault.Fault.TheVariants as fault
 use Rattle.cq_answer.specs.Faults.{fault_of_catalog}
+use Rattle.cq_answer.specs.declared.answered.Settings.{Settings}
 use Rattle.cq_catalog.specs.Contents.{Contents, is_local, place_in, count_in}
 use Rattle.cq_catalog.specs.Distribution.{decision_of, distribution_refusal, opened_at, opened_by}
 use Rattle.cq_catalog.specs.Refusals.{IsCause}
@@ -149,21 +150,21 @@ module _ {X : Type 0} (state : X → StoreState) where
 
     -- why a distribution is refused for want of stores, or isn't
     pub by_shortage : (o : Opened) (r : Option Fault) → IsSound state cl → distribution_refusal cl.catalog table column count beside default ≡ None → o ≡ opened_by cl.catalog (decision_of cl.catalog table column count beside default) →
-        shortage cl.nodes o.count cl.workers.items ≡ r → (entry : List (Worker X)) → AreWorkers state cl.nodes entry cl.groups.items cl.workers.items → distribution_fault (run_of cl.nodes entry) cl.catalog default table column count beside ≡ r
-    by_shortage o r s allowed is short entry at =
+        shortage cl.nodes o.count cl.workers.items ≡ r → (initial : Settings) (entry : List (Worker X)) → AreWorkers state cl.nodes entry cl.groups.items cl.workers.items → distribution_fault (run_of cl.nodes initial entry) cl.catalog default table column count beside ≡ r
+    by_shortage o r s allowed is short initial entry at =
         let d = decision_of cl.catalog table column count beside default in
-        by_room (run_of cl.nodes entry) cl.catalog default table column count beside r allowed
-        (sym (room_same state cl.nodes s.some cl.catalog entry cl.groups.items cl.workers.items (opened_by cl.catalog d).count s.enough s.groups at) ∙ ap (λ (v : Opened). shortage cl.nodes v.count cl.workers.items) (sym is) ∙ short)
+        by_room (run_of cl.nodes initial entry) cl.catalog default table column count beside r allowed
+        (sym (room_same state cl.nodes s.some cl.catalog initial entry cl.groups.items cl.workers.items (opened_by cl.catalog d).count s.enough s.groups at) ∙ ap (λ (v : Opened). shortage cl.nodes v.count cl.workers.items) (sym is) ∙ short)
 
     -- the error of the catalogue is the cause
-    pub refused_by : (e : CatalogError) (f : Fault) → f ≡ fault_of_catalog e → IsCause e (distribution_refusal cl.catalog table column count beside default) → (entry : List (Worker X)) →
-        AreWorkers state cl.nodes entry cl.groups.items cl.workers.items → (f ≡ fault.Memory) ⊎ (distribution_fault (run_of cl.nodes entry) cl.catalog default table column count beside ≡ Some f)
-    refused_by e f is cause entry at =
-        subst (λ (v : Fault). (v ≡ fault.Memory) ⊎ (distribution_fault (run_of cl.nodes entry) cl.catalog default table column count beside ≡ Some v)) (sym is)
-        (cause_of (run_of cl.nodes entry) cl.catalog default table column count beside e cause)
+    pub refused_by : (e : CatalogError) (f : Fault) → f ≡ fault_of_catalog e → IsCause e (distribution_refusal cl.catalog table column count beside default) → (initial : Settings) (entry : List (Worker X)) →
+        AreWorkers state cl.nodes entry cl.groups.items cl.workers.items → (f ≡ fault.Memory) ⊎ (distribution_fault (run_of cl.nodes initial entry) cl.catalog default table column count beside ≡ Some f)
+    refused_by e f is cause initial entry at =
+        subst (λ (v : Fault). (v ≡ fault.Memory) ⊎ (distribution_fault (run_of cl.nodes initial entry) cl.catalog default table column count beside ≡ Some v)) (sym is)
+        (cause_of (run_of cl.nodes initial entry) cl.catalog default table column count beside e cause)
 
     -- want of stores is the cause, where the catalogue refuses nothing
     pub short_by : (o : Opened) (f : Fault) → IsSound state cl → distribution_refusal cl.catalog table column count beside default ≡ None → o ≡ opened_by cl.catalog (decision_of cl.catalog table column count beside default) →
-        shortage cl.nodes o.count cl.workers.items ≡ Some f → (entry : List (Worker X)) → AreWorkers state cl.nodes entry cl.groups.items cl.workers.items →
-        (f ≡ fault.Memory) ⊎ (distribution_fault (run_of cl.nodes entry) cl.catalog default table column count beside ≡ Some f)
-    short_by o f s allowed is short entry at = inr (by_shortage o (Some f) s allowed is short entry at)
+        shortage cl.nodes o.count cl.workers.items ≡ Some f → (initial : Settings) (entry : List (Worker X)) → AreWorkers state cl.nodes entry cl.groups.items cl.workers.items →
+        (f ≡ fault.Memory) ⊎ (distribution_fault (run_of cl.nodes initial entry) cl.catalog default table column count beside ≡ Some f)
+    short_by o f s allowed is short initial entry at = inr (by_shortage o (Some f) s allowed is short initial entry at)

@@ -10,6 +10,7 @@ use Rattle.cq_answer.specs.declared.answered.Answered.{Answered}
 use Rattle.cq_answer.specs.declared.fault.Fault.{Fault}
 use Rattle.cq_answer.specs.declared.fault.Fault.TheVariants as fault
 use Rattle.cq_answer.specs.Faults.{fault_of_catalog}
+use Rattle.cq_answer.specs.declared.answered.Settings.{Settings}
 use Rattle.cq_catalog.specs.Contents.{Contents, place_in, with_place}
 use Rattle.cq_catalog.specs.Distribution.{spread, with_group, with_reference, reference_refusal, reference_opened}
 use Rattle.cq_catalog.specs.Placement.{place_at}
@@ -147,20 +148,20 @@ only_of (Some x) = refl
 
 module _ {X : Type 0} (state : X → StoreState) (cl : Cluster X) (table : List ℕ) where
   -- why a reference table is refused for want of stores, or isn't
-  pub by_room : (r : Option Fault) → IsSound state cl → reference_refusal cl.catalog table ≡ None → shortage cl.nodes cl.nodes cl.workers.items ≡ r → (entry : List (Worker X)) → AreWorkers state cl.nodes entry cl.groups.items cl.workers.items →
-      reference_fault (run_of cl.nodes entry) cl.catalog table ≡ r
-  by_room r s allowed short entry at =
-      let run = run_of cl.nodes entry in
+  pub by_room : (r : Option Fault) → IsSound state cl → reference_refusal cl.catalog table ≡ None → shortage cl.nodes cl.nodes cl.workers.items ≡ r → (initial : Settings) (entry : List (Worker X)) → AreWorkers state cl.nodes entry cl.groups.items cl.workers.items →
+      reference_fault (run_of cl.nodes initial entry) cl.catalog table ≡ r
+  by_room r s allowed short initial entry at =
+      let run = run_of cl.nodes initial entry in
       let c = cl.catalog in
       let each : room_fault run c (history.shards_on run cl.nodes) ≡ room_fault run c (λ place. 1) = short_same run c (history.shards_on run cl.nodes) (λ place. 1) 0 cl.nodes (λ place h. one_on cl.nodes s.some place (omega (arith, h))) in
       ap (λ (o : Option CatalogError). first_of (option_map fault_of_catalog o ∷ room_fault run c (λ place. 1) ∷ [])) allowed
-      ∙ only_of (room_fault run c (λ place. 1)) ∙ sym each ∙ sym (room_same state cl.nodes s.some c entry cl.groups.items cl.workers.items cl.nodes s.enough s.groups at) ∙ short
+      ∙ only_of (room_fault run c (λ place. 1)) ∙ sym each ∙ sym (room_same state cl.nodes s.some c initial entry cl.groups.items cl.workers.items cl.nodes s.enough s.groups at) ∙ short
 
   -- the error of the catalogue is the cause
-  pub by_catalog : (e : CatalogError) (f : Fault) → f ≡ fault_of_catalog e → IsCause e (reference_refusal cl.catalog table) → (entry : List (Worker X)) → (f ≡ fault.Memory) ⊎ (reference_fault (run_of cl.nodes entry) cl.catalog table ≡ Some f)
-  by_catalog e f is cause entry = elim cause [
+  pub by_catalog : (e : CatalogError) (f : Fault) → f ≡ fault_of_catalog e → IsCause e (reference_refusal cl.catalog table) → (initial : Settings) (entry : List (Worker X)) → (f ≡ fault.Memory) ⊎ (reference_fault (run_of cl.nodes initial entry) cl.catalog table ≡ Some f)
+  by_catalog e f is cause initial entry = elim cause [
     | inl m ↦ inl (is ∙ ap fault_of_catalog m ∙ memory_is)
-    | inr h ↦ inr (ap (λ (o : Option CatalogError). first_of (option_map fault_of_catalog o ∷ room_fault (run_of cl.nodes entry) cl.catalog (λ place. 1) ∷ [])) h ∙ ap Some (sym is))
+    | inr h ↦ inr (ap (λ (o : Option CatalogError). first_of (option_map fault_of_catalog o ∷ room_fault (run_of cl.nodes initial entry) cl.catalog (λ place. 1) ∷ [])) h ∙ ap Some (sym is))
   ]
 
   -- nothing is lent yet, and each node has a store to lend
@@ -200,7 +201,7 @@ module _ {X : Type 0} (state : X → StoreState) (old new : Cluster X) where
   pub record IsReferred : Type 0 where
     pub sound : IsSound state new
     pub grows : (who : Who) → Grows who none (journals old) (journals new)
-    pub opens : (entry : List (Worker X)) → OpensGroups (run_of old.nodes entry) old.catalog new.catalog (journals new)
+    pub opens : (initial : Settings) (entry : List (Worker X)) → OpensGroups (run_of old.nodes initial entry) old.catalog new.catalog (journals new)
     pub stores : KeepsStores state old new
     pub accounted : (answers : List Answered) → AreAccounted state old.catalog answers old.groups.items → AreAccounted state new.catalog answers new.groups.items
 
@@ -235,8 +236,8 @@ module _ {X : Type 0} (state : X → StoreState) (old new : Cluster X) where
         sound = sound_of state old new s nodes (subst (λ (v : Contents). AreGroups state old.nodes v new.groups.items) (sym made) (subst (λ (gs : List (GroupState X)). AreGroups state old.nodes (with_reference c table) gs) (sym groups) after))
             (subst IsWhole (sym made) whole) (subst (λ (v : Contents). 0 < v.next_shard) (sym made) (omega (arith, s.ids))) lent.spent.same_length stores;
         grows = λ who. opened_grow who c.groups old.groups.items (g ∷ []) (journals new) (only_new c.groups g exact.group exact.entries) (sym s.groups.count) (ap (λ (gs : List (GroupState X)). journals_of gs) groups ∙ map-append (λ (f : GroupState X). journal_of f) old.groups.items (g ∷ []));
-        opens = λ entry. subst (λ (v : Contents). OpensGroups (run_of old.nodes entry) c v (journals new)) (sym made)
-            (subst (λ (gs : List (GroupState X)). OpensGroups (run_of old.nodes entry) c (with_reference c table) (journals_of gs)) (sym groups) (opens_referenced state old.nodes entry c table (old.groups.items ++ g ∷ []) after whole));
+        opens = λ initial entry. subst (λ (v : Contents). OpensGroups (run_of old.nodes initial entry) c v (journals new)) (sym made)
+            (subst (λ (gs : List (GroupState X)). OpensGroups (run_of old.nodes initial entry) c (with_reference c table) (journals_of gs)) (sym groups) (opens_referenced state old.nodes initial entry c table (old.groups.items ++ g ∷ []) after whole));
         stores = keeps_stores state old new nodes stores;
         accounted = λ answers was. subst (λ (v : Contents). AreAccounted state v answers new.groups.items) (sym made)
             (subst (λ (gs : List (GroupState X)). AreAccounted state (with_reference c table) answers gs) (sym groups)

@@ -16,6 +16,7 @@ use Rattle.cq_meaning.specs.Effects.{table_of}
 use Rattle.cq_journal.specs.Laws.{IsNoWriteOf}
 use Rattle.cq_answer.specs.declared.answered.Answered.{Answered}
 use Rattle.cq_answer.specs.declared.fault.Fault.{Fault}
+use Rattle.cq_answer.specs.declared.answered.Settings.{Settings}
 use Rattle.cq_catalog.specs.Contents.{Contents, count_in, first_group_in}
 use Rattle.cq_catalog.specs.Distribution.{with_colocation, opened_at, distributed_at}
 use Rattle.cq_catalog.specs.Placement.{place_at}
@@ -323,27 +324,27 @@ module _ {X : Type 0} (state : X → StoreState) (nodes : ℕ) (some : 0 < nodes
 
   -- ---- room
 
-  short_same : (c : Contents) (entry : List (Worker X)) (groups : List (GroupState X)) (workers : List (Worker X)) (count place : ℕ) → place < nodes → nodes ≤ length workers → AreGroups state nodes c groups → AreWorkers state nodes entry groups workers →
-      short_of nodes count place (stores_in (slice_get workers place)) ≡ history.short_at (run_of nodes entry) c (history.shards_on (run_of nodes entry) count) place
-  short_same c entry groups workers count place h enough all now =
+  short_same : (c : Contents) (initial : Settings) (entry : List (Worker X)) (groups : List (GroupState X)) (workers : List (Worker X)) (count place : ℕ) → place < nodes → nodes ≤ length workers → AreGroups state nodes c groups → AreWorkers state nodes entry groups workers →
+      short_of nodes count place (stores_in (slice_get workers place)) ≡ history.short_at (run_of nodes initial entry) c (history.shards_on (run_of nodes initial entry) count) place
+  short_same c initial entry groups workers count place h enough all now =
       let w = item_at workers place (omega (arith, h, enough)) in
       let at = now.used place w.0 h w.1 in
-      let all_taken : history.taken_in (run_of nodes entry) c.colocations place c.tables ≡ taken nodes c place = same_taken (run_of nodes entry) c.colocations place c.tables in
-      let free : stores_in (slice_get workers place) ≡ whole_at entry place - history.taken_in (run_of nodes entry) c.colocations place c.tables =
+      let all_taken : history.taken_in (run_of nodes initial entry) c.colocations place c.tables ≡ taken nodes c place = same_taken (run_of nodes initial entry) c.colocations place c.tables in
+      let free : stores_in (slice_get workers place) ≡ whole_at entry place - history.taken_in (run_of nodes initial entry) c.colocations place c.tables =
       ap stores_in w.1 ∙ (let t = at.total in let e = all.held place h in omega (arith, t, e, all_taken)) in
       ap (short_of nodes count place) free
 
-  same_from : (c : Contents) (entry : List (Worker X)) (groups : List (GroupState X)) (workers : List (Worker X)) (count place more : ℕ) → place + more ≤ nodes → nodes ≤ length workers → AreGroups state nodes c groups →
-      AreWorkers state nodes entry groups workers → shortage_from nodes count workers place more ≡ history.room_from (run_of nodes entry) c (history.shards_on (run_of nodes entry) count) place more
-  same_from c entry groups workers count place zero h enough all now = refl
-  same_from c entry groups workers count place (suc more) h enough all now =
-      let run = run_of nodes entry in
-      ap (λ (o : Option Fault). first_of (o ∷ shortage_from nodes count workers (place + 1) more ∷ [])) (short_same c entry groups workers count place (omega (arith, h)) enough all now)
-      ∙ ap (λ (o : Option Fault). first_of (history.short_at run c (history.shards_on run count) place ∷ o ∷ [])) (same_from c entry groups workers count (place + 1) more (omega (arith, h)) enough all now)
+  same_from : (c : Contents) (initial : Settings) (entry : List (Worker X)) (groups : List (GroupState X)) (workers : List (Worker X)) (count place more : ℕ) → place + more ≤ nodes → nodes ≤ length workers → AreGroups state nodes c groups →
+      AreWorkers state nodes entry groups workers → shortage_from nodes count workers place more ≡ history.room_from (run_of nodes initial entry) c (history.shards_on (run_of nodes initial entry) count) place more
+  same_from c initial entry groups workers count place zero h enough all now = refl
+  same_from c initial entry groups workers count place (suc more) h enough all now =
+      let run = run_of nodes initial entry in
+      ap (λ (o : Option Fault). first_of (o ∷ shortage_from nodes count workers (place + 1) more ∷ [])) (short_same c initial entry groups workers count place (omega (arith, h)) enough all now)
+      ∙ ap (λ (o : Option Fault). first_of (history.short_at run c (history.shards_on run count) place ∷ o ∷ [])) (same_from c initial entry groups workers count (place + 1) more (omega (arith, h)) enough all now)
 
-  pub room_same : (c : Contents) (entry : List (Worker X)) (groups : List (GroupState X)) (workers : List (Worker X)) (count : ℕ) → nodes ≤ length workers → AreGroups state nodes c groups → AreWorkers state nodes entry groups workers →
-      shortage nodes count workers ≡ history.room_fault (run_of nodes entry) c (history.shards_on (run_of nodes entry) count)
-  room_same c entry groups workers count enough all now = same_from c entry groups workers count 0 nodes (omega arith) enough all now
+  pub room_same : (c : Contents) (initial : Settings) (entry : List (Worker X)) (groups : List (GroupState X)) (workers : List (Worker X)) (count : ℕ) → nodes ≤ length workers → AreGroups state nodes c groups → AreWorkers state nodes entry groups workers →
+      shortage nodes count workers ≡ history.room_fault (run_of nodes initial entry) c (history.shards_on (run_of nodes initial entry) count)
+  room_same c initial entry groups workers count enough all now = same_from c initial entry groups workers count 0 nodes (omega arith) enough all now
 
   -- ---- undone
 

@@ -9,7 +9,8 @@ use Rattle.cq_catalog.specs.declared.info.Place.TheVariants.{Distributed, Refere
 use Rattle.cq_planning.specs.Database.{shape_in}
 use Rattle.cq_journal.specs.Records.{Journal}
 use Rattle.cq_journal.specs.Stations.{node_of}
-use Rattle.cq_history.specs.Run.{Run, first_settings}
+use Rattle.cq_history.specs.Run.{Run}
+use Rattle.cq_answer.specs.declared.answered.Settings.{Settings}
 use Rattle.cq_cluster.specs.Room.{taken}
 use Rattle.cq_store.specs.Stores.{StoreState, IsSpare}
 use Rattle.cq_store.specs.Workers.{room}
@@ -147,9 +148,9 @@ most_nodes = 16
 abbrev pub journals : {X : Type 0} → Cluster X → List Journal
 journals cl = journals_of cl.groups.items
 
--- what a run was given, by how many workers it uses, and the workers that were handed in
-abbrev pub run_of : {X : Type 0} → ℕ → List (Worker X) → Run
-run_of nodes entry = record { workers = nodes; stores = whole_at entry; settings = first_settings; phase = λ n. n }
+-- what a run was given, by how many workers it uses, the settings at its start, and the workers that were handed in
+abbrev pub run_of : {X : Type 0} → ℕ → Settings → List (Worker X) → Run
+run_of nodes initial entry = record { workers = nodes; stores = whole_at entry; settings = initial; phase = λ n. n }
 
 -- what a cluster keeps between two statements: its groups are those of the catalogue, and the workers have the other stores
 pub record IsSound {X : Type 0} (state : X → StoreState) (cl : Cluster X) : Type 0 where

@@ -3,6 +3,7 @@ ghost use Rattle.cq_answer.specs.declared.answered.Answered.{Answered};
 ghost use Rattle.cq_catalog.specs.Distribution.{decision_of, distributed_by};
 ghost use Rattle.cq_tree.specs.declared.journal.Who.{Who};
 ghost use Rattle.cq_planning.specs.Database.{shape_in};
+ghost use Rattle.cq_answer.specs.declared.answered.Settings.{Settings};
 ghost use Rattle.cq_history.specs.Deeds.{Grows};
 ghost use Rattle.cq_history.specs.Journals.{none};
 ghost use Rattle.cq_history.specs.Laws.{OpensGroups};
@@ -125,7 +126,7 @@ impl<S: Store> Cluster<S> {
     ) -> Result<Opened, Fault>
         requires sound { IsSound S.state self.now }
         ensures ok { IfOk result (IsPlanned self.now.nodes self.now.catalog self.now.workers.items table.now column.now count with.now default) }
-        ensures err { (entry : List (Worker S)) → AreWorkers S.state self.now.nodes entry self.now.groups.items self.now.workers.items → IfErr result (λ f. (f ≡ Fault.Memory) ⊎ (distribution_fault (run_of self.now.nodes entry) self.now.catalog default table.now column.now count with.now ≡ Some f)) }
+        ensures err { (initial : Settings) (entry : List (Worker S)) → AreWorkers S.state self.now.nodes entry self.now.groups.items self.now.workers.items → IfErr result (λ f. (f ≡ Fault.Memory) ⊎ (distribution_fault (run_of self.now.nodes initial entry) self.now.catalog default table.now column.now count with.now ≡ Some f)) }
     {
         let opened = match self.catalog.preview(table, column, count, with, default) {
             Ok(opened) => opened,
@@ -171,9 +172,9 @@ impl<S: Store> Cluster<S> {
         ensures sound { IsSound S.state self.new }
         ensures catalog { OnOk result (self.new.catalog ≡ distributed_by self.old.catalog (decision_of self.old.catalog table.now column.now count with.now default)) }
         ensures grows { OnOk result ((who : Who) → Grows who none (journals self.old) (journals self.new)) }
-        ensures opens { OnOk result ((entry : List (Worker S)) → OpensGroups (run_of self.old.nodes entry) self.old.catalog self.new.catalog (journals self.new)) }
-        ensures allowed { (entry : List (Worker S)) → AreWorkers S.state self.old.nodes entry self.old.groups.items self.old.workers.items → OnOk result (distribution_fault (run_of self.old.nodes entry) self.old.catalog default table.now column.now count with.now ≡ None) }
-        ensures cause { (entry : List (Worker S)) → AreWorkers S.state self.old.nodes entry self.old.groups.items self.old.workers.items → IfErr result (λ f. (f ≡ Fault.Memory) ⊎ (distribution_fault (run_of self.old.nodes entry) self.old.catalog default table.now column.now count with.now ≡ Some f)) }
+        ensures opens { OnOk result ((initial : Settings) (entry : List (Worker S)) → OpensGroups (run_of self.old.nodes initial entry) self.old.catalog self.new.catalog (journals self.new)) }
+        ensures allowed { (initial : Settings) (entry : List (Worker S)) → AreWorkers S.state self.old.nodes entry self.old.groups.items self.old.workers.items → OnOk result (distribution_fault (run_of self.old.nodes initial entry) self.old.catalog default table.now column.now count with.now ≡ None) }
+        ensures cause { (initial : Settings) (entry : List (Worker S)) → AreWorkers S.state self.old.nodes entry self.old.groups.items self.old.workers.items → IfErr result (λ f. (f ≡ Fault.Memory) ⊎ (distribution_fault (run_of self.old.nodes initial entry) self.old.catalog default table.now column.now count with.now ≡ Some f)) }
         ensures unchanged { OnErr result (self.new.catalog ≡ self.old.catalog) }
         ensures same { OnErr result (journals self.new ≡ journals self.old) }
         ensures stores { KeepsStores S.state self.old self.new }

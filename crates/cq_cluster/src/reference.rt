@@ -3,6 +3,7 @@ ghost use Rattle.cq_answer.specs.declared.answered.Answered.{Answered};
 ghost use Rattle.cq_catalog.specs.Distribution.{with_reference};
 ghost use Rattle.cq_tree.specs.declared.journal.Who.{Who};
 ghost use Rattle.cq_planning.specs.Database.{shape_in};
+ghost use Rattle.cq_answer.specs.declared.answered.Settings.{Settings};
 ghost use Rattle.cq_history.specs.Deeds.{Grows};
 ghost use Rattle.cq_history.specs.Journals.{none};
 ghost use Rattle.cq_history.specs.Laws.{OpensGroups};
@@ -29,7 +30,7 @@ impl<S: Store> Cluster<S> {
     fn plan_reference(&self, table: &Text) -> Result<Opened, Fault>
         requires sound { IsSound S.state self.now }
         ensures ok { IfOk result (IsReferencePlanned self.now.nodes self.now.catalog self.now.workers.items table.now) }
-        ensures err { (entry : List (Worker S)) → AreWorkers S.state self.now.nodes entry self.now.groups.items self.now.workers.items → IfErr result (λ f. (f ≡ Fault.Memory) ⊎ (reference_fault (run_of self.now.nodes entry) self.now.catalog table.now ≡ Some f)) }
+        ensures err { (initial : Settings) (entry : List (Worker S)) → AreWorkers S.state self.now.nodes entry self.now.groups.items self.now.workers.items → IfErr result (λ f. (f ≡ Fault.Memory) ⊎ (reference_fault (run_of self.now.nodes initial entry) self.now.catalog table.now ≡ Some f)) }
     {
         let opened = match self.catalog.preview_reference(table) {
             Ok(opened) => opened,
@@ -76,9 +77,9 @@ impl<S: Store> Cluster<S> {
         ensures sound { IsSound S.state self.new }
         ensures catalog { OnOk result (self.new.catalog ≡ with_reference self.old.catalog table.now) }
         ensures grows { OnOk result ((who : Who) → Grows who none (journals self.old) (journals self.new)) }
-        ensures opens { OnOk result ((entry : List (Worker S)) → OpensGroups (run_of self.old.nodes entry) self.old.catalog self.new.catalog (journals self.new)) }
-        ensures allowed { (entry : List (Worker S)) → AreWorkers S.state self.old.nodes entry self.old.groups.items self.old.workers.items → OnOk result (reference_fault (run_of self.old.nodes entry) self.old.catalog table.now ≡ None) }
-        ensures cause { (entry : List (Worker S)) → AreWorkers S.state self.old.nodes entry self.old.groups.items self.old.workers.items → IfErr result (λ f. (f ≡ Fault.Memory) ⊎ (reference_fault (run_of self.old.nodes entry) self.old.catalog table.now ≡ Some f)) }
+        ensures opens { OnOk result ((initial : Settings) (entry : List (Worker S)) → OpensGroups (run_of self.old.nodes initial entry) self.old.catalog self.new.catalog (journals self.new)) }
+        ensures allowed { (initial : Settings) (entry : List (Worker S)) → AreWorkers S.state self.old.nodes entry self.old.groups.items self.old.workers.items → OnOk result (reference_fault (run_of self.old.nodes initial entry) self.old.catalog table.now ≡ None) }
+        ensures cause { (initial : Settings) (entry : List (Worker S)) → AreWorkers S.state self.old.nodes entry self.old.groups.items self.old.workers.items → IfErr result (λ f. (f ≡ Fault.Memory) ⊎ (reference_fault (run_of self.old.nodes initial entry) self.old.catalog table.now ≡ Some f)) }
         ensures unchanged { OnErr result (self.new.catalog ≡ self.old.catalog) }
         ensures same { OnErr result (journals self.new ≡ journals self.old) }
         ensures stores { KeepsStores S.state self.old self.new }

@@ -74,28 +74,28 @@ module _ (run : Run) (e : Environment) (who : Who) (js : List Journal) where
 allowed_creation : (e : Environment) (name : List ℕ) (columns : List Column) → creation_refusal e.catalog name columns ≡ None → creation_fault e name columns ≡ None
 allowed_creation e name columns h = ap (option_map fault_of_catalog) h
 
-module _ {X : Type 0} (state : X → StoreState) (entry : List (Worker X)) (settings : Settings) (old new : Cluster X) (who : Who) (name : List ℕ) (given columns : List Column) (given_key key : List ℕ) (same : given ≡ columns) (same_key : given_key ≡ key) where
+module _ {X : Type 0} (state : X → StoreState) (initial : Settings) (entry : List (Worker X)) (settings : Settings) (old new : Cluster X) (who : Who) (name : List ℕ) (given columns : List Column) (given_key key : List ℕ) (same : given ≡ columns) (same_key : given_key ≡ key) where
   abbrev env : Contents → Environment
   env c = record { catalog = c; settings = settings }
 
   pub created_in : IsSound state old → IsSound state new → new.catalog ≡ with_table old.catalog name given given_key → creation_refusal old.catalog name given ≡ None → journals new ≡ journals old → new.nodes ≡ old.nodes →
-      IsAnswered rules (run_of old.nodes entry) (env old.catalog) (env new.catalog) who (journals old) (journals new) (Some (statement.CreateTable name columns key)) (answer.Tag tag.CreateTable)
+      IsAnswered rules (run_of old.nodes initial entry) (env old.catalog) (env new.catalog) who (journals old) (journals new) (Some (statement.CreateTable name columns key)) (answer.Tag tag.CreateTable)
   created_in before now made allowed still nodes =
       let c = old.catalog in
       let is : new.catalog ≡ with_table c name columns key = made ∙ ap (λ v. with_table c name v given_key) same ∙ ap (with_table c name columns) same_key in
       let free : creation_fault (env c) name columns ≡ None = allowed_creation (env c) name columns (subst (λ v. creation_refusal c name v ≡ None) same allowed) in
-      subst (λ (v : Contents). IsAnswered rules (run_of old.nodes entry) (env c) (env v) who (journals old) (journals new) (Some (statement.CreateTable name columns key)) (answer.Tag tag.CreateTable)) (sym is)
-      (catalog_is_answered rules (run_of old.nodes entry) (env c) who (journals old) (journals new) (statement.CreateTable name columns key) (answer.Tag tag.CreateTable) before.whole
+      subst (λ (v : Contents). IsAnswered rules (run_of old.nodes initial entry) (env c) (env v) who (journals old) (journals new) (Some (statement.CreateTable name columns key)) (answer.Tag tag.CreateTable)) (sym is)
+      (catalog_is_answered rules (run_of old.nodes initial entry) (env c) who (journals old) (journals new) (statement.CreateTable name columns key) (answer.Tag tag.CreateTable) before.whole
       (λ g. refl, subst (λ (o : Option Fault). Yields o (λ (b : Answer). b ≡ answer.Tag tag.CreateTable) (answer.Tag tag.CreateTable)) (sym free) refl)
       ((catalog_goes_on c before.whole).0 name columns key) (same_grows who (journals old) (journals new) still)
-      (opens_created state old.nodes entry c name columns key new.groups.items
+      (opens_created state old.nodes initial entry c name columns key new.groups.items
       (subst (λ n. AreGroups state n (with_table c name columns key) new.groups.items) nodes (subst (λ (v : Contents). AreGroups state new.nodes v new.groups.items) is now.groups)) (subst IsWhole is now.whole)))
 
   pub not_created_in : (f : Fault) → (f ≡ fault.Memory) ⊎ (option_map fault_of_catalog (creation_refusal old.catalog name given) ≡ Some f) → new ≡ old →
-      IsAnswered rules (run_of old.nodes entry) (env old.catalog) (env new.catalog) who (journals old) (journals new) (Some (statement.CreateTable name columns key)) (answer.Failed f)
+      IsAnswered rules (run_of old.nodes initial entry) (env old.catalog) (env new.catalog) who (journals old) (journals new) (Some (statement.CreateTable name columns key)) (answer.Failed f)
   not_created_in f cause still =
-      subst (λ (v : Cluster X). IsAnswered rules (run_of old.nodes entry) (env old.catalog) (env v.catalog) who (journals old) (journals v) (Some (statement.CreateTable name columns key)) (answer.Failed f)) (sym still)
-      (not_created (run_of old.nodes entry) (env old.catalog) who (journals old) name columns key f
+      subst (λ (v : Cluster X). IsAnswered rules (run_of old.nodes initial entry) (env old.catalog) (env v.catalog) who (journals old) (journals v) (Some (statement.CreateTable name columns key)) (answer.Failed f)) (sym still)
+      (not_created (run_of old.nodes initial entry) (env old.catalog) who (journals old) name columns key f
       (subst (λ v. (f ≡ fault.Memory) ⊎ (creation_fault (env old.catalog) name v ≡ Some f)) same cause))
 
 -- ---- create_distributed_table
@@ -104,51 +104,51 @@ not_refused : (o : Option CatalogError) (rest : List (Option Fault)) → first_o
 not_refused None rest h = refl
 not_refused (Some x) rest h = cc
 
-module _ {X : Type 0} (entry : List (Worker X)) (settings : Settings) (old new : Cluster X) (who : Who) (table column : List ℕ) (count : Option ℕ) (beside : With) where
+module _ {X : Type 0} (initial : Settings) (entry : List (Worker X)) (settings : Settings) (old new : Cluster X) (who : Who) (table column : List ℕ) (count : Option ℕ) (beside : With) where
   abbrev setting_of : Contents → Environment
   setting_of c = record { catalog = c; settings = settings }
 
-  pub distributed_in : (names : List (List ℕ)) (rows : List Row) → IsWhole old.catalog → distribution_fault (run_of old.nodes entry) old.catalog settings.shard_count table column count beside ≡ None →
+  pub distributed_in : (names : List (List ℕ)) (rows : List Row) → IsWhole old.catalog → distribution_fault (run_of old.nodes initial entry) old.catalog settings.shard_count table column count beside ≡ None →
       IsNotice (codes "create_distributed_table") (answer.Table names rows) → new.catalog ≡ distributed_by old.catalog (decision_of old.catalog table column count beside settings.shard_count) →
-      Grows who none (journals old) (journals new) → OpensGroups (run_of old.nodes entry) old.catalog new.catalog (journals new) →
-      IsAnswered rules (run_of old.nodes entry) (setting_of old.catalog) (setting_of new.catalog) who (journals old) (journals new) (Some (statement.Distribute table column count beside)) (answer.Table names rows)
+      Grows who none (journals old) (journals new) → OpensGroups (run_of old.nodes initial entry) old.catalog new.catalog (journals new) →
+      IsAnswered rules (run_of old.nodes initial entry) (setting_of old.catalog) (setting_of new.catalog) who (journals old) (journals new) (Some (statement.Distribute table column count beside)) (answer.Table names rows)
   distributed_in names rows whole allowed told made grows opens =
       let c = old.catalog in
       let d = decision_of c table column count beside settings.shard_count in
-      let free = not_refused (distribution_refusal c table column count beside settings.shard_count) (room_fault (run_of old.nodes entry) c (shards_on (run_of old.nodes entry) (opened_by c d).count) ∷ []) allowed in
-      subst (λ (v : Contents). IsAnswered rules (run_of old.nodes entry) (setting_of c) (setting_of v) who (journals old) (journals new) (Some (statement.Distribute table column count beside)) (answer.Table names rows)) (sym made)
-      (catalog_is_answered rules (run_of old.nodes entry) (setting_of c) who (journals old) (journals new) (statement.Distribute table column count beside) (answer.Table names rows) whole
+      let free = not_refused (distribution_refusal c table column count beside settings.shard_count) (room_fault (run_of old.nodes initial entry) c (shards_on (run_of old.nodes initial entry) (opened_by c d).count) ∷ []) allowed in
+      subst (λ (v : Contents). IsAnswered rules (run_of old.nodes initial entry) (setting_of c) (setting_of v) who (journals old) (journals new) (Some (statement.Distribute table column count beside)) (answer.Table names rows)) (sym made)
+      (catalog_is_answered rules (run_of old.nodes initial entry) (setting_of c) who (journals old) (journals new) (statement.Distribute table column count beside) (answer.Table names rows) whole
       (λ g. refl, subst (λ (o : Option Fault). Yields o (IsNotice (codes "create_distributed_table")) (answer.Table names rows)) (sym allowed) told)
       ((catalog_goes_on c whole).1 table column count beside settings.shard_count free) grows
-      (subst (λ (v : Contents). OpensGroups (run_of old.nodes entry) c v (journals new)) made opens))
+      (subst (λ (v : Contents). OpensGroups (run_of old.nodes initial entry) c v (journals new)) made opens))
 
-  pub not_distributed_in : (f : Fault) → (f ≡ fault.Memory) ⊎ (distribution_fault (run_of old.nodes entry) old.catalog settings.shard_count table column count beside ≡ Some f) → new.catalog ≡ old.catalog → journals new ≡ journals old →
-      IsAnswered rules (run_of old.nodes entry) (setting_of old.catalog) (setting_of new.catalog) who (journals old) (journals new) (Some (statement.Distribute table column count beside)) (answer.Failed f)
+  pub not_distributed_in : (f : Fault) → (f ≡ fault.Memory) ⊎ (distribution_fault (run_of old.nodes initial entry) old.catalog settings.shard_count table column count beside ≡ Some f) → new.catalog ≡ old.catalog → journals new ≡ journals old →
+      IsAnswered rules (run_of old.nodes initial entry) (setting_of old.catalog) (setting_of new.catalog) who (journals old) (journals new) (Some (statement.Distribute table column count beside)) (answer.Failed f)
   not_distributed_in f cause made still =
-      subst (λ (v : List Journal). IsAnswered rules (run_of old.nodes entry) (setting_of old.catalog) (setting_of new.catalog) who (journals old) v (Some (statement.Distribute table column count beside)) (answer.Failed f)) (sym still)
-      (subst (λ (v : Contents). IsAnswered rules (run_of old.nodes entry) (setting_of old.catalog) (setting_of v) who (journals old) (journals old) (Some (statement.Distribute table column count beside)) (answer.Failed f)) (sym made)
-      (not_distributed (run_of old.nodes entry) (setting_of old.catalog) who (journals old) table column count beside f cause))
+      subst (λ (v : List Journal). IsAnswered rules (run_of old.nodes initial entry) (setting_of old.catalog) (setting_of new.catalog) who (journals old) v (Some (statement.Distribute table column count beside)) (answer.Failed f)) (sym still)
+      (subst (λ (v : Contents). IsAnswered rules (run_of old.nodes initial entry) (setting_of old.catalog) (setting_of v) who (journals old) (journals old) (Some (statement.Distribute table column count beside)) (answer.Failed f)) (sym made)
+      (not_distributed (run_of old.nodes initial entry) (setting_of old.catalog) who (journals old) table column count beside f cause))
 
 -- ---- create_reference_table
 
-module _ {X : Type 0} (entry : List (Worker X)) (settings : Settings) (old new : Cluster X) (who : Who) (table : List ℕ) where
+module _ {X : Type 0} (initial : Settings) (entry : List (Worker X)) (settings : Settings) (old new : Cluster X) (who : Who) (table : List ℕ) where
   abbrev with_settings : Contents → Environment
   with_settings c = record { catalog = c; settings = settings }
 
-  pub referenced_in : (names : List (List ℕ)) (rows : List Row) → IsWhole old.catalog → reference_fault (run_of old.nodes entry) old.catalog table ≡ None → IsNotice (codes "create_reference_table") (answer.Table names rows) → new.catalog ≡ with_reference old.catalog table →
-      Grows who none (journals old) (journals new) → OpensGroups (run_of old.nodes entry) old.catalog new.catalog (journals new) →
-      IsAnswered rules (run_of old.nodes entry) (with_settings old.catalog) (with_settings new.catalog) who (journals old) (journals new) (Some (statement.Reference table)) (answer.Table names rows)
+  pub referenced_in : (names : List (List ℕ)) (rows : List Row) → IsWhole old.catalog → reference_fault (run_of old.nodes initial entry) old.catalog table ≡ None → IsNotice (codes "create_reference_table") (answer.Table names rows) → new.catalog ≡ with_reference old.catalog table →
+      Grows who none (journals old) (journals new) → OpensGroups (run_of old.nodes initial entry) old.catalog new.catalog (journals new) →
+      IsAnswered rules (run_of old.nodes initial entry) (with_settings old.catalog) (with_settings new.catalog) who (journals old) (journals new) (Some (statement.Reference table)) (answer.Table names rows)
   referenced_in names rows whole allowed told made grows opens =
       let c = old.catalog in
-      let free = not_refused (reference_refusal c table) (room_fault (run_of old.nodes entry) c (λ at. 1) ∷ []) allowed in
-      subst (λ (v : Contents). IsAnswered rules (run_of old.nodes entry) (with_settings c) (with_settings v) who (journals old) (journals new) (Some (statement.Reference table)) (answer.Table names rows)) (sym made)
-      (catalog_is_answered rules (run_of old.nodes entry) (with_settings c) who (journals old) (journals new) (statement.Reference table) (answer.Table names rows) whole
+      let free = not_refused (reference_refusal c table) (room_fault (run_of old.nodes initial entry) c (λ at. 1) ∷ []) allowed in
+      subst (λ (v : Contents). IsAnswered rules (run_of old.nodes initial entry) (with_settings c) (with_settings v) who (journals old) (journals new) (Some (statement.Reference table)) (answer.Table names rows)) (sym made)
+      (catalog_is_answered rules (run_of old.nodes initial entry) (with_settings c) who (journals old) (journals new) (statement.Reference table) (answer.Table names rows) whole
       (λ g. refl, subst (λ (o : Option Fault). Yields o (IsNotice (codes "create_reference_table")) (answer.Table names rows)) (sym allowed) told)
-      ((catalog_goes_on c whole).2 table free) grows (subst (λ (v : Contents). OpensGroups (run_of old.nodes entry) c v (journals new)) made opens))
+      ((catalog_goes_on c whole).2 table free) grows (subst (λ (v : Contents). OpensGroups (run_of old.nodes initial entry) c v (journals new)) made opens))
 
-  pub not_referenced_in : (f : Fault) → (f ≡ fault.Memory) ⊎ (reference_fault (run_of old.nodes entry) old.catalog table ≡ Some f) → new.catalog ≡ old.catalog → journals new ≡ journals old →
-      IsAnswered rules (run_of old.nodes entry) (with_settings old.catalog) (with_settings new.catalog) who (journals old) (journals new) (Some (statement.Reference table)) (answer.Failed f)
+  pub not_referenced_in : (f : Fault) → (f ≡ fault.Memory) ⊎ (reference_fault (run_of old.nodes initial entry) old.catalog table ≡ Some f) → new.catalog ≡ old.catalog → journals new ≡ journals old →
+      IsAnswered rules (run_of old.nodes initial entry) (with_settings old.catalog) (with_settings new.catalog) who (journals old) (journals new) (Some (statement.Reference table)) (answer.Failed f)
   not_referenced_in f cause made still =
-      subst (λ (v : List Journal). IsAnswered rules (run_of old.nodes entry) (with_settings old.catalog) (with_settings new.catalog) who (journals old) v (Some (statement.Reference table)) (answer.Failed f)) (sym still)
-      (subst (λ (v : Contents). IsAnswered rules (run_of old.nodes entry) (with_settings old.catalog) (with_settings v) who (journals old) (journals old) (Some (statement.Reference table)) (answer.Failed f)) (sym made)
-      (not_referenced (run_of old.nodes entry) (with_settings old.catalog) who (journals old) table f cause))
+      subst (λ (v : List Journal). IsAnswered rules (run_of old.nodes initial entry) (with_settings old.catalog) (with_settings new.catalog) who (journals old) v (Some (statement.Reference table)) (answer.Failed f)) (sym still)
+      (subst (λ (v : Contents). IsAnswered rules (run_of old.nodes initial entry) (with_settings old.catalog) (with_settings v) who (journals old) (journals old) (Some (statement.Reference table)) (answer.Failed f)) (sym made)
+      (not_referenced (run_of old.nodes initial entry) (with_settings old.catalog) who (journals old) table f cause))

@@ -4,3 +4,4 @@ pub mod QueryAnswers
 pub mod PlanAnswers
 pub mod RefusalAnswers
 pub mod Naming
+pub mod Tags

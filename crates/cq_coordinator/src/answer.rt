@@ -3,6 +3,7 @@ ghost use Rattle.cq_meaning.specs.Effects.{table_of as table_of_op};
 ghost use Rattle.cq_catalog.specs.Contents.{is_local};
 ghost use Rattle.cq_catalog.specs.Placement.{place_at};
 ghost use Rattle.cq_planning.specs.Refusals.{refusal_of as refusal_by_rule};
+ghost use Rattle.cq_answer.specs.declared.answered.Settings.{Settings};
 ghost use Rattle.cq_history.specs.Computable.{IsComputable};
 ghost use Rattle.cq_history.specs.Journals.{journal_in};
 ghost use Rattle.cq_history.specs.Legality.{IsLegal, IsKeyed};
@@ -12,7 +13,7 @@ ghost use Rattle.cq_store.specs.declared.worker.Worker.{Worker};
 ghost use Rattle.cq_cluster.specs.Cluster.{IsSound, KeepsStores, AreWorkers, run_of};
 ghost use Rattle.cq_answer.specs.declared.answered.Answered.{Answered};
 ghost use Rattle.cq_cluster.specs.Accounts.{AreAccounted};
-ghost use Rattle.cq_coordinator.specs.Coordination.{environment, journals};
+ghost use Rattle.cq_coordinator.specs.Coordination.{environment, journals, IsNoCopy};
 
 use crate::coordinator::Coordinator;
 use cq_answer::{Answer, Fault};
@@ -52,7 +53,8 @@ impl<S: Store> Coordinator<S> {
         requires keyed { (table : ℕ) → IsKeyed self.old.cluster.catalog table }
         requires computable { IsComputable self.old.cluster.catalog statement.now }
         requires supported { refusal_by_rule self.old.settings.repartition self.old.cluster.catalog statement.now ≡ None }
-        ensures answered { (entry : List (Worker S)) → AreWorkers S.state self.old.cluster.nodes entry self.old.cluster.groups.items self.old.cluster.workers.items → IsAnswered rules (run_of self.old.cluster.nodes entry) (environment self.old) (environment self.new) who (journals self.old) (journals self.new) (Some statement.now) result }
+        ensures answered { (initial : Settings) (entry : List (Worker S)) → AreWorkers S.state self.old.cluster.nodes entry self.old.cluster.groups.items self.old.cluster.workers.items → IsAnswered rules (run_of self.old.cluster.nodes initial entry) (environment self.old) (environment self.new) who (journals self.old) (journals self.new) (Some statement.now) result }
+        ensures tag { IsNoCopy result }
         ensures sound { IsSound S.state self.new.cluster }
         ensures stores { KeepsStores S.state self.old.cluster self.new.cluster }
         ensures accounted { (answers : List Answered) (a : Answered) → a.answer ≡ result → AreAccounted S.state self.old.cluster.catalog answers self.old.cluster.groups.items → AreAccounted S.state self.new.cluster.catalog (answers ++ a ∷ []) self.new.cluster.groups.items }
@@ -95,7 +97,8 @@ impl<S: Store> Coordinator<S> {
         requires legal { (g : ℕ) → IsLegal self.old.cluster.catalog g (journal_in (journals self.old) g) }
         requires keyed { (table : ℕ) → IsKeyed self.old.cluster.catalog table }
         requires computable { IsComputable self.old.cluster.catalog statement.now }
-        ensures answered { (entry : List (Worker S)) → AreWorkers S.state self.old.cluster.nodes entry self.old.cluster.groups.items self.old.cluster.workers.items → IsAnswered rules (run_of self.old.cluster.nodes entry) (environment self.old) (environment self.new) who (journals self.old) (journals self.new) (Some statement.now) result }
+        ensures answered { (initial : Settings) (entry : List (Worker S)) → AreWorkers S.state self.old.cluster.nodes entry self.old.cluster.groups.items self.old.cluster.workers.items → IsAnswered rules (run_of self.old.cluster.nodes initial entry) (environment self.old) (environment self.new) who (journals self.old) (journals self.new) (Some statement.now) result }
+        ensures tag { IsNoCopy result }
         ensures sound { IsSound S.state self.new.cluster }
         ensures stores { KeepsStores S.state self.old.cluster self.new.cluster }
         ensures accounted { (answers : List Answered) (a : Answered) → a.answer ≡ result → AreAccounted S.state self.old.cluster.catalog answers self.old.cluster.groups.items → AreAccounted S.state self.new.cluster.catalog (answers ++ a ∷ []) self.new.cluster.groups.items }

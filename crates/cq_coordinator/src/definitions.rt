@@ -1,5 +1,6 @@
 ghost use Rattle.std.specs.Prelude.{◌≡◌, ◌<◌, ◌^◌, List, Some, [], ◌∷◌, ◌++◌};
 ghost use Rattle.cq_tree.specs.declared.statement.Statement.TheVariants as statement;
+ghost use Rattle.cq_answer.specs.declared.answered.Settings.{Settings};
 ghost use Rattle.cq_history.specs.Run.{with_setting as settings_with};
 ghost use Rattle.cq_history.specs.Refusals.{rules};
 ghost use Rattle.cq_history.specs.Log.{IsAnswered};
@@ -7,7 +8,7 @@ ghost use Rattle.cq_store.specs.declared.worker.Worker.{Worker};
 ghost use Rattle.cq_cluster.specs.Cluster.{IsSound, KeepsStores, AreWorkers, run_of};
 ghost use Rattle.cq_answer.specs.declared.answered.Answered.{Answered};
 ghost use Rattle.cq_cluster.specs.Accounts.{AreAccounted};
-ghost use Rattle.cq_coordinator.specs.Coordination.{environment, journals};
+ghost use Rattle.cq_coordinator.specs.Coordination.{environment, journals, IsNoCopy};
 
 use crate::coordinator::Coordinator;
 use crate::notice::notice_of;
@@ -50,7 +51,8 @@ impl<S: Store> Coordinator<S> {
         key: &Positions,
     ) -> Answer
         requires sound { IsSound S.state self.old.cluster }
-        ensures answered { (entry : List (Worker S)) → IsAnswered rules (run_of self.old.cluster.nodes entry) (environment self.old) (environment self.new) who (journals self.old) (journals self.new) (Some (statement.CreateTable name.now columns.now key.now)) result }
+        ensures answered { (initial : Settings) (entry : List (Worker S)) → IsAnswered rules (run_of self.old.cluster.nodes initial entry) (environment self.old) (environment self.new) who (journals self.old) (journals self.new) (Some (statement.CreateTable name.now columns.now key.now)) result }
+        ensures tag { IsNoCopy result }
         ensures sound { IsSound S.state self.new.cluster }
         ensures stores { KeepsStores S.state self.old.cluster self.new.cluster }
         ensures accounted { (answers : List Answered) (a : Answered) → a.answer ≡ result → AreAccounted S.state self.old.cluster.catalog answers self.old.cluster.groups.items → AreAccounted S.state self.new.cluster.catalog (answers ++ a ∷ []) self.new.cluster.groups.items }
@@ -78,7 +80,8 @@ impl<S: Store> Coordinator<S> {
         with: &With,
     ) -> Answer
         requires sound { IsSound S.state self.old.cluster }
-        ensures answered { (entry : List (Worker S)) → AreWorkers S.state self.old.cluster.nodes entry self.old.cluster.groups.items self.old.cluster.workers.items → IsAnswered rules (run_of self.old.cluster.nodes entry) (environment self.old) (environment self.new) who (journals self.old) (journals self.new) (Some (statement.Distribute table.now column.now count with.now)) result }
+        ensures answered { (initial : Settings) (entry : List (Worker S)) → AreWorkers S.state self.old.cluster.nodes entry self.old.cluster.groups.items self.old.cluster.workers.items → IsAnswered rules (run_of self.old.cluster.nodes initial entry) (environment self.old) (environment self.new) who (journals self.old) (journals self.new) (Some (statement.Distribute table.now column.now count with.now)) result }
+        ensures tag { IsNoCopy result }
         ensures sound { IsSound S.state self.new.cluster }
         ensures stores { KeepsStores S.state self.old.cluster self.new.cluster }
         ensures accounted { (answers : List Answered) (a : Answered) → a.answer ≡ result → AreAccounted S.state self.old.cluster.catalog answers self.old.cluster.groups.items → AreAccounted S.state self.new.cluster.catalog (answers ++ a ∷ []) self.new.cluster.groups.items }
@@ -102,7 +105,8 @@ impl<S: Store> Coordinator<S> {
     /// The answer of a `create_reference_table`: the table is a reference table, or all is as it was but for the order of spare stores.
     pub fn reference(&mut self, alloc: Global, who: Who, table: &Text) -> Answer
         requires sound { IsSound S.state self.old.cluster }
-        ensures answered { (entry : List (Worker S)) → AreWorkers S.state self.old.cluster.nodes entry self.old.cluster.groups.items self.old.cluster.workers.items → IsAnswered rules (run_of self.old.cluster.nodes entry) (environment self.old) (environment self.new) who (journals self.old) (journals self.new) (Some (statement.Reference table.now)) result }
+        ensures answered { (initial : Settings) (entry : List (Worker S)) → AreWorkers S.state self.old.cluster.nodes entry self.old.cluster.groups.items self.old.cluster.workers.items → IsAnswered rules (run_of self.old.cluster.nodes initial entry) (environment self.old) (environment self.new) who (journals self.old) (journals self.new) (Some (statement.Reference table.now)) result }
+        ensures tag { IsNoCopy result }
         ensures sound { IsSound S.state self.new.cluster }
         ensures stores { KeepsStores S.state self.old.cluster self.new.cluster }
         ensures accounted { (answers : List Answered) (a : Answered) → a.answer ≡ result → AreAccounted S.state self.old.cluster.catalog answers self.old.cluster.groups.items → AreAccounted S.state self.new.cluster.catalog (answers ++ a ∷ []) self.new.cluster.groups.items }
@@ -123,7 +127,8 @@ impl<S: Store> Coordinator<S> {
     pub fn set(&mut self, who: Who, which: u32, value: u64) -> Answer
         requires sound { IsSound S.state self.old.cluster }
         requires fits { value < 2 ^ 32 }
-        ensures answered { (entry : List (Worker S)) → IsAnswered rules (run_of self.old.cluster.nodes entry) (environment self.old) (environment self.new) who (journals self.old) (journals self.new) (Some (statement.Setting which value)) result }
+        ensures answered { (initial : Settings) (entry : List (Worker S)) → IsAnswered rules (run_of self.old.cluster.nodes initial entry) (environment self.old) (environment self.new) who (journals self.old) (journals self.new) (Some (statement.Setting which value)) result }
+        ensures tag { IsNoCopy result }
         ensures sound { IsSound S.state self.new.cluster }
         ensures stores { KeepsStores S.state self.old.cluster self.new.cluster }
         ensures accounted { (answers : List Answered) (a : Answered) → a.answer ≡ result → AreAccounted S.state self.old.cluster.catalog answers self.old.cluster.groups.items → AreAccounted S.state self.new.cluster.catalog (answers ++ a ∷ []) self.new.cluster.groups.items }

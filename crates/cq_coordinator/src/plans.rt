@@ -2,11 +2,12 @@ ghost use Rattle.std.specs.Prelude.{◌≡◌, ℕ, List, Some, None, [], ◌∷
 ghost use Rattle.cq_tree.specs.declared.statement.Statement.TheVariants as statement;
 ghost use Rattle.cq_answer.specs.declared.answer.Answer.TheVariants as answer;
 ghost use Rattle.cq_answer.specs.declared.fault.Fault.TheVariants as fault;
+ghost use Rattle.cq_answer.specs.declared.answered.Settings.{Settings};
 ghost use Rattle.cq_history.specs.Refusals.{rules, refusal_in};
 ghost use Rattle.cq_history.specs.Log.{IsAnswered};
 ghost use Rattle.cq_store.specs.declared.worker.Worker.{Worker};
 ghost use Rattle.cq_cluster.specs.Cluster.{IsSound, run_of};
-ghost use Rattle.cq_coordinator.specs.Coordination.{environment, journals};
+ghost use Rattle.cq_coordinator.specs.Coordination.{environment, journals, IsNoCopy};
 
 use crate::coordinator::Coordinator;
 use cq_answer::{Answer, Fault};
@@ -42,7 +43,8 @@ impl<S: Store> Coordinator<S> {
     pub fn explain(&self, alloc: Global, who: Who, query: &Query) -> Answer
         requires sound { IsSound S.state self.now.cluster }
         requires runs { refusal_in (environment self.now) (statement.Explain query.now) ≡ None }
-        ensures answered { (entry : List (Worker S)) → IsAnswered rules (run_of self.now.cluster.nodes entry) (environment self.now) (environment self.now) who (journals self.now) (journals self.now) (Some (statement.Explain query.now)) result }
+        ensures answered { (initial : Settings) (entry : List (Worker S)) → IsAnswered rules (run_of self.now.cluster.nodes initial entry) (environment self.now) (environment self.now) who (journals self.now) (journals self.now) (Some (statement.Explain query.now)) result }
+        ensures tag { IsNoCopy result }
         ensures unnamed { (node shard before after : ℕ) → result ≡ answer.Failed (fault.Worker node shard before after) → ⊥ }
     {
         let Ok(names) = names_of(alloc) else {

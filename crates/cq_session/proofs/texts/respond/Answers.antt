@@ -17,7 +17,7 @@ pub returns-in-Ok-clause-reads : goal.returns-in-Ok-clause-reads
 returns-in-Ok-clause-reads g c = reads_ok c.answer-answer.result c.in-Ok.statement (reading_of c.args.text.now c.args.coordinator.now.cluster.catalog.tables) c.in-Ok.ensures.reading
 
 pub returns-in-Err-clause-answered : goal.returns-in-Err-clause-answered
-returns-in-Err-clause-answered g c = λ entry are. (refusal_is_answered rules (run_of c.args.coordinator.now.cluster.nodes entry) (environment c.args.coordinator.now) c.args.who (journals c.args.coordinator.now) c.in-Err.fault).0
+returns-in-Err-clause-answered g c = λ initial entry are. (refusal_is_answered rules (run_of c.args.coordinator.now.cluster.nodes initial entry) (environment c.args.coordinator.now) c.args.who (journals c.args.coordinator.now) c.in-Err.fault).0
 
 pub returns-in-Err-clause-reads : goal.returns-in-Err-clause-reads
 returns-in-Err-clause-reads g c = reads_err c.in-Err.fault (reading_of c.args.text.now c.args.coordinator.now.cluster.catalog.tables) c.in-Err.ensures.reading

@@ -14,7 +14,7 @@ pub returns-in-Err-clause-sound : goal.returns-in-Err-clause-sound
 returns-in-Err-clause-sound g c = c.requires.sound
 
 pub returns-in-Err-clause-cause : goal.returns-in-Err-clause-cause
-returns-in-Err-clause-cause g c entry at = c.in-Err.ensures.err entry at
+returns-in-Err-clause-cause g c initial entry at = c.in-Err.ensures.err initial entry at
 
 pub returns-in-Err-clause-unchanged : goal.returns-in-Err-clause-unchanged
 returns-in-Err-clause-unchanged g c = refl
@@ -46,7 +46,7 @@ pub returns-in_default-clause-accounted : goal.returns-in_default-clause-account
 returns-in_default-clause-accounted g c = (as_it_was g.S.Store.state c.args.self.now c.add.new.self c.requires.sound c.add.ensures.catalog c.add.ensures.nodes c.in_default.ensures.err).accounted
 
 pub returns-in_default-clause-cause : goal.returns-in_default-clause-cause
-returns-in_default-clause-cause g c entry at = inl refl
+returns-in_default-clause-cause g c initial entry at = inl refl
 
 pub returns-in_default-clause-unchanged : goal.returns-in_default-clause-unchanged
 returns-in_default-clause-unchanged g c = c.add.ensures.catalog
@@ -92,7 +92,7 @@ returns-in-Err-distribute-clause-accounted g c =
     (is_open_on g.S.Store.state c.in-Ok.opened (shape_in c.args.self.now.catalog c.in-Ok.opened.table) c.args.self.now.groups.items c.args.self.now.workers.items c.add.new.self.groups.items c.add.new.self.workers.items c.add.ensures.nodes c.in-Ok-add.ensures.ok)))).accounted
 
 pub returns-in-Err-distribute-clause-cause : goal.returns-in-Err-distribute-clause-cause
-returns-in-Err-distribute-clause-cause g c entry at =
+returns-in-Err-distribute-clause-cause g c initial entry at =
     inl (memory_after c.args.self.now.catalog c.add.new.self.catalog c.args.table.now c.args.column.now c.args.count c.args.with.now c.args.default c.add.ensures.catalog c.in-Err-distribute.refused c.from.result c.in-Ok.ensures.ok.allowed c.in-Err-distribute.ensures.refused c.from.ensures)
 
 pub returns-in-Err-distribute-clause-unchanged : goal.returns-in-Err-distribute-clause-unchanged
@@ -116,16 +116,16 @@ returns-clause-grows g c who =
     (distributed g.S.Store.state c.args.self.now new c.args.table.now c.args.column.now c.args.count c.args.with.now c.args.default c.in-Ok.opened c.requires.sound c.add.ensures.nodes c.in-Ok.ensures.ok c.in-Ok-add.ensures.ok made).grows who
 
 pub returns-clause-opens : goal.returns-clause-opens
-returns-clause-opens g c entry =
+returns-clause-opens g c initial entry =
     let new : Cluster g.row.S.Denot = record { catalog = c.distribute.new.self; groups = c.add.new.self.groups; workers = c.add.new.self.workers; nodes = c.add.new.self.nodes } in
     let made = made_after c.args.self.now.catalog c.add.new.self.catalog c.args.table.now c.args.column.now c.args.count c.args.with.now c.args.default c.add.ensures.catalog c.distribute.new.self c.in_default-distribute.ensures.distributed in
-    (distributed g.S.Store.state c.args.self.now new c.args.table.now c.args.column.now c.args.count c.args.with.now c.args.default c.in-Ok.opened c.requires.sound c.add.ensures.nodes c.in-Ok.ensures.ok c.in-Ok-add.ensures.ok made).opens entry
+    (distributed g.S.Store.state c.args.self.now new c.args.table.now c.args.column.now c.args.count c.args.with.now c.args.default c.in-Ok.opened c.requires.sound c.add.ensures.nodes c.in-Ok.ensures.ok c.in-Ok-add.ensures.ok made).opens initial entry
 
 pub returns-clause-allowed : goal.returns-clause-allowed
-returns-clause-allowed g c entry at =
+returns-clause-allowed g c initial entry at =
     let new : Cluster g.row.S.Denot = record { catalog = c.distribute.new.self; groups = c.add.new.self.groups; workers = c.add.new.self.workers; nodes = c.add.new.self.nodes } in
     let made = made_after c.args.self.now.catalog c.add.new.self.catalog c.args.table.now c.args.column.now c.args.count c.args.with.now c.args.default c.add.ensures.catalog c.distribute.new.self c.in_default-distribute.ensures.distributed in
-    (distributed g.S.Store.state c.args.self.now new c.args.table.now c.args.column.now c.args.count c.args.with.now c.args.default c.in-Ok.opened c.requires.sound c.add.ensures.nodes c.in-Ok.ensures.ok c.in-Ok-add.ensures.ok made).allowed entry at
+    (distributed g.S.Store.state c.args.self.now new c.args.table.now c.args.column.now c.args.count c.args.with.now c.args.default c.in-Ok.opened c.requires.sound c.add.ensures.nodes c.in-Ok.ensures.ok c.in-Ok-add.ensures.ok made).allowed initial entry at
 
 pub returns-clause-stores : goal.returns-clause-stores
 returns-clause-stores g c =

@@ -24,7 +24,7 @@ returns-in-Err-reference-clause-sound g c =
     (given_back g.S.Store.state old new c.requires.sound (c.in-Err-reference.ensures.unchanged ∙ c.copy.ensures.catalog) c.copy.ensures.nodes c.copy.ensures.groups lent).sound
 
 pub returns-in-Err-reference-clause-cause : goal.returns-in-Err-reference-clause-cause
-returns-in-Err-reference-clause-cause g c entry at =
+returns-in-Err-reference-clause-cause g c initial entry at =
     inl (memory_after c.args.self.now.catalog c.copy.new.self.catalog c.args.table.now c.copy.ensures.catalog c.in-Err-reference.refused c.from.result c.in-Ok.ensures.ok.allowed c.in-Err-reference.ensures.refused c.from.ensures)
 
 pub returns-in-Err-reference-clause-stores : goal.returns-in-Err-reference-clause-stores
@@ -50,15 +50,15 @@ returns-clause-sound g c =
     (referred g.S.Store.state old new c.args.table.now c.in-Ok.opened c.in-Ok-copy.group c.requires.sound c.in-Ok.ensures.ok made c.copy.ensures.nodes all c.in-Ok-copy.ensures.group c.in-Ok-copy.ensures.ok).sound
 
 pub returns-clause-opens : goal.returns-clause-opens
-returns-clause-opens g c entry =
+returns-clause-opens g c initial entry =
     let old = c.args.self.now in
     let new : Cluster g.row.S.Denot = record { catalog = c.reference.new.self; groups = c.push_reserved.new.self; workers = c.copy.new.self.workers; nodes = c.copy.new.self.nodes } in
     let made = made_after old.catalog c.copy.new.self.catalog c.args.table.now c.copy.ensures.catalog c.reference.new.self c.in_default-reference.ensures.made in
     let all : new.groups.items ≡ old.groups.items ++ c.in-Ok-copy.group ∷ [] = c.push_reserved.ensures.items ∙ ap (λ (gs : List (GroupState g.row.S.Denot)). gs ++ c.in-Ok-copy.group ∷ []) c.copy.ensures.groups in
-    (referred g.S.Store.state old new c.args.table.now c.in-Ok.opened c.in-Ok-copy.group c.requires.sound c.in-Ok.ensures.ok made c.copy.ensures.nodes all c.in-Ok-copy.ensures.group c.in-Ok-copy.ensures.ok).opens entry
+    (referred g.S.Store.state old new c.args.table.now c.in-Ok.opened c.in-Ok-copy.group c.requires.sound c.in-Ok.ensures.ok made c.copy.ensures.nodes all c.in-Ok-copy.ensures.group c.in-Ok-copy.ensures.ok).opens initial entry
 
 pub returns-clause-allowed : goal.returns-clause-allowed
-returns-clause-allowed g c entry at = by_room g.S.Store.state c.args.self.now c.args.table.now _ c.requires.sound c.in-Ok.ensures.ok.allowed c.in-Ok.ensures.ok.room entry at
+returns-clause-allowed g c initial entry at = by_room g.S.Store.state c.args.self.now c.args.table.now _ c.requires.sound c.in-Ok.ensures.ok.allowed c.in-Ok.ensures.ok.room initial entry at
 
 pub returns-clause-stores : goal.returns-clause-stores
 returns-clause-stores g c =

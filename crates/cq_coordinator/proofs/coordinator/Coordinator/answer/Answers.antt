@@ -9,8 +9,8 @@ use Rattle.cq_coordinator.proofs.RefusalAnswers.{unsupported, no_memory}
 use Rattle.cq_coordinator.proofs.coordinator.Coordinator.answer.Goals as goal
 
 pub returns-in-Some-clause-answered : goal.returns-in-Some-clause-answered
-returns-in-Some-clause-answered g c = λ entry are.
-    (refusal_is_answered rules (run_of c.args.self.now.cluster.nodes entry) (environment c.args.self.now) c.args.who (journals c.args.self.now) (fault.Unsupported c.in-Some.why)).1
+returns-in-Some-clause-answered g c = λ initial entry are.
+    (refusal_is_answered rules (run_of c.args.self.now.cluster.nodes initial entry) (environment c.args.self.now) c.args.who (journals c.args.self.now) (fault.Unsupported c.in-Some.why)).1
     c.args.statement.now (unsupported (environment c.args.self.now) c.args.statement.now c.in-Some.why (sym c.in-Ok.ensures ∙ c.in-Some.is))
 
 pub returns-in-Some-clause-accounted : goal.returns-in-Some-clause-accounted
@@ -18,7 +18,7 @@ returns-in-Some-clause-accounted g c = λ answers a is all.
     other_is_accounted g.S.Store.state c.args.self.now.cluster.catalog c.args.self.now.cluster.groups.items answers a (λ node shard before after e. let bad = sym is ∙ e in cc) all
 
 pub returns-in_default-clause-answered : goal.returns-in_default-clause-answered
-returns-in_default-clause-answered g c = λ entry are. no_memory (run_of c.args.self.now.cluster.nodes entry) (environment c.args.self.now) c.args.who (journals c.args.self.now) c.args.statement.now
+returns-in_default-clause-answered g c = λ initial entry are. no_memory (run_of c.args.self.now.cluster.nodes initial entry) (environment c.args.self.now) c.args.who (journals c.args.self.now) c.args.statement.now
 
 pub returns-in_default-clause-accounted : goal.returns-in_default-clause-accounted
 returns-in_default-clause-accounted g c = λ answers a is all.

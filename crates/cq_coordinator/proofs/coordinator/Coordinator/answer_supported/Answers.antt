@@ -10,8 +10,8 @@ use Rattle.cq_coordinator.proofs.RefusalAnswers.{not_built}
 use Rattle.cq_coordinator.proofs.coordinator.Coordinator.answer_supported.Goals as goal
 
 pub returns-else-has_shards-clause-answered : goal.returns-else-has_shards-clause-answered
-returns-else-has_shards-clause-answered g c = λ entry are.
-    (refusal_is_answered rules (run_of c.args.self.now.cluster.nodes entry) (environment c.args.self.now) c.args.who (journals c.args.self.now) fault.NotBuilt).1
+returns-else-has_shards-clause-answered g c = λ initial entry are.
+    (refusal_is_answered rules (run_of c.args.self.now.cluster.nodes initial entry) (environment c.args.self.now) c.args.who (journals c.args.self.now) fault.NotBuilt).1
     c.args.statement.now (not_built (environment c.args.self.now) c.args.statement.now c.requires.supported
     (ap (is_built c.args.self.now.cluster.catalog) c.in-Write.is ∙ (sym c.has_shards.ensures ∙ c.if-has_shards.false)))
 
@@ -28,8 +28,8 @@ returns-in-Copy-clause-answered g c =
         ]
       ]
     ] in
-    λ entry are.
-    (refusal_is_answered rules (run_of c.args.self.now.cluster.nodes entry) (environment c.args.self.now) c.args.who (journals c.args.self.now) fault.NotBuilt).1
+    λ initial entry are.
+    (refusal_is_answered rules (run_of c.args.self.now.cluster.nodes initial entry) (environment c.args.self.now) c.args.who (journals c.args.self.now) fault.NotBuilt).1
     c.args.statement.now (not_built (environment c.args.self.now) c.args.statement.now c.requires.supported unbuilt)
 
 pub returns-else-has_shards-clause-accounted : goal.returns-else-has_shards-clause-accounted

@@ -3,6 +3,7 @@ use Rattle.cq_cluster.proofs.GroupLaws.{rests, sound_after, stores_after}
 use Rattle.cq_cluster.specs.Cluster.{run_of}
 use Rattle.cq_cluster.proofs.AnswerLaws.{answer_is_accounted}
 use Rattle.cq_coordinator.proofs.QueryAnswers.{are_shaped}
+use Rattle.cq_coordinator.proofs.Tags.{query_no_copy}
 use Rattle.cq_coordinator.proofs.coordinator.Coordinator.select.Goals as goal
 
 pub answer_query-requires-clause-resting : goal.answer_query-requires-clause-resting
@@ -12,7 +13,12 @@ pub answer_query-requires-clause-shaped : goal.answer_query-requires-clause-shap
 answer_query-requires-clause-shaped g c = are_shaped g.S.Store.state c.args.self.now.cluster c.requires.sound
 
 pub returns-clause-answered : goal.returns-clause-answered
-returns-clause-answered g c = λ entry. c.answer_query.ensures.answered (run_of c.args.self.now.cluster.nodes entry) c.args.self.now.settings refl c.requires.runs
+returns-clause-answered g c = λ initial entry. c.answer_query.ensures.answered (run_of c.args.self.now.cluster.nodes initial entry) c.args.self.now.settings refl c.requires.runs
+
+pub returns-clause-tag : goal.returns-clause-tag
+returns-clause-tag g c =
+    query_no_copy _ _ _ _ _ c.args.query.now c.answer_query.result
+    (c.answer_query.ensures.answered (run_of c.args.self.now.cluster.nodes c.args.self.now.settings c.args.self.now.cluster.workers.items) c.args.self.now.settings refl c.requires.runs).does.stands
 
 pub returns-clause-accounted : goal.returns-clause-accounted
 returns-clause-accounted g c = λ answers a is all.

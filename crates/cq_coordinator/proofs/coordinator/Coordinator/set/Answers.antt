@@ -12,10 +12,10 @@ use Rattle.cq_coordinator.proofs.DefinitionAnswers.{setting_made}
 use Rattle.cq_coordinator.proofs.coordinator.Coordinator.set.Goals as goal
 
 pub returns-clause-answered : goal.returns-clause-answered
-returns-clause-answered g c = λ entry.
-    subst (λ (v : Settings). IsAnswered rules (run_of c.args.self.now.cluster.nodes entry) (environment c.args.self.now) (record { catalog = c.args.self.now.cluster.catalog; settings = v }) c.args.who (journals c.args.self.now) (journals c.args.self.now) (Some (statement.Setting c.args.which c.args.value)) (answer.Tag tag.Setting))
+returns-clause-answered g c = λ initial entry.
+    subst (λ (v : Settings). IsAnswered rules (run_of c.args.self.now.cluster.nodes initial entry) (environment c.args.self.now) (record { catalog = c.args.self.now.cluster.catalog; settings = v }) c.args.who (journals c.args.self.now) (journals c.args.self.now) (Some (statement.Setting c.args.which c.args.value)) (answer.Tag tag.Setting))
     (sym c.with_setting-self.ensures)
-    (setting_made (run_of c.args.self.now.cluster.nodes entry) (environment c.args.self.now) c.args.who (journals c.args.self.now) c.args.which c.args.value)
+    (setting_made (run_of c.args.self.now.cluster.nodes initial entry) (environment c.args.self.now) c.args.who (journals c.args.self.now) c.args.which c.args.value)
 
 pub returns-clause-accounted : goal.returns-clause-accounted
 returns-clause-accounted g c = λ answers a is all.

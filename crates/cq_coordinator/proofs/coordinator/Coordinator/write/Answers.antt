@@ -15,7 +15,8 @@ use Rattle.cq_coordinator.proofs.Naming.{none_named, memory_named}
 use Rattle.cq_coordinator.proofs.QueryAnswers.{are_shaped}
 use Rattle.cq_cluster.specs.Cluster.{run_of}
 use Rattle.cq_cluster.proofs.GroupLaws.{rests, sound_after, stores_after}
-use Rattle.cq_coordinator.specs.Coordination.{environment, journals}
+use Rattle.cq_coordinator.specs.Coordination.{environment, journals, IsNoCopy}
+use Rattle.cq_coordinator.proofs.Tags.{write_no_copy}
 use Rattle.cq_coordinator.proofs.WriteAnswers.{its_shards, ascending, takes}
 use Rattle.cq_coordinator.proofs.coordinator.Coordinator.write.Goals as goal
 
@@ -32,19 +33,22 @@ pub write_groups-requires-clause-takes : goal.write_groups-requires-clause-takes
 write_groups-requires-clause-takes g c = takes g.S.Store.state c.args.self.now.cluster c.args.op.now c.requires.sound c.requires.runs c.requires.computable c.requires.legal c.in-Ok.divided c.in-Ok.ensures
 
 pub returns-in_default-clause-answered : goal.returns-in_default-clause-answered
-returns-in_default-clause-answered g c = λ entry are. write_lacks_memory rules (run_of c.args.self.now.cluster.nodes entry) (environment c.args.self.now) c.args.who (journals c.args.self.now) c.args.op.now c.requires.runs
+returns-in_default-clause-answered g c = λ initial entry are. write_lacks_memory rules (run_of c.args.self.now.cluster.nodes initial entry) (environment c.args.self.now) c.args.who (journals c.args.self.now) c.args.op.now c.requires.runs
 
 pub returns-clause-answered : goal.returns-clause-answered
-returns-clause-answered g c = λ entry are.
+returns-clause-answered g c = λ initial entry are.
     let state = g.S.Store.state in
     let cl = c.args.self.now.cluster in
     let e = environment c.args.self.now in
     let old = cl.groups.items in
     let new = c.write_groups.new.groups.items in
     let written = subst (λ (ps : List Part). IsWritten state c.args.who ps old new c.write_groups.result) c.in-Ok.ensures c.write_groups.ensures.written in
-    subst (λ (a : Answer). IsAnswered rules (run_of cl.nodes entry) e e c.args.who (journals_of old) (journals_of new) (Some (statement.Write c.args.op.now)) a) (sym c.answer_of.ensures)
-    (write_is_answered (run_of cl.nodes entry) e c.args.who c.args.op.now old new c.requires.runs (c.requires.keyed (table_of c.args.op.now)) c.requires.computable
+    subst (λ (a : Answer). IsAnswered rules (run_of cl.nodes initial entry) e e c.args.who (journals_of old) (journals_of new) (Some (statement.Write c.args.op.now)) a) (sym c.answer_of.ensures)
+    (write_is_answered (run_of cl.nodes initial entry) e c.args.who c.args.op.now old new c.requires.runs (c.requires.keyed (table_of c.args.op.now)) c.requires.computable
     (its_shards state cl c.args.op.now c.requires.sound c.requires.runs) c.write_groups.ensures.goes_on.count state (rests state cl c.requires.sound) (are_shaped state cl c.requires.sound) refl c.write_groups.result written)
+
+pub returns-clause-tag : goal.returns-clause-tag
+returns-clause-tag g c = subst IsNoCopy (sym c.answer_of.ensures) (write_no_copy c.args.op.now c.write_groups.result)
 
 pub returns-in_default-clause-accounted : goal.returns-in_default-clause-accounted
 returns-in_default-clause-accounted g c = λ answers a is all. other_is_accounted g.S.Store.state c.args.self.now.cluster.catalog c.args.self.now.cluster.groups.items answers a (none_named a.answer _ is memory_named) all
@@ -56,7 +60,7 @@ returns-clause-accounted g c = λ answers a is all.
     let new = c.write_groups.new.groups.items in
     answer_is_accounted state cl new answers a c.requires.sound c.write_groups.ensures.goes_on
     (λ node shard before after e.
-    write_blames (run_of cl.nodes cl.workers.items) (environment c.args.self.now) c.args.who c.args.op.now cl.groups.items new c.requires.runs (c.requires.keyed (table_of c.args.op.now)) c.requires.computable
+    write_blames (run_of cl.nodes c.args.self.now.settings cl.workers.items) (environment c.args.self.now) c.args.who c.args.op.now cl.groups.items new c.requires.runs (c.requires.keyed (table_of c.args.op.now)) c.requires.computable
     (its_shards state cl c.args.op.now c.requires.sound c.requires.runs) c.write_groups.ensures.goes_on.count state c.in-Ok.divided c.write_groups.result c.write_groups.ensures.written node shard before after
     (sym c.answer_of.ensures ∙ (sym is ∙ e)))
     all

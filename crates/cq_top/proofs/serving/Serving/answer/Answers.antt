@@ -7,7 +7,7 @@ use Rattle.cq_cluster.specs.Cluster.{AreWorkers, run_of}
 use Rattle.cq_coordinator.specs.Coordination.{environment, journals}
 use Rattle.cq_history.specs.Log.{IsConsistent, IsAnswered, next_who, answered_by}
 use Rattle.cq_history.specs.Refusals.{rules}
-use Rattle.cq_history.specs.Run.{Environment}
+use Rattle.cq_history.specs.Run.{Environment, first_settings}
 use Rattle.cq_history.proofs.Script.{answers_go_on}
 use Rattle.cq_session.specs.Responses.{ReadsAs}
 use Rattle.cq_statement.specs.Reading.{reading_of}
@@ -26,7 +26,7 @@ respond-bound-requires-clause-keyed g c = c.requires.serving.1.consistent.log.la
 
 pub respond-bound-requires-clause-columns : goal.respond-bound-requires-clause-columns
 respond-bound-requires-clause-columns g c =
-    columns_stand rules (run_of node_count c.requires.serving.0) (environment c.args.self.now.coordinator) c.args.self.now.answers (journals c.args.self.now.coordinator) c.requires.serving.1.consistent
+    columns_stand rules (run_of node_count first_settings c.requires.serving.0) (environment c.args.self.now.coordinator) c.args.self.now.answers (journals c.args.self.now.coordinator) c.requires.serving.1.consistent
 
 pub returns-clause-keeps : goal.returns-clause-keeps
 returns-clause-keeps g c = λ entry s.
@@ -37,14 +37,14 @@ returns-clause-keeps g c = λ entry s.
     let who : Who = record { session = 0; statement = c.len-number.result + 1 } in
     let is : who ≡ next_who c.args.self.now.answers = ap (λ (n : ℕ). record { session = 0; statement = n }) number in
     let workers = subst (λ (n : ℕ). AreWorkers g.S.Store.state n entry old.cluster.groups.items old.cluster.workers.items) (sym s.nodes) s.workers in
-    let by = subst (λ (n : ℕ). IsAnswered rules (run_of n entry) (environment old) (environment new) who (journals old) (journals new) c.respond-bound.result.bound c.respond-bound.result.answer) s.nodes (c.respond-bound.ensures.answered entry workers) in
-    let answered = subst (λ (w : Who). IsAnswered rules (run_of node_count entry) (environment old) (environment new) w (journals old) (journals new) c.respond-bound.result.bound c.respond-bound.result.answer) is by in
-    let kept = answers_go_on rules (run_of node_count entry) (λ m n h. h) (environment old) (environment new) c.args.self.now.answers (journals old) (journals new) c.respond-bound.result.bound c.respond-bound.result.answer s.consistent answered in
-    let its = subst (λ (w : Who). IsConsistent rules (run_of node_count entry) (environment new) (c.args.self.now.answers ++ answered_by w (environment old) c.respond-bound.result.bound c.respond-bound.result.answer ∷ []) (journals new)) (sym is) kept in
+    let by = subst (λ (n : ℕ). IsAnswered rules (run_of n first_settings entry) (environment old) (environment new) who (journals old) (journals new) c.respond-bound.result.bound c.respond-bound.result.answer) s.nodes (c.respond-bound.ensures.answered first_settings entry workers) in
+    let answered = subst (λ (w : Who). IsAnswered rules (run_of node_count first_settings entry) (environment old) (environment new) w (journals old) (journals new) c.respond-bound.result.bound c.respond-bound.result.answer) is by in
+    let kept = answers_go_on rules (run_of node_count first_settings entry) (λ m n h. h) (environment old) (environment new) c.args.self.now.answers (journals old) (journals new) c.respond-bound.result.bound c.respond-bound.result.answer s.consistent answered in
+    let its = subst (λ (w : Who). IsConsistent rules (run_of node_count first_settings entry) (environment new) (c.args.self.now.answers ++ answered_by w (environment old) c.respond-bound.result.bound c.respond-bound.result.answer ∷ []) (journals new)) (sym is) kept in
     let nodes : new.cluster.nodes ≡ node_count = c.respond-bound.ensures.stores.nodes ∙ s.nodes in
     record {
       nodes = nodes;
-      consistent = subst (λ (v : List Answered). IsConsistent rules (run_of node_count entry) (environment new) v (journals new)) (sym e) its;
+      consistent = subst (λ (v : List Answered). IsConsistent rules (run_of node_count first_settings entry) (environment new) v (journals new)) (sym e) its;
       sound = c.respond-bound.ensures.sound;
       workers = subst (λ (n : ℕ). AreWorkers g.S.Store.state n entry new.cluster.groups.items new.cluster.workers.items) nodes (c.respond-bound.ensures.stores.stores entry workers);
       accounted = subst (λ (v : List Answered). AreAccounted g.S.Store.state new.cluster.catalog v new.cluster.groups.items) (sym e)

@@ -1,0 +1,227 @@
+-- A text with its data: what it stands for, and how its answer is written.
+use Rattle.std.proofs.Common.{◌≡◌, ◌⊎◌, inl, inr, ℕ, ◌<◌, Bool, true, false, List, [], ◌∷◌, ◌++◌, Option, None, Some, Result, Ok, Err, refl, sym, ◌∙◌, ap, subst}
+use Rattle.std.specs.Prelude.{⊤, IfOk, IfErr, length, slice_get}
+use Rattle.std.specs.List.{AllByRecursion, flat_map}
+use Rattle.cq_tree.specs.declared.journal.Who.{Who}
+use Rattle.cq_tree.specs.declared.statement.Statement.{Statement}
+use Rattle.cq_tree.specs.declared.statement.Statement.TheVariants as statement
+use Rattle.cq_tree.specs.declared.write.ShardOp.TheVariants.{Insert}
+use Rattle.cq_catalog.specs.declared.info.TableInfo.{TableInfo}
+use Rattle.cq_catalog.specs.Contents.{Contents}
+use Rattle.cq_catalog.specs.Whole.{IsWhole}
+use Rattle.cq_grammar.specs.declared.statement.Ast.{Ast}
+use Rattle.cq_reading.specs.Statements.{reading}
+use Rattle.cq_journal.specs.Records.{Journal}
+use Rattle.cq_answer.specs.declared.answer.Answer.{Answer}
+use Rattle.cq_answer.specs.declared.answer.Answer.TheVariants as answer
+use Rattle.cq_answer.specs.declared.answer.Tag.{Tag}
+use Rattle.cq_answer.specs.declared.answer.Tag.TheVariants as tag
+use Rattle.cq_answer.specs.declared.answered.Answered.{Answered}
+use Rattle.cq_answer.specs.declared.fault.Fault.{Fault}
+use Rattle.cq_answer.specs.declared.fault.Fault.TheVariants as fault
+use Rattle.cq_copy.specs.declared.error.CopyError.{CopyError}
+use Rattle.cq_copy.specs.declared.error.CopyError.TheVariants as copying
+use Rattle.cq_copy.specs.Rows.{Row, Gives}
+use Rattle.cq_copy.specs.Data.{rows_of}
+use Rattle.cq_statement.specs.Finding.{Reads}
+use Rattle.cq_statement.specs.Meanings.{Means}
+use Rattle.cq_history.specs.Run.{Run, Rules, Environment}
+use Rattle.cq_history.specs.Computable.{IsComputable}
+use Rattle.cq_history.specs.Faults.{Range, range_in, ranges_of, Climbs, AccountsFor, NamesBelow}
+use Rattle.cq_history.specs.Log.{IsAnswered}
+use Rattle.cq_history.proofs.Copying.{copy_is_answered}
+use Rattle.cq_store.specs.Stores.{StoreState}
+use Rattle.cq_group.specs.declared.group.GroupState.{GroupState}
+use Rattle.cq_group.specs.Groups.{stores_of}
+use Rattle.cq_cluster.specs.Accounts.{AreAccounted}
+use Rattle.cq_bound_laws.specs.Laws.{HasColumns}
+use Rattle.cq_bound_laws.proofs.Statements.{copies_are_there}
+use Rattle.cq_bound_laws.proofs.Copies.{copies_fit, inserts_compute}
+use Rattle.cq_coordinator.specs.Coordination.{IsNoCopy}
+use Rattle.cq_session.specs.Responses.{fault_of_copy, insertion, insertion_into, with_data, is_copy, IsThere, tagged, IsTagged, IsBoundTo}
+use Rattle.cq_session.proofs.ReadingLaws.{computable_read}
+
+-- ---- data
+
+reads_same : {A : Type 0} (read : Result A Fault) (f : Fault) → read ≡ Err f → Reads read (Err f)
+reads_same read fault.Memory e = tt
+reads_same read f e = e
+
+-- the rows that data make, or their fault
+pub insertion_read : (table : ℕ) (rows : List Row) (defined : Result (List Row) CopyError) → Gives (Ok rows) defined → Reads (insertion table defined) (Ok (statement.Write (Insert table rows)))
+insertion_read table rows defined h = ap (insertion table) h
+
+pub insertion_refused : (table : ℕ) (e : CopyError) (defined : Result (List Row) CopyError) → Gives (Err e) defined → Reads (insertion table defined) (Err (fault_of_copy e))
+insertion_refused table (copying.Columns row found) defined h = ap (insertion table) (h (λ e. cc))
+insertion_refused table (copying.BadValue row column) defined h = ap (insertion table) (h (λ e. cc))
+insertion_refused table (copying.Encoding row) defined h = ap (insertion table) (h (λ e. cc))
+insertion_refused table copying.Memory defined h = tt
+
+-- a text's fault is that of the text with its data
+pub refused_with : (bytes : List ℕ) (tables : List TableInfo) (read : Result Statement Fault) (f : Fault) → Reads read (Err f) → Reads (with_data bytes tables read) (Err f)
+refused_with bytes tables read fault.Memory h = tt
+refused_with bytes tables read f h = subst (λ (r : Result Statement Fault). Reads (with_data bytes tables r) (Err f)) (sym h) refl
+
+-- ---- what a text with its data stands for
+
+-- it is the INSERT of the rows of a COPY's data
+record IsInsertion (bytes : List ℕ) (tables : List TableInfo) (read : Result Statement Fault) (s : Statement) : Type 0 where
+  table : ℕ
+  columns : List ℕ
+  csv : Bool
+  header : Bool
+  copy : read ≡ Ok (statement.Copy table columns csv header)
+  info : TableInfo
+  there : slice_get tables table ≡ Some info
+  rows : List Row
+  given : rows_of bytes info columns csv header ≡ Ok rows
+  is : s ≡ statement.Write (Insert table rows)
+
+same_ok : {A : Type 0} (a b : A) → Path (Result A Fault) (Ok a) (Ok b) → a ≡ b
+same_ok a b e = cc
+
+module _ (bytes : List ℕ) (tables : List TableInfo) where
+  -- or what the text alone stands for, which is no COPY
+  abbrev StandsFor : Result Statement Fault → Statement → Type 0
+  StandsFor read s = IsInsertion bytes tables read s ⊎ ((read ≡ Ok s) × (is_copy read ≡ false))
+
+  of_copy : (table : ℕ) (columns : List ℕ) (csv header : Bool) (s : Statement) → insertion_into (slice_get tables table) table columns csv header bytes ≡ Ok s → IsInsertion bytes tables (Ok (statement.Copy table columns csv header)) s
+  of_copy table columns csv header s is = by_table (slice_get tables table) refl is
+    where
+      by_rows : (t : TableInfo) (r : Result (List Row) CopyError) → slice_get tables table ≡ Some t → rows_of bytes t columns csv header ≡ r → insertion table r ≡ Ok s → IsInsertion bytes tables (Ok (statement.Copy table columns csv header)) s
+      by_rows t (Ok rows) at given is = record {
+        table = table;
+        columns = columns;
+        csv = csv;
+        header = header;
+        copy = refl;
+        info = t;
+        there = at;
+        rows = rows;
+        given = given;
+        is = sym (same_ok (statement.Write (Insert table rows)) s is);
+      }
+      by_rows t (Err e) at given is = absurd (cc is)
+
+      by_table : (o : Option TableInfo) → slice_get tables table ≡ o → insertion_into o table columns csv header bytes ≡ Ok s → IsInsertion bytes tables (Ok (statement.Copy table columns csv header)) s
+      by_table None at is = absurd (cc is)
+      by_table (Some t) at is = by_rows t (rows_of bytes t columns csv header) at refl is
+
+  pub stands_for : (read : Result Statement Fault) (s : Statement) → with_data bytes tables read ≡ Ok s → StandsFor read s
+  stands_for (Ok (statement.Copy table columns csv header)) s is = inl (of_copy table columns csv header s is)
+  stands_for (Ok (statement.CreateTable name columns key)) s is = inr (is, refl)
+  stands_for (Ok (statement.Distribute table column count beside)) s is = inr (is, refl)
+  stands_for (Ok (statement.Reference table)) s is = inr (is, refl)
+  stands_for (Ok (statement.Setting which value)) s is = inr (is, refl)
+  stands_for (Ok (statement.Select q)) s is = inr (is, refl)
+  stands_for (Ok (statement.Write op)) s is = inr (is, refl)
+  stands_for (Ok (statement.Explain q)) s is = inr (is, refl)
+  stands_for (Ok (statement.Move shard from to)) s is = inr (is, refl)
+  stands_for (Ok (statement.Rebalance by_size)) s is = inr (is, refl)
+  stands_for (Ok (statement.RebalancePlan by_size)) s is = inr (is, refl)
+  stands_for (Err f) s is = absurd (cc is)
+
+-- a COPY that is read names a table that there is
+there_read : (tables : List TableInfo) (a : Ast) (s : Statement) → reading tables a ≡ Ok s → IsThere tables s
+there_read tables a (statement.Copy table columns csv header) is = copies_are_there tables a table columns csv header is
+there_read tables a (statement.CreateTable name columns key) is = tt
+there_read tables a (statement.Distribute table column count beside) is = tt
+there_read tables a (statement.Reference table) is = tt
+there_read tables a (statement.Setting which value) is = tt
+there_read tables a (statement.Select q) is = tt
+there_read tables a (statement.Write op) is = tt
+there_read tables a (statement.Explain q) is = tt
+there_read tables a (statement.Move shard from to) is = tt
+there_read tables a (statement.Rebalance by_size) is = tt
+there_read tables a (statement.RebalancePlan by_size) is = tt
+
+pub there_in : (text : List ℕ) (tables : List TableInfo) (s : Statement) (read : Result Statement Fault) → Means text tables read → Reads read (Ok s) → IsThere tables s
+there_in text tables s read means is = let m = subst (Means text tables) is means in there_read tables m.tree s m.reads
+
+-- it can be computed and planned
+pub computable_with : (c : Contents) (text bytes : List ℕ) (s : Statement) (read : Result Statement Fault) → IsWhole c → HasColumns c → Means text c.tables read → with_data bytes c.tables read ≡ Ok s → IsComputable c s
+computable_with c text bytes s read whole columns means is = elim (stands_for bytes c.tables read s is) [
+  | inl x ↦ subst (IsComputable c) (sym x.is) (inserts_compute c x.table x.rows whole (copies_fit c.tables x.table x.info bytes x.columns x.csv x.header x.rows x.there x.given))
+  | inr x ↦ computable_read c text s read whole columns means x.0
+]
+
+-- ---- its answer
+
+-- a write answered as a COPY
+answered_copy : (rules : Rules) (run : Run) (e next : Environment) (who : Who) (old new : List Journal) (table : ℕ) (rows : List Row) (s : Statement) (b : Bool) (a : Answer) → s ≡ statement.Write (Insert table rows) →
+    IsAnswered rules run e next who old new (Some s) a → IsAnswered rules run e next who old new (Some s) (tagged b a)
+answered_copy rules run e next who old new table rows s true a is h =
+    subst (λ (t : Statement). IsAnswered rules run e next who old new (Some t) (tagged true a)) (sym is)
+    (copy_is_answered rules run e next who old new (Insert table rows) a (subst (λ (t : Statement). IsAnswered rules run e next who old new (Some t) a) is h))
+answered_copy rules run e next who old new table rows s false a is h = h
+
+pub answered_with : (rules : Rules) (run : Run) (e next : Environment) (who : Who) (old new : List Journal) (bytes : List ℕ) (tables : List TableInfo) (read : Result Statement Fault) (s : Statement) (copied : Bool) (a : Answer) →
+    with_data bytes tables read ≡ Ok s → copied ≡ is_copy read → IsAnswered rules run e next who old new (Some s) a → IsAnswered rules run e next who old new (Some s) (tagged copied a)
+answered_with rules run e next who old new bytes tables read s copied a is flag h = elim (stands_for bytes tables read s is) [
+  | inl x ↦ answered_copy rules run e next who old new x.table x.rows s copied a x.is h
+  | inr x ↦ subst (λ b. IsAnswered rules run e next who old new (Some s) (tagged b a)) (sym (flag ∙ x.1)) h
+]
+
+pub tagged_is : (copied : Bool) (a : Answer) → IsNoCopy a → IsTagged copied (tagged copied a)
+tagged_is false a h = h
+tagged_is true (answer.Table names rows) h = tt
+tagged_is true (answer.Failed f) h = tt
+tagged_is true (answer.Tag tag.CreateTable) h = tt
+tagged_is true (answer.Tag (tag.Insert n)) h = tt
+tagged_is true (answer.Tag (tag.Update n)) h = tt
+tagged_is true (answer.Tag (tag.Delete n)) h = tt
+tagged_is true (answer.Tag (tag.Copy n)) h = tt
+tagged_is true (answer.Tag tag.Setting) h = tt
+
+pub failed_is_tagged : (copied : Bool) (f : Fault) → IsTagged copied (answer.Failed f)
+failed_is_tagged true f = tt
+failed_is_tagged false f = tt
+
+-- ---- the stores that it names, which are those that the answer as it was names
+
+range_tagged : (node shard : ℕ) (copied : Bool) (a : Answer) → range_in node shard (tagged copied a) ≡ range_in node shard a
+range_tagged node shard false a = refl
+range_tagged node shard true (answer.Tag t) = refl
+range_tagged node shard true (answer.Table names rows) = refl
+range_tagged node shard true (answer.Failed f) = refl
+
+below_tagged : (next : ℕ) (copied : Bool) (a : Answer) → NamesBelow next a → NamesBelow next (tagged copied a)
+below_tagged next false a h = h
+below_tagged next true (answer.Tag t) h = tt
+below_tagged next true (answer.Table names rows) h = h
+below_tagged next true (answer.Failed f) h = h
+
+module _ (answers : List Answered) (a b : Answered) where
+  -- the ranges of the answers with the one behind them or the other
+  ranges_with : (node shard : ℕ) (before : List Answered) → range_in node shard a.answer ≡ range_in node shard b.answer → ranges_of node shard (before ++ a ∷ []) ≡ ranges_of node shard (before ++ b ∷ [])
+  ranges_with node shard [] same = ap (λ (rs : List Range). rs ++ []) same
+  ranges_with node shard (c ∷ more) same = ap (λ (rs : List Range). range_in node shard c.answer ++ rs) (ranges_with node shard more same)
+
+  accounts_with : (s : StoreState) → range_in s.node s.shard a.answer ≡ range_in s.node s.shard b.answer → AccountsFor (answers ++ b ∷ []) s → AccountsFor (answers ++ a ∷ []) s
+  accounts_with s same h =
+      let ranges = ranges_with s.node s.shard answers same in
+      record {
+        climbs = subst (λ (rs : List Range). Climbs 0 rs s.faults) (sym ranges) h.climbs;
+        steady = λ is. ranges ∙ h.steady is;
+      }
+
+  all_with : {X : Type 0} (state : X → StoreState) (stores : List X) → ((node shard : ℕ) → range_in node shard a.answer ≡ range_in node shard b.answer) → AllByRecursion (λ (x : X). AccountsFor (answers ++ b ∷ []) (state x)) stores →
+      AllByRecursion (λ (x : X). AccountsFor (answers ++ a ∷ []) (state x)) stores
+  all_with state [] same h = tt
+  all_with state (x ∷ xs) same h = (accounts_with (state x) (same (state x).node (state x).shard) h.0, all_with state xs same h.1)
+
+  below_with : (next : ℕ) (before : List Answered) → (NamesBelow next b.answer → NamesBelow next a.answer) → AllByRecursion (λ (c : Answered). NamesBelow next c.answer) (before ++ b ∷ []) →
+      AllByRecursion (λ (c : Answered). NamesBelow next c.answer) (before ++ a ∷ [])
+  below_with next [] f h = (f h.0, tt)
+  below_with next (c ∷ more) f h = (h.0, below_with next more f h.1)
+
+-- so the counts of faults account for it
+pub accounted_with : {X : Type 0} (state : X → StoreState) (c : Contents) (answers : List Answered) (a : Answered) (copied : Bool) (given : Answer) (groups : List (GroupState X)) → a.answer ≡ tagged copied given →
+    AreAccounted state c (answers ++ record a { answer = given } ∷ []) groups → AreAccounted state c (answers ++ a ∷ []) groups
+accounted_with state c answers a copied given groups is h =
+    let b : Answered = record a { answer = given } in
+    let same : (node shard : ℕ) → range_in node shard a.answer ≡ range_in node shard given = λ node shard. ap (range_in node shard) is ∙ range_tagged node shard copied given in
+    record {
+      stores = λ i g at. all_with answers a b state (stores_of g) same (h.stores i g at);
+      below = below_with answers a b c.next_shard answers (λ k. subst (NamesBelow c.next_shard) (sym is) (below_tagged c.next_shard copied given k)) h.below;
+    }

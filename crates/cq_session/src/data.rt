@@ -1,0 +1,105 @@
+ghost use Rattle.std.specs.Prelude.{◌≡◌, ◌<◌, length, slice_get, Ok, Err, IfOk, IfErr};
+ghost use Rattle.cq_statement.specs.Finding.{Reads};
+ghost use Rattle.cq_statement.specs.Meanings.{Means};
+ghost use Rattle.cq_statement.specs.Reading.{reading_of};
+ghost use Rattle.cq_session.specs.Responses as spec;
+ghost use Rattle.cq_session.specs.Responses.{IsThere, insertion_into, is_copy, reading_with};
+
+use cq_answer::Fault;
+use cq_catalog::Catalog;
+use cq_copy::{CopyError, rows_of};
+use cq_statement::read_statement;
+use cq_tree::{ShardOp, Statement};
+use cq_value::Positions;
+use std::alloc::Global;
+
+/// A statement that runs, and whether it was read as a COPY.
+#[derive(Debug, Drop)]
+pub(crate) struct Reading {
+    pub statement: Statement,
+    pub copied: bool,
+}
+
+/// The fault of data that make no rows.
+fn fault_of_copy(error: CopyError) -> Fault
+    ensures { result ≡ spec.fault_of_copy error }
+{
+    match error {
+        CopyError::Columns { row, found } => Fault::Columns { row, found },
+        CopyError::BadValue { row, column } => Fault::Value { row, column },
+        CopyError::Encoding { row } => Fault::Encoding { row },
+        CopyError::Memory => Fault::Memory,
+    }
+}
+
+/// The INSERT of the rows of a COPY's data, or their fault.
+fn insertion(
+    alloc: Global,
+    catalog: &Catalog,
+    table: u32,
+    columns: &Positions,
+    csv: bool,
+    header: bool,
+    data: &[u8],
+) -> Result<Statement, Fault>
+    requires { table < length catalog.now.tables }
+    ensures { Reads (insertion_into (slice_get catalog.now.tables table) table columns.now csv header data.now) result }
+{
+    let info = catalog.info(table);
+    match rows_of(alloc, data, info, columns.as_slice(), csv, header) {
+        Ok(rows) => Ok(Statement::Write(ShardOp::Insert { table, rows })),
+        Err(error) => Err(fault_of_copy(error)),
+    }
+}
+
+/// What a statement that was read stands for with its data, or the data's fault.
+fn with_data(
+    alloc: Global,
+    catalog: &Catalog,
+    statement: Statement,
+    data: &[u8],
+) -> Result<Reading, Fault>
+    requires { IsThere catalog.now.tables statement }
+    ensures ok { IfOk result (λ r. spec.with_data data.now catalog.now.tables (Ok statement) ≡ Ok r.statement) }
+    ensures copied { IfOk result (λ r. r.copied ≡ is_copy (Ok statement)) }
+    ensures err { IfErr result (λ f. Reads (spec.with_data data.now catalog.now.tables (Ok statement)) (Err f)) }
+{
+    match statement {
+        Statement::Copy {
+            table,
+            columns,
+            csv,
+            header,
+        } => match insertion(alloc, catalog, table, &columns, csv, header, data) {
+            Ok(inserted) => Ok(Reading {
+                statement: inserted,
+                copied: true,
+            }),
+            Err(fault) => Err(fault),
+        },
+        other => Ok(Reading {
+            statement: other,
+            copied: false,
+        }),
+    }
+}
+
+/// The bound statement that a text and its data stand for over the tables of a catalogue.
+///
+/// Errors: the text's fault; that of a COPY's data (27 to 29 of `Fault`); and want of memory.
+pub(crate) fn read_with_data(
+    alloc: Global,
+    catalog: &Catalog,
+    text: &[u8],
+    data: &[u8],
+) -> Result<Reading, Fault>
+    ensures ok { IfOk result (λ r. reading_with text.now data.now catalog.now.tables ≡ Ok r.statement) }
+    ensures copied { IfOk result (λ r. r.copied ≡ is_copy (reading_of text.now catalog.now.tables)) }
+    ensures err { IfErr result (λ f. Reads (reading_with text.now data.now catalog.now.tables) (Err f)) }
+    ensures means { Means text.now catalog.now.tables (reading_of text.now catalog.now.tables) }
+{
+    match read_statement(alloc, text, catalog) {
+        Ok(statement) => with_data(alloc, catalog, statement, data),
+        Err(fault) => Err(fault),
+    }
+}
