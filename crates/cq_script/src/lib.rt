@@ -2,6 +2,7 @@
 //! text of each answer.
 #![tactic(auto)]
 
+mod csv_table;
 mod cutter;
 mod fatal;
 mod fault;
