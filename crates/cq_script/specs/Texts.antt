@@ -1,7 +1,9 @@
 -- The texts of answers, and the last line of a run that stops early.
-use Rattle.std.specs.Prelude.{ℕ, List, [], ◌∷◌, ◌++◌, length, map, flat_map, codes, decimal, nat_eq, if◌then◌else◌}
+use Rattle.std.specs.Prelude.{ℕ, Bool, true, false, List, [], ◌∷◌, ◌++◌, length, map, flat_map, codes, decimal, nat_eq, if◌then◌else◌}
 use Rattle.std.specs.Fmt.{signed_decimal}
 use Rattle.std.specs.List.{join_with_byte}
+use Rattle.csv.specs.Writing.{default_writer, row_text}
+use Rattle.csv.specs.declared.writer.WriterBuilder.{WriterBuilder}
 use Rattle.cq_value.specs.declared.value.Value.{Value}
 use Rattle.cq_value.specs.declared.value.Value.TheVariants as values
 use Rattle.cq_answer.specs.declared.answer.Answer.{Answer}
@@ -107,6 +109,30 @@ unfoldable pub text_of : Answer → List ℕ
 text_of (Tag tag) = tag_text tag ++ codes "\n"
 text_of (Table names rows) = fields_line (map escaped names) ++ flat_map row_line rows ++ count_line (length rows)
 text_of (Failed fault) = codes "ERROR " ++ fault_text fault ++ codes "\n"
+
+-- as CSV is written (RFC 4180, by the kit's writer), rows of any lengths
+abbrev pub csv_writer : WriterBuilder
+csv_writer = record default_writer { flexible = true }
+
+unfoldable pub csv_line : List (List ℕ) → List ℕ
+csv_line fields = row_text csv_writer fields
+
+-- NULL is an empty field
+unfoldable pub csv_value : Value → List ℕ
+csv_value values.Null = []
+csv_value (values.Int n) = signed_decimal n
+csv_value (values.Text text) = text
+
+-- a table has a line of its names and one of each row, and no count
+unfoldable pub csv_table : List (List ℕ) → List (List Value) → List ℕ
+csv_table names rows = csv_line names ++ flat_map (λ row. csv_line (map csv_value row)) rows
+
+-- with tables in CSV, or without
+unfoldable pub text_under : Bool → Answer → List ℕ
+text_under false answer = text_of answer
+text_under true (Tag tag) = text_of (Tag tag)
+text_under true (Table names rows) = csv_table names rows
+text_under true (Failed fault) = text_of (Failed fault)
 
 -- the last line of a run that stops early
 unfoldable pub fatal_line : Fatal → List ℕ

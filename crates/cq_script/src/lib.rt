@@ -3,6 +3,7 @@
 #![tactic(auto)]
 
 mod copying;
+mod csv_table;
 mod cutter;
 mod fatal;
 mod fault;

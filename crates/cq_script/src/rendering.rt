@@ -1,7 +1,8 @@
-ghost use Rattle.std.specs.Prelude.{◌≡◌, ℕ, List, ◌∷◌, ◌++◌, map, flat_map, IfOk, OnOk};
+ghost use Rattle.std.specs.Prelude.{◌≡◌, ℕ, List, ◌∷◌, ◌++◌, map, flat_map, true, IfOk, OnOk};
 ghost use Rattle.std.specs.List.{join_with_byte};
-ghost use Rattle.cq_script.specs.Texts.{escaped, value_text, fields_line, row_line, count_line, tag_text, text_of};
+ghost use Rattle.cq_script.specs.Texts.{escaped, value_text, fields_line, row_line, count_line, tag_text, text_of, text_under};
 
+use crate::csv_table::csv_table;
 use crate::fault::push_fault;
 use crate::words::{push_escaped, push_with, push_words};
 use cq_answer::{Answer, Tag};
@@ -144,17 +145,41 @@ fn push_answer(out: &mut Vec<u8>, answer: &Answer) -> Result<(), AllocError>
     }
 }
 
-/// The text of an answer, in whole lines. A table has a line of its columns' names, one for each row, and one that says
-/// how many rows there are; in a line a bar stands between fields. NULL is `\N`, and in texts and names a backslash, a
-/// bar and a newline are `\\`, `\|` and `\n`. A fault has a line `ERROR` with its number.
-///
-/// Errors: for want of memory.
-pub fn render(alloc: Global, answer: &Answer) -> Result<Vec<u8>, NoMemory>
+/// The text of an answer, with tables as lines of fields with bars between them.
+fn render_plain(alloc: Global, answer: &Answer) -> Result<Vec<u8>, NoMemory>
     ensures { IfOk result (λ text. text.items ≡ text_of answer.now) }
 {
     let mut out = Vec::new(alloc);
     match push_answer(&mut out, answer) {
         Ok(()) => Ok(out),
         Err(_) => Err(NoMemory),
+    }
+}
+
+/// The text of an answer, with tables in CSV.
+#[tactic(auto, unfolding(crate::specs::Texts::text_under))]
+fn render_csv(alloc: Global, answer: &Answer) -> Result<Vec<u8>, NoMemory>
+    ensures { IfOk result (λ text. text.items ≡ text_under true answer.now) }
+{
+    match answer {
+        Answer::Table { names, rows } => csv_table(alloc, names.as_slice(), rows),
+        Answer::Tag(_) | Answer::Failed(_) => render_plain(alloc, answer),
+    }
+}
+
+/// The text of an answer, in whole lines. A table has a line of its columns' names, one for each row, and one that says
+/// how many rows there are; in a line a bar stands between fields. NULL is `\N`, and in texts and names a backslash, a
+/// bar and a newline are `\\`, `\|` and `\n`. With `csv` the names and the rows are written in CSV (RFC 4180), NULL as an
+/// empty field, and no line says how many rows there are. A fault has a line `ERROR` with its number.
+///
+/// Errors: for want of memory.
+#[tactic(auto, unfolding(crate::specs::Texts::text_under))]
+pub fn render(alloc: Global, answer: &Answer, csv: bool) -> Result<Vec<u8>, NoMemory>
+    ensures { IfOk result (λ text. text.items ≡ text_under csv answer.now) }
+{
+    if csv {
+        render_csv(alloc, answer)
+    } else {
+        render_plain(alloc, answer)
     }
 }

@@ -1,5 +1,4 @@
-use Rattle.std.proofs.Common.{rules, ◌≡◌, ◌++◌, codes, decimal}
-use Rattle.std.specs.Prelude.{OnOk}
+use Rattle.std.proofs.Common.{◌++◌, codes, decimal}
 use Rattle.cq_script.proofs.TextLaws.{put_last}
 use Rattle.cq_script.proofs.fault.push_columns.Goals as goal
 
