@@ -2,7 +2,7 @@
 # Passes the tests: the merge gate `rt ci`, and then the repository's own checks over the program that it leaves.
 # Usage: ./test.sh         all of it
 #        ./test.sh --own   the own checks alone
-#        ./test.sh --try   the scripts of tests/sql alone, by a trial build with no proof, in about a minute
+#        ./test.sh --try   the scripts of tests/sql and the lists of tests/words alone, by a trial build with no proof, in about a minute
 cd "$(dirname "$0")" || exit 2
 program=crates/citus_run/out/citus_run
 status=0
@@ -48,7 +48,41 @@ pass_scripts() {
     [ "$failed" -eq 0 ] || status=1
 }
 
-# The same by the toolchain's trial build, which compares the output alone.
+# Calls a function for each list of tests/words, with what is wanted and the words. Words: the function.
+for_each_list() {
+    while IFS='|' read -r words wanted; do
+        case $words in '#'*) continue ;; esac
+        set -f
+        "$1" "${wanted# }" $words
+        set +f
+    done <tests/words
+}
+
+# Runs an empty script with a list of words. Words: the output that is wanted, the list.
+pass_list() {
+    wanted=$1
+    shift
+    "$program" "$@" </dev/null >"$work/out" 2>"$work/err"
+    found=$?
+    status_wanted=0
+    [ "$wanted" != 'FATAL usage' ] || status_wanted=1
+    if [ "$found" -eq "$status_wanted" ] && [ "$(cat "$work/out" "$work/err")" = "$wanted" ]; then
+        passed=$((passed + 1))
+    else
+        failed=$((failed + 1))
+        echo "words $*: status $found and '$(cat "$work/out" "$work/err")', not '$wanted'"
+    fi
+}
+
+# Runs every list, goes on where one differs, and counts them.
+pass_lists() {
+    passed=0 failed=0
+    for_each_list pass_list
+    echo "words: $passed passed, $failed failed"
+    [ "$failed" -eq 0 ] || status=1
+}
+
+# The scripts and the lists by the toolchain's trial build, which compares the output alone.
 try_scripts() {
     for script in tests/sql/*.sql; do
         name=$(basename "$script" .sql)
@@ -56,7 +90,20 @@ try_scripts() {
         cp "tests/expected/$name.out" "$work/$name.stdout"
         [ ! -f "tests/sql/$name.args" ] || cp "tests/sql/$name.args" "$work/"
     done
+    lists=0
+    for_each_list write_list
     (cd crates/citus_run && rt try --seconds 600 --cases "$work") || status=1
+}
+
+# Writes a list as a case of the trial build. Words: the output that is wanted, the list.
+write_list() {
+    lists=$((lists + 1))
+    case=$work/words_$lists
+    : >"$case"
+    [ -z "$1" ] || echo "$1" >>"$case.stdout"
+    : >>"$case.stdout"
+    shift
+    printf '%s\n' "$@" >"$case.args"
 }
 
 if [ "${1-}" = --try ]; then
@@ -85,5 +132,14 @@ done
 head -c 16777217 /dev/zero | tr '\0' ' ' | "$program" >"$work/out"
 [ $? -eq 6 ] && echo 'FATAL limit bytes 16777216' | cmp -s - "$work/out" || fail 'a script of 16,777,217 bytes is not answered by FATAL limit bytes 16777216 and status 6'
 
+# Nor are scripts of 20,000 statements, which are all answered, and of one more. Semicolons alone count nothing.
+yes 'ERROR 4 syntax at 0' | head -n 20000 >"$work/answers"
+yes 'a;;' | head -n 20000 | "$program" >"$work/out"
+[ $? -eq 0 ] && cmp -s "$work/answers" "$work/out" || fail 'a script of 20,000 statements is not answered'
+echo 'FATAL limit statements 20000' >>"$work/answers"
+yes 'a;;' | head -n 20001 | "$program" >"$work/out"
+[ $? -eq 6 ] && cmp -s "$work/answers" "$work/out" || fail 'a script of 20,001 statements is not answered by 20,000 answers, FATAL limit statements 20000 and status 6'
+
+pass_lists
 pass_scripts
 exit "$status"

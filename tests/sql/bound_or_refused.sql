@@ -10,7 +10,7 @@ SELECT create_distributed_table('u', 'k');
 SELECT create_distributed_table('i', 'k');
 SELECT create_distributed_table('r', 'id');
 
--- Statements of every form, over empty tables; of those that move or copy rows none is built.
+-- Statements of every form, over empty tables; those that move shards are not built.
 SELECT * FROM t;
 SELECT t.*, u.name AS n FROM t JOIN u ON t.k = u.k;
 SELECT k + 1 AS a FROM t GROUP BY k + 1 ORDER BY a;
@@ -30,6 +30,7 @@ WITH t AS (SELECT name FROM u) SELECT name FROM t;
 SELECT s.n FROM (SELECT v, count(*) AS n FROM t GROUP BY v) s LEFT JOIN r ON s.n = r.id;
 EXPLAIN SELECT k FROM t;
 COPY u (name, k) FROM STDIN WITH (FORMAT CSV, HEADER);
+\.
 SELECT citus_move_shard_placement(102008, 1, 2);
 SELECT rebalance_table_shards();
 SELECT k + v + 1 FROM t GROUP BY k + v;
@@ -60,9 +61,11 @@ INSERT INTO nope VALUES (1);
 UPDATE nope SET a = 1;
 DELETE FROM nope;
 COPY nope FROM STDIN;
+\.
 INSERT INTO t (zz) VALUES (1);
 UPDATE t SET zz = yy;
 COPY t (zz) FROM STDIN;
+\.
 CREATE TABLE z (a BIGINT, PRIMARY KEY (b));
 
 -- Names and places that stand for nothing, each told where it stands.
@@ -100,6 +103,7 @@ SELECT k AS a, v AS a FROM t GROUP BY a;
 INSERT INTO t (k, k) VALUES (1, 2);
 UPDATE t SET v = 1, v = 2;
 COPY t (k, k) FROM STDIN;
+\.
 CREATE TABLE z (a BIGINT, b BIGINT, PRIMARY KEY (a, a));
 
 -- Types that do not fit, each told at its sign, word or operand.
@@ -153,6 +157,7 @@ INSERT INTO l VALUES (1);
 UPDATE l SET a = 1;
 DELETE FROM l;
 COPY l FROM STDIN;
+\.
 SELECT count(*) FROM t, u;
 SELECT t.k FROM t, u GROUP BY t.k;
 SELECT t.k FROM t, u HAVING 1 = 1;

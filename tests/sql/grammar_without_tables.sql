@@ -6,8 +6,11 @@ UPDATE t SET a = 1;
 DELETE FROM t;
 DELETE FROM t WHERE a <> 1 AND NOT b = 2;
 COPY t FROM STDIN;
+\.
 COPY text (csv, header) FROM STDIN (FORMAT TEXT);
+\.
 COPY t FROM STDIN WITH (HEADER, FORMAT CSV);
+\.
 EXPLAIN SELECT a FROM t;
 EXPLAIN WITH u AS (SELECT a FROM t) SELECT * FROM u;
 SELECT create_distributed_table('t', 'a');
@@ -35,8 +38,11 @@ update t set a=1,b=a+1 where a=2;
 delete from t;
 delete from t where not a is not null;
 copy t from stdin;
+\.
 copy t(a,b) from stdin with (header, format csv);
+\.
 copy t from stdin (format text);
+\.
 select * from T where K = 1;
 explain select distinct t.*,a as b,c from t;
 with x as (select a from t),y as (select b from x) select * from y;

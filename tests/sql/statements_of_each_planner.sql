@@ -9,6 +9,7 @@ CREATE TABLE loose (id bigint, name text);
 
 -- What is refused, and what isn't.
 COPY shops FROM STDIN;
+\.
 EXPLAIN SELECT id FROM sales WHERE tenant = 1;
 SELECT citus_move_shard_placement(102008, 1, 2);
 SELECT rebalance_table_shards();

@@ -1,4 +1,4 @@
--- Joins, subqueries and CTEs of every form, over empty tables, and those that no plan takes; COPY, which is not built; EXPLAIN; and INSERT, UPDATE
+-- Joins, subqueries and CTEs of every form, over empty tables, and those that no plan takes; COPY of no rows; EXPLAIN; and INSERT, UPDATE
 -- and DELETE in every form.
 CREATE TABLE t (k bigint, v integer, s text, PRIMARY KEY (k));
 CREATE TABLE u (k bigint, w bigint, name text);
@@ -51,8 +51,11 @@ WITH a AS (SELECT 1, k FROM t) SELECT * FROM a, a AS b;
 SELECT * FROM (SELECT v + 1, v + 2 FROM t) AS q GROUP BY 2, 1 HAVING count(*) > 1;
 SELECT k FROM t WHERE CASE WHEN v IN (SELECT w FROM u) AND k = 1 THEN 1 WHEN v IN (SELECT id FROM r) THEN 2 END = 1 OR k NOT IN (SELECT id FROM r);
 COPY text (csv, off, bigint, format) FROM STDIN WITH (FORMAT csv);
+\.
 COPY t FROM STDIN;
+\.
 COPY t (s, k) FROM STDIN WITH (HEADER, FORMAT CSV);
+\.
 EXPLAIN SELECT * FROM t WHERE k = 1;
 EXPLAIN WITH a AS (SELECT k FROM t) SELECT k FROM a WHERE k IN (SELECT w FROM u);
 INSERT INTO t VALUES (1, 2, 'a'), (-3, NULL, 'it''s');

@@ -1,3 +1,3 @@
--- The program takes no words. Nothing is read.
+-- A word that is none of the options: nothing is read.
 
 CREATE TABLE t (k bigint);

@@ -1,0 +1,5 @@
+CREATE TABLE t (k bigint);
+SELECT create_distributed_table('t', 'k', shard_count => 2);
+COPY t FROM STDIN;   -- No comment may stand here.
+1
+\.

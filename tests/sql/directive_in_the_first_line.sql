@@ -1,0 +1,2 @@
+\end
+CREATE TABLE t (k bigint);

@@ -1,0 +1,4 @@
+CREATE TABLE t (k bigint);
+
+\d t
+CREATE TABLE u (k bigint);

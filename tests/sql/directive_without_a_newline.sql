@@ -1,0 +1,3 @@
+CREATE TABLE t (k bigint);
+-- The last line.
+\parallel

@@ -1,0 +1,1 @@
+-- The script is made from two numbers: 31 customers and 300 orders, and their five greatest.

@@ -1,0 +1,1 @@
+-- Options stand before `generate`.

@@ -1,0 +1,2 @@
+-- The text that a quote keeps open to the end of the script is a statement too.
+SELECT 'a;

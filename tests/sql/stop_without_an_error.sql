@@ -1,0 +1,6 @@
+-- Where no statement is refused --stop changes nothing.
+CREATE TABLE t (k bigint);
+SELECT create_distributed_table('t', 'k', shard_count => 2);
+COPY t FROM STDIN;
+\.
+SELECT count(*) FROM t;
