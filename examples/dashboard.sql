@@ -10,9 +10,26 @@ CREATE TABLE pages (page text PRIMARY KEY, team text);
 SELECT create_distributed_table('pages', 'page', shard_count => 4, colocate_with => 'none');
 INSERT INTO countries VALUES ('de', 'Germany'), ('dk', 'Denmark'), ('nl', 'Netherlands');
 INSERT INTO customers VALUES (1, 'Anchor', 'de'), (2, 'Buoy', 'dk'), (3, 'Cable', 'de'), (4, 'Dinghy', NULL), (5, 'Engine', 'nl');
-INSERT INTO pages VALUES ('home', 'web'), ('cart', 'shop'), ('help', 'care');
-INSERT INTO events VALUES (1, 0, 'home', 12), (1, 0, 'cart', 48), (1, 1, 'home', 9), (2, 0, 'home', 31), (2, 2, 'help', NULL),
-  (3, 1, 'home', 7), (3, 1, 'cart', 90), (3, 2, 'cart', 55), (5, 0, 'help', 20), (5, 2, 'home', 15);
+
+-- Pages and events come as CSV. A field without anything in it is NULL.
+COPY pages FROM STDIN (FORMAT CSV);
+home,web
+cart,shop
+help,care
+\.
+COPY events FROM STDIN (FORMAT CSV, HEADER);
+customer,minute,page,ms
+1,0,home,12
+1,0,cart,48
+1,1,home,9
+2,0,home,31
+2,2,help,
+3,1,home,7
+3,1,cart,90
+3,2,cart,55
+5,0,help,20
+5,2,home,15
+\.
 
 -- Hits and time by minute, and the slowest pages.
 SELECT minute, count(*) AS hits, sum(ms) AS total FROM events GROUP BY minute ORDER BY minute;

@@ -19,19 +19,24 @@ INSERT INTO stores (id, name) VALUES (2, 'Buoy');
 INSERT INTO stores VALUES (3, 'C|D Books', 'Kiel');
 INSERT INTO stores VALUES (6, 'Dune', 'Emden');
 
--- A guest has no name, and an open order no amount.
-INSERT INTO orders VALUES (1, 1, 'ada', 40);
-INSERT INTO orders VALUES (1, 2, 'bob', 15);
-INSERT INTO orders VALUES (1, 3, 'ada', 25);
-INSERT INTO orders VALUES (1, 4, NULL, 7);
-INSERT INTO orders VALUES (3, 1, 'eve', 90);
-INSERT INTO orders VALUES (3, 2, 'eve', NULL);
-INSERT INTO orders VALUES (6, 1, 'ada', 12);
+-- A guest has no name, and an open order no amount. Fields are parted by tabs.
+COPY orders FROM STDIN;
+1	1	ada	40
+1	2	bob	15
+1	3	ada	25
+1	4	\N	7
+3	1	eve	90
+3	2	eve	\N
+6	1	ada	12
+\.
 INSERT INTO orders VALUES (1, 2, 'eve', 99); -- store 1 has an order 2
 
-INSERT INTO visits VALUES ('anchor.example', '/', 120);
-INSERT INTO visits VALUES ('anchor.example', '/sale', 30);
-INSERT INTO visits VALUES ('dune.example', '/', 8);
+COPY visits FROM STDIN (FORMAT CSV, HEADER);
+host,page,hits
+anchor.example,/,120
+anchor.example,/sale,30
+dune.example,/,8
+\.
 
 -- Each query names its tenant, and so its shard.
 SELECT * FROM stores WHERE id = 2;
@@ -54,5 +59,5 @@ INSERT INTO orders VALUES (1, 5, 'zoe', 30), (2, 1, 'zoe', 5), (3, 3, 'zoe', 8);
 UPDATE orders SET amount = amount + 1 WHERE store = 3 AND customer = 'eve';
 DELETE FROM orders WHERE customer = 'zoe';
 
--- This one names no tenant. Queries over several shards don't run yet.
+-- This one names no tenant, so that all four shards are read.
 SELECT count(*) FROM orders;
