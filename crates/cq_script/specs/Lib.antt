@@ -2,3 +2,4 @@ pub mod Schedules
 pub mod Scripts
 pub mod Streams
 pub mod Texts
+pub mod Written
