@@ -3,3 +3,4 @@ pub mod Scripts
 pub mod Streams
 pub mod Texts
 pub mod Writers
+pub mod Written
