@@ -2,3 +2,4 @@ pub mod ScheduleLaws
 pub mod TextLaws
 pub mod WritingLaws
 pub mod CuttingLaws
+pub mod DrawLaws

@@ -1,11 +1,13 @@
 //! What a script is: where its bytes come from and where the answers' bytes go, how it is cut into statements, and the
-//! text of each answer.
+//! text of each answer; and the script that is generated from two numbers.
 #![tactic(auto)]
 
 mod csv_table;
 mod cutter;
+mod draws;
 mod fatal;
 mod fault;
+mod generator;
 mod memory;
 mod rendering;
 mod scan;
@@ -17,6 +19,7 @@ mod words;
 
 pub use cutter::{Cutter, Step};
 pub use fatal::{Fatal, MOST_BYTES};
+pub use generator::Generator;
 pub use memory::{MemSink, MemSource};
 pub use rendering::render;
 pub use scan::statement_in;
