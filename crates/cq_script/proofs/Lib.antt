@@ -3,3 +3,4 @@ pub mod TextLaws
 pub mod WritingLaws
 pub mod CuttingLaws
 pub mod WrittenLaws
+pub mod DrawLaws

@@ -1,3 +1,4 @@
+pub mod Generating
 pub mod Schedules
 pub mod Scripts
 pub mod Streams
