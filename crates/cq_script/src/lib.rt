@@ -1,10 +1,5 @@
-<<<<<<< HEAD
 //! What a script is: where its bytes come from and where the answers' bytes go, how it is cut into items, which are a
-//! statement and the data of a COPY, and the text of each answer.
-=======
-//! What a script is: where its bytes come from and where the answers' bytes go, how it is cut into statements, and the
-//! text of each answer; and the script that is generated from two numbers.
->>>>>>> 8d5b70d27ccdb187dad2aee7d06d3a272382e9eb
+//! statement and the data of a COPY, and the text of each answer; and the script that is generated from two numbers.
 #![tactic(auto)]
 
 mod copying;
@@ -23,14 +18,9 @@ mod source;
 mod standard;
 mod words;
 
-<<<<<<< HEAD
 pub use cutter::{Bytes, Cutter, Item, Line, Place, Step};
 pub use fatal::{Fatal, MOST_BYTES, MOST_STATEMENTS};
-=======
-pub use cutter::{Cutter, Step};
-pub use fatal::{Fatal, MOST_BYTES};
 pub use generator::Generator;
->>>>>>> 8d5b70d27ccdb187dad2aee7d06d3a272382e9eb
 pub use memory::{MemSink, MemSource};
 pub use rendering::render;
 pub use scan::Scan;
