@@ -2,3 +2,5 @@ pub mod ScheduleLaws
 pub mod TextLaws
 pub mod WritingLaws
 pub mod CuttingLaws
+pub mod WrittenLaws
+pub mod DrawLaws

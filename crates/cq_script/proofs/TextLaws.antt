@@ -30,3 +30,9 @@ put_after before some words number first all put h =
 pub put_last : {E : Type 0} (before some words number first all : List ℕ) (r : Result (Unit {0}) E) → first ≡ before ++ some → OnOk r (all ≡ first ++ (words ++ number)) → OnOk r (all ≡ before ++ (some ++ words ++ number))
 put_last before some words number first all (Err e) put h = h
 put_last before some words number first all (Ok u) put h = put_after before some words number first all put h
+
+-- three texts, one after the other
+pub three : {E : Type 0} (before some more last one two all : List ℕ) (r : Result (Unit {0}) E) → one ≡ before ++ some → two ≡ one ++ more → OnOk r (all ≡ two ++ last) → OnOk r (all ≡ before ++ (some ++ more ++ last))
+three before some more last one two all (Err e) put then h = h
+three before some more last one two all (Ok u) put then h =
+    h ∙ ap (λ v. v ++ last) (then ∙ ap (λ v. v ++ more) put ∙ append_assoc before some more) ∙ append_assoc before (some ++ more) last

@@ -1,5 +1,7 @@
+pub mod Generating
 pub mod Schedules
 pub mod Scripts
 pub mod Streams
 pub mod Texts
 pub mod Writers
+pub mod Written

@@ -1,12 +1,14 @@
 //! What a script is: where its bytes come from and where the answers' bytes go, how it is cut into items, which are a
-//! statement and the data of a COPY, and the text of each answer.
+//! statement and the data of a COPY, and the text of each answer; and the script that is generated from two numbers.
 #![tactic(auto)]
 
 mod copying;
 mod csv_table;
 mod cutter;
+mod draws;
 mod fatal;
 mod fault;
+mod generator;
 mod memory;
 mod rendering;
 mod scan;
@@ -18,6 +20,7 @@ mod words;
 
 pub use cutter::{Bytes, Cutter, Item, Line, Place, Step};
 pub use fatal::{Fatal, MOST_BYTES, MOST_STATEMENTS};
+pub use generator::Generator;
 pub use memory::{MemSink, MemSource};
 pub use rendering::render;
 pub use scan::Scan;
