@@ -74,19 +74,39 @@ rows_of() {
     esac
 }
 
+# The file of statements as a program takes it: FILE.PROGRAM where that is there, since data are loaded by other commands, else FILE. Words: a
+# program, a file.
+file_for() {
+    if [ -f "$2.$1" ]; then echo "$2.$1"; else echo "$2"; fi
+}
+
+# Fails where a program's last run answered an error, or other rows than sqlite3's. Words: a title, the program.
+check_rows() {
+    rows_of "$2" >"$work/$2.rows"
+    ! grep -m 1 '^ERROR' "$work/$2.out" || fail "$1: $2 answers an error"
+    cmp -s "$work/sqlite3.rows" "$work/$2.rows" || fail "$1: $2 answers other rows than sqlite3"
+}
+
+# Fails where the programs don't answer the same rows. Words: a title, a file of statements, and the file of SELECTs that follows it.
+check_same() {
+    for program in $programs; do
+        cat "$work/$program.head" "$(file_for "$program" "$2")" "$3" | "run_$program" >"$work/$program.out"
+        check_rows "$1" "$program"
+    done
+}
+
 # Prints the programs' times for a file of statements as ratios to sqlite3's. A file of statements runs before them, and its time
 # is taken off. Words: a title, the file before, the file that is compared.
 compare() {
     line="$1: "
     unit=
     for program in $programs; do
-        before=$(best_of_three "$program" "$2")
-        both=$(best_of_three "$program" "$2" "$3")
+        first=$(file_for "$program" "$2")
+        before=$(best_of_three "$program" "$first")
+        both=$(best_of_three "$program" "$first" "$(file_for "$program" "$3")")
         took=$((both - before))
         [ "$took" -gt 0 ] || fail "$1: too short to be measured, take more rows"
-        rows_of "$program" >"$work/$program.rows"
-        ! grep -m 1 '^ERROR' "$work/$program.out" || fail "$1: $program answers an error"
-        cmp -s "$work/sqlite3.rows" "$work/$program.rows" || fail "$1: $program answers other rows than sqlite3"
+        check_rows "$1" "$program"
         [ -z "$unit" ] || line="$line, "
         unit=${unit:-$took}
         line="$line$program $(awk -v a="$took" -v b="$unit" 'BEGIN { printf "%.2f", a / b }')"
