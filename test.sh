@@ -140,6 +140,14 @@ echo 'FATAL limit statements 20000' >>"$work/answers"
 yes 'a;;' | head -n 20001 | "$program" >"$work/out"
 [ $? -eq 6 ] && cmp -s "$work/answers" "$work/out" || fail 'a script of 20,001 statements is not answered by 20,000 answers, FATAL limit statements 20000 and status 6'
 
+# A folder can't be read, and a full device can't be written.
+"$program" <tests >"$work/out"
+[ $? -eq 2 ] && echo 'FATAL read' | cmp -s - "$work/out" || fail 'a fault of reading is not answered by FATAL read and status 2'
+if [ -c /dev/full ]; then
+    "$program" <examples/tenants.sql >/dev/full
+    [ $? -eq 4 ] || fail 'a fault of writing is not answered by status 4'
+fi
+
 pass_lists
 pass_scripts
 exit "$status"

@@ -1,0 +1,6 @@
+-- A backslash is the last byte of the script: it is a row by itself.
+CREATE TABLE t (k bigint, s text, PRIMARY KEY (k));
+SELECT create_distributed_table('t', 'k', shard_count => 4);
+COPY t FROM STDIN;
+1	one
+\
