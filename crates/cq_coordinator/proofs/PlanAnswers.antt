@@ -1,11 +1,9 @@
 -- The nodes of groups, as EXPLAIN shows them.
 use Rattle.std.proofs.Common.{◌≡◌, ◌<◌, ◌≤◌, ℕ, zero, suc, List, [], ◌∷◌, length, map, refl, sym, ◌∙◌, ap, arith, Some, slice_get}
 use Rattle.std.specs.Prelude.{slice_index_or}
-use Rattle.cq_journal.specs.Records.{Journal}
 use Rattle.cq_journal.specs.Stations.{node_of}
 use Rattle.cq_store.specs.Stores.{StoreState}
 use Rattle.cq_group.specs.declared.group.GroupState.{GroupState}
-use Rattle.cq_group.specs.Groups.{journal_of}
 use Rattle.cq_group.specs.Resting.{journals_of}
 use Rattle.cq_history.specs.Journals.{journal_in}
 use Rattle.cq_history.proofs.Lists.{got}

@@ -1,6 +1,5 @@
 -- Why a bound statement doesn't run.
 use Rattle.std.proofs.Common.{◌≡◌, false, List, [], refl, Some, None, Option}
-use Rattle.std.specs.Prelude.{option_map}
 use Rattle.cq_tree.specs.declared.journal.Who.{Who}
 use Rattle.cq_tree.specs.declared.statement.Statement.{Statement}
 use Rattle.cq_tree.specs.declared.statement.Statement.TheVariants as statement
