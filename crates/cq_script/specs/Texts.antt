@@ -139,3 +139,5 @@ unfoldable pub fatal_line : Fatal → List ℕ
 fatal_line ends.Usage = codes "FATAL usage\n"
 fatal_line ends.Read = codes "FATAL read\n"
 fatal_line ends.LimitBytes = codes "FATAL limit bytes 16777216\n"
+fatal_line ends.LimitStatements = codes "FATAL limit statements 20000\n"
+fatal_line (ends.Line line) = codes "FATAL directive at line " ++ decimal line ++ codes "\n"

@@ -1,0 +1,13 @@
+//! The plan of a rebalance: which shard groups move, from the sizes that they have on their nodes.
+#![tactic(auto)]
+
+mod laws;
+mod load;
+mod loads;
+mod planning;
+#[cfg(test)]
+mod tests;
+
+pub use laws::greedy_laws;
+pub use load::{Load, Loads, Move, Moves};
+pub use planning::plan;
