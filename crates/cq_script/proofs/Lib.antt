@@ -3,3 +3,4 @@ pub mod TextLaws
 pub mod WritingLaws
 pub mod CuttingLaws
 pub mod DrawLaws
+pub mod Examples
