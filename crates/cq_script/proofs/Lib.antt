@@ -4,3 +4,4 @@ pub mod WritingLaws
 pub mod CuttingLaws
 pub mod WrittenLaws
 pub mod DrawLaws
+pub mod Examples

@@ -26,7 +26,9 @@ pub(crate) fn push_signed(out: &mut Vec<u8>, words: &[u8], number: &i128) -> Res
 pub(crate) fn push_with(out: &mut Vec<u8>, words: &[u8], number: u64) -> Result<(), AllocError>
     ensures { OnOk result (out.new.items ≡ out.old.items ++ (words.now ++ decimal number)) }
 {
-    push_signed(out, words, &i128::from(number))
+    let mut buffer = Buffer::new();
+    out.extend_from_slice(words)?;
+    out.extend_from_slice(buffer.format(number).as_bytes())
 }
 
 #[tactic(auto, unfolding(crate::specs::Texts::escaped_byte))]

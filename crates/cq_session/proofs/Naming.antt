@@ -1,5 +1,5 @@
--- The refusals of a text name no store.
-use Rattle.std.proofs.Common.{◌≡◌, ℕ, List, length, sym, ◌∙◌, subst, refl, Ok, Err, Result}
+-- The refusals of a text and of its data name no store.
+use Rattle.std.proofs.Common.{◌≡◌, ℕ, Bool, List, length, sym, ◌∙◌, subst, refl, Ok, Err, Result, None, Some, Option, slice_get}
 use Rattle.cq_token.specs.declared.token.Token.{Token}
 use Rattle.cq_token.specs.declared.error.LexError.{LexError}
 use Rattle.cq_token.specs.declared.error.LexError.TheVariants as lexing
@@ -20,6 +20,12 @@ use Rattle.cq_statement.specs.Reading.{fault_of_complaint, of_reading, of_verdic
 use Rattle.cq_statement.specs.Finding.{Reads}
 use Rattle.cq_history.specs.Faults.{NamesNoStore}
 use Rattle.cq_cluster.specs.Accounts.{NamesNone}
+use Rattle.cq_copy.specs.declared.error.CopyError.{CopyError}
+use Rattle.cq_copy.specs.declared.error.CopyError.TheVariants as copying
+use Rattle.cq_copy.specs.Rows.{Row}
+use Rattle.cq_copy.specs.Data.{rows_of}
+use Rattle.cq_session.specs.Responses.{fault_of_copy, insertion, insertion_into, with_data, reading_with}
+use Rattle.cq_session.proofs.Copies.{by_cases}
 
 lexing_named : (e : LexError) → NamesNoStore (fault_of_lexing e)
 unfolding fault_of_lexing
@@ -79,8 +85,32 @@ reads_worker read f node shard before after e h = subst (λ (v : Fault). Reads r
 same_failed : (f g : Fault) → answer.Failed f ≡ answer.Failed g → f ≡ g
 same_failed f g e = cc
 
+-- nor do those of a COPY's data
+
+copy_named : (e : CopyError) → NamesNoStore (fault_of_copy e)
+copy_named (copying.Columns row found) node shard before after w = cc
+copy_named (copying.BadValue row column) node shard before after w = cc
+copy_named (copying.Encoding row) node shard before after w = cc
+copy_named copying.Memory node shard before after w = cc
+
+not_built_named : NamesNoStore fault.NotBuilt
+not_built_named node shard before after w = cc
+
+rows_named : (table : ℕ) (r : Result (List Row) CopyError) (f : Fault) → insertion table r ≡ Err f → NamesNoStore f
+rows_named table (Ok rows) f is = absurd (cc is)
+rows_named table (Err e) f is = subst NamesNoStore (same_error (fault_of_copy e) f is) (copy_named e)
+
+table_named : (o : Option TableInfo) (table : ℕ) (columns : List ℕ) (csv header : Bool) (bytes : List ℕ) (f : Fault) → insertion_into o table columns csv header bytes ≡ Err f → NamesNoStore f
+table_named None table columns csv header bytes f is = subst NamesNoStore (same_error fault.NotBuilt f is) not_built_named
+table_named (Some t) table columns csv header bytes f is = rows_named table (rows_of bytes t columns csv header) f is
+
+data_named : (bytes : List ℕ) (tables : List TableInfo) (f : Fault) (read : Result Statement Fault) → (read ≡ Err f → NamesNoStore f) → with_data bytes tables read ≡ Err f → NamesNoStore f
+data_named bytes tables f = by_cases bytes tables (λ (r w : Result Statement Fault). (r ≡ Err f → NamesNoStore f) → w ≡ Err f → NamesNoStore f) (λ table columns csv header h. table_named (slice_get tables table) table columns csv header bytes f)
+    (λ r none h. h)
+
 -- so does the answer to a text that isn't bound
-pub unread_named : (a : Answer) (f : Fault) (text : List ℕ) (tables : List TableInfo) → a ≡ answer.Failed f → Reads (reading_of text tables) (Err f) → NamesNone a
-unread_named a f text tables is reads = λ node shard before after e.
-    text_named text tables (fault.Worker node shard before after)
-    (reads_worker (reading_of text tables) f node shard before after (same_failed f (fault.Worker node shard before after) (sym is ∙ e)) reads) node shard before after refl
+pub unread_named : (a : Answer) (f : Fault) (text bytes : List ℕ) (tables : List TableInfo) → a ≡ answer.Failed f → Reads (reading_with text bytes tables) (Err f) → NamesNone a
+unread_named a f text bytes tables is reads = λ node shard before after e.
+    let named : Fault = fault.Worker node shard before after in
+    data_named bytes tables named (reading_of text tables) (text_named text tables named)
+    (reads_worker (reading_with text bytes tables) f node shard before after (same_failed f named (sym is ∙ e)) reads) node shard before after refl

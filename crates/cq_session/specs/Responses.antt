@@ -76,5 +76,5 @@ IsBoundTo None a (Err f) = a ≡ answer.Failed f
 
 -- the bound form is the reading of the text and its data over these tables, and the answer is written as the text's
 pub record ReadsAs (bound : Option Statement) (a : Answer) (text bytes : List ℕ) (tables : List TableInfo) : Type 0 where
-  pub bound : IsBoundTo bound a (reading_with text bytes tables)
-  pub tagged : IsTagged (is_copy (reading_of text tables)) a
+  pub is_bound : IsBoundTo bound a (reading_with text bytes tables)
+  pub is_tagged : IsTagged (is_copy (reading_of text tables)) a

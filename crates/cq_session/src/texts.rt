@@ -16,7 +16,7 @@ ghost use Rattle.cq_statement.specs.Reading.{reading_of};
 ghost use Rattle.cq_session.specs.Responses as spec;
 ghost use Rattle.cq_session.specs.Responses.{ReadsAs};
 
-use crate::data::read_with_data;
+use crate::copying::read_with_data;
 use cq_answer::{Answer, Tag};
 use cq_coordinator::Coordinator;
 use cq_store::Store;
@@ -41,10 +41,10 @@ fn copied_tag(tag: Tag) -> Tag
 }
 
 /// An answer as it is written: that of a COPY's rows as a COPY's.
-fn tagged(copied: bool, answer: Answer) -> Answer
-    ensures { result ≡ spec.tagged copied answer }
+fn tagged(is_copy: bool, answer: Answer) -> Answer
+    ensures { result ≡ spec.tagged is_copy answer }
 {
-    if !copied {
+    if !is_copy {
         return answer;
     }
     match answer {
@@ -65,25 +65,25 @@ pub fn respond<S: Store>(
     coordinator: &mut Coordinator<S>,
     who: Who,
     text: &[u8],
-    data: &[u8],
+    copied: &[u8],
 ) -> Response
     requires sound { IsSound S.state coordinator.old.cluster }
     requires legal { (g : ℕ) → IsLegal coordinator.old.cluster.catalog g (journal_in (journals coordinator.old) g) }
     requires keyed { (table : ℕ) → IsKeyed coordinator.old.cluster.catalog table }
     requires columns { HasColumns coordinator.old.cluster.catalog }
     ensures answered { (initial : Settings) (entry : List (Worker S)) → AreWorkers S.state coordinator.old.cluster.nodes entry coordinator.old.cluster.groups.items coordinator.old.cluster.workers.items → IsAnswered rules (run_of coordinator.old.cluster.nodes initial entry) (environment coordinator.old) (environment coordinator.new) who (journals coordinator.old) (journals coordinator.new) result.bound result.answer }
-    ensures reads { ReadsAs result.bound result.answer text.now data.now coordinator.old.cluster.catalog.tables }
+    ensures reads { ReadsAs result.bound result.answer text.now copied.now coordinator.old.cluster.catalog.tables }
     ensures means { Means text.now coordinator.old.cluster.catalog.tables (reading_of text.now coordinator.old.cluster.catalog.tables) }
     ensures sound { IsSound S.state coordinator.new.cluster }
     ensures stores { KeepsStores S.state coordinator.old.cluster coordinator.new.cluster }
     ensures accounted { (answers : List Answered) (a : Answered) → a.answer ≡ result.answer → AreAccounted S.state coordinator.old.cluster.catalog answers coordinator.old.cluster.groups.items → AreAccounted S.state coordinator.new.cluster.catalog (answers ++ a ∷ []) coordinator.new.cluster.groups.items }
 {
-    match read_with_data(alloc, &coordinator.cluster.catalog, text, data) {
+    match read_with_data(alloc, &coordinator.cluster.catalog, text, copied) {
         Ok(read) => {
             let answer = coordinator.answer(alloc, who, &read.statement);
             Response {
                 bound: Some(read.statement),
-                answer: tagged(read.copied, answer),
+                answer: tagged(read.is_copy, answer),
             }
         }
         Err(fault) => Response {

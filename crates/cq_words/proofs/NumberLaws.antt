@@ -21,13 +21,15 @@ none_where false b c d n h = refl
 pub no_number : {E : Type 0} (least most : ℕ) (text : List ℕ) (r : Result ℕ E) (e : E) → ParsesUnsigned 32 10 text r → r ≡ Err e → most < 2 ^ 32 → list_all is_ascii_digit text ≡ true → None ≡ number_in least most text
 no_number {E} least most text r e h is small digits =
     none_where (nat_lt 0 (length text)) (list_all is_ascii_digit text) (nat_le least n) (nat_le n most) n (λ a d.
-        let some : 0 < length text = grind (arith, nat_tests, a) in
-        let fits : n < 2 ^ 32 = grind (arith, nat_tests, d) in
-        none (some, fits))
+    let some : 0 < length text = grind (arith, nat_tests, a) in
+    let fits : n < 2 ^ 32 = grind (arith, nat_tests, d) in
+    none (some, fits))
   where
     n : ℕ
     n = digits_value 10 text
+
     fails : ParsesUnsigned {E = E} 32 10 text (Err e)
     fails = subst (λ (q : Result ℕ E). ParsesUnsigned 32 10 text q) is h
+
     none : ¬ ((0 < length text) × (n < 2 ^ 32))
     none = parse_digits own {E = E} 32 text (Err e) fails digits

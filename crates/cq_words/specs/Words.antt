@@ -27,13 +27,15 @@ wanted name = record (new_rule name) { required = true; action = Some Set }
 abbrev pub generate : App
 generate = with_rule (with_rule (on_top (λ s. record s { disable_help_flag = true }) (new_app (codes "generate"))) (wanted (codes "number"))) (wanted (codes "rows"))
 
--- the program's options, without help, and `generate`
+-- the program's command without its words: the first word is no program's name, and there is no help
 abbrev pub bare : App
 bare = on_top (λ s. record s { no_binary_name = true; disable_help_flag = true; disable_help_subcommand = true }) (new_app (codes "citus_run"))
 
+-- with its options
 abbrev pub options : App
 options = with_rule (with_rule (with_rule (with_rule (with_rule bare (option (codes "workers"))) (flag (codes "repartition"))) (flag (codes "csv"))) (flag (codes "stop"))) (flag (codes "journal"))
 
+-- and with `generate`
 abbrev pub program : App
 program = with_subcommand options generate.top
 

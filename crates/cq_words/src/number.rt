@@ -1,4 +1,4 @@
-ghost use Rattle.std.specs.Prelude.{◌≡◌, ◌&&◌, nat_le, Some, None, if◌then◌else◌};
+ghost use Rattle.std.specs.Prelude.{◌≡◌, ◌≤◌, ◌&&◌, nat_le, IfSome, Some, None, if◌then◌else◌};
 ghost use Rattle.std.specs.Char.{is_ascii_digit};
 ghost use Rattle.std.specs.List.{list_all};
 ghost use Rattle.cq_words.specs.Words as spec;
@@ -10,7 +10,8 @@ fn are_digits(text: &[u8]) -> bool
 }
 
 fn within(number: u32, least: u32, most: u32) -> Option<u32>
-    ensures { result ≡ (if nat_le least number && nat_le number most then Some number else None) }
+    ensures value { result ≡ (if nat_le least number && nat_le number most then Some number else None) }
+    ensures range { IfSome result (λ n. (least ≤ n) × (n ≤ most)) }
 {
     if least <= number && number <= most {
         Some(number)
@@ -21,7 +22,8 @@ fn within(number: u32, least: u32, most: u32) -> Option<u32>
 
 /// The number of decimal digits alone, where it is from `least` to `most`.
 pub(crate) fn number_in(text: &str, least: u32, most: u32) -> Option<u32>
-    ensures { result ≡ spec.number_in least most text.now }
+    ensures value { result ≡ spec.number_in least most text.now }
+    ensures range { IfSome result (λ n. (least ≤ n) × (n ≤ most)) }
 {
     if !are_digits(text.as_bytes()) {
         return None;

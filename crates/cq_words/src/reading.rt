@@ -1,4 +1,4 @@
-ghost use Rattle.std.specs.Prelude.{◌≡◌, [], map, option_map, Some, None, IfOk, IfErr, MatchResult};
+ghost use Rattle.std.specs.Prelude.{◌≡◌, ◌≤◌, [], map, option_map, Some, None, IfSome, IfOk, IfErr, MatchResult};
 ghost use Rattle.std.specs.List.{list_any};
 ghost use Rattle.std.specs.String.{string_bytes};
 ghost use Rattle.clap.specs.Words.{fault_of, first_of, found_of, matches_of, rows_of, subcommand_of, subcommand_rows_of};
@@ -29,7 +29,8 @@ fn word_of<'a>(matches: &ArgMatches<'a>, name: &str) -> Option<&'a str>
 }
 
 fn workers_in(matches: &ArgMatches<'_>) -> Option<u32>
-    ensures { result ≡ spec.workers_in (rows_of (found_of matches.now)) }
+    ensures value { result ≡ spec.workers_in (rows_of (found_of matches.now)) }
+    ensures range { IfSome result (λ n. (1 ≤ n) × (n ≤ 16)) }
 {
     match word_of(matches, "workers") {
         Some(text) => number_in(text, 1, MOST_WORKERS),
@@ -73,7 +74,8 @@ fn generate_in(matches: &ArgMatches<'_>) -> Option<Option<(u32, u32)>>
 
 /// What clap's matches settle.
 fn settled_by(matches: &ArgMatches<'_>) -> Option<Settled>
-    ensures { result ≡ spec.settled_by (rows_of (found_of matches.now)) (subcommand_rows_of matches.now) }
+    ensures value { result ≡ spec.settled_by (rows_of (found_of matches.now)) (subcommand_rows_of matches.now) }
+    ensures workers { IfSome result (λ s. (1 ≤ s.workers) × (s.workers ≤ 16)) }
 {
     Some(Settled {
         workers: workers_in(matches)?,
@@ -107,7 +109,8 @@ fn has_dashes(words: &[String]) -> bool
 /// Errors: `Usage` exactly where the words are others; want of memory.
 #[tactic(auto, using(crate::proofs::WordLaws::settled_taken, crate::proofs::WordLaws::settled_refused, crate::proofs::WordLaws::settled_dashes))]
 pub fn read_words(alloc: Global, words: &[String]) -> Result<Settled, WordsError>
-    ensures { MatchResult result (λ s. spec.settled (map string_bytes words.now) ≡ Some s) (λ e. e ≡ WordsError.Usage → spec.settled (map string_bytes words.now) ≡ None) }
+    ensures workers { IfOk result (λ s. (1 ≤ s.workers) × (s.workers ≤ 16)) }
+    ensures settled { MatchResult result (λ s. spec.settled (map string_bytes words.now) ≡ Some s) (λ e. e ≡ WordsError.Usage → spec.settled (map string_bytes words.now) ≡ None) }
 {
     if has_dashes(words) {
         return Err(WordsError::Usage);

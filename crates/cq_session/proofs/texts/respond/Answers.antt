@@ -1,28 +1,63 @@
+use Rattle.std.proofs.Common.{refl, subst, sym, ◌∙◌, Some}
+use Rattle.std.specs.Prelude.{Bool}
+use Rattle.cq_answer.specs.declared.answer.Answer.{Answer}
 use Rattle.cq_history.specs.Refusals.{rules}
+use Rattle.cq_history.specs.Log.{IsAnswered}
 use Rattle.cq_history.proofs.Answering.{refusal_is_answered}
 use Rattle.cq_cluster.specs.Cluster.{run_of}
 use Rattle.cq_cluster.proofs.AnswerLaws.{other_is_accounted}
 use Rattle.cq_session.proofs.Naming.{unread_named}
+use Rattle.cq_session.proofs.Copies.{computable_with, answered_with, accounted_with, tagged_is, failed_is_tagged}
+use Rattle.cq_session.proofs.ReadingLaws.{bound_ok, bound_err}
+use Rattle.cq_session.specs.Responses.{tagged, is_copy, reading_with, IsTagged}
 use Rattle.cq_statement.specs.Reading.{reading_of}
 use Rattle.cq_coordinator.specs.Coordination.{environment, journals}
-use Rattle.cq_session.proofs.ReadingLaws.{reads_ok, reads_err, computable_read}
 use Rattle.cq_session.proofs.texts.respond.Goals as goal
 
 pub answer-answer-requires-clause-computable : goal.answer-answer-requires-clause-computable
 answer-answer-requires-clause-computable g c =
-    computable_read c.args.coordinator.now.cluster.catalog c.args.text.now c.in-Ok.statement (reading_of c.args.text.now c.args.coordinator.now.cluster.catalog.tables) c.requires.sound.whole c.requires.columns
-    c.read_statement.ensures.means c.in-Ok.ensures.reading
+    let tables = c.args.coordinator.now.cluster.catalog.tables in
+    computable_with c.args.coordinator.now.cluster.catalog c.args.text.now c.args.copied.now c.in-Ok.read.statement (reading_of c.args.text.now tables) c.requires.sound.whole c.requires.columns
+    c.read_with_data.ensures.means c.in-Ok.ensures.ok
+
+pub returns-in-Ok-clause-answered : goal.returns-in-Ok-clause-answered
+returns-in-Ok-clause-answered g c = λ initial entry are.
+    let old = c.args.coordinator.now in
+    let new = c.answer-answer.new.self in
+    let run = run_of old.cluster.nodes initial entry in
+    let tables = old.cluster.catalog.tables in
+    subst (λ (a : Answer). IsAnswered rules run (environment old) (environment new) c.args.who (journals old) (journals new) (Some c.in-Ok.read.statement) a) (sym c.tagged.ensures)
+    (answered_with rules run (environment old) (environment new) c.args.who (journals old) (journals new) c.args.copied.now tables (reading_of c.args.text.now tables) c.in-Ok.read.statement c.in-Ok.read.is_copy c.answer-answer.result
+    c.in-Ok.ensures.ok c.in-Ok.ensures.copy (c.answer-answer.ensures.answered initial entry are))
 
 pub returns-in-Ok-clause-reads : goal.returns-in-Ok-clause-reads
-returns-in-Ok-clause-reads g c = reads_ok c.answer-answer.result c.in-Ok.statement (reading_of c.args.text.now c.args.coordinator.now.cluster.catalog.tables) c.in-Ok.ensures.reading
+returns-in-Ok-clause-reads g c =
+    let tables = c.args.coordinator.now.cluster.catalog.tables in
+    let own = tagged_is c.in-Ok.read.is_copy c.answer-answer.result c.answer-answer.ensures.tag in
+    record {
+      is_bound = bound_ok c.tagged.result c.in-Ok.read.statement (reading_with c.args.text.now c.args.copied.now tables) c.in-Ok.ensures.ok;
+      is_tagged = subst (IsTagged (is_copy (reading_of c.args.text.now tables))) (sym c.tagged.ensures)
+          (subst (λ (b : Bool). IsTagged b (tagged c.in-Ok.read.is_copy c.answer-answer.result)) c.in-Ok.ensures.copy own);
+    }
+
+pub returns-in-Ok-clause-accounted : goal.returns-in-Ok-clause-accounted
+returns-in-Ok-clause-accounted g c = λ answers a is all.
+    let new = c.answer-answer.new.self in
+    accounted_with g.S.Store.state new.cluster.catalog answers a c.in-Ok.read.is_copy c.answer-answer.result new.cluster.groups.items (is ∙ c.tagged.ensures)
+    (c.answer-answer.ensures.accounted answers (record a { answer = c.answer-answer.result }) refl all)
 
 pub returns-in-Err-clause-answered : goal.returns-in-Err-clause-answered
 returns-in-Err-clause-answered g c = λ initial entry are. (refusal_is_answered rules (run_of c.args.coordinator.now.cluster.nodes initial entry) (environment c.args.coordinator.now) c.args.who (journals c.args.coordinator.now) c.in-Err.fault).0
 
 pub returns-in-Err-clause-reads : goal.returns-in-Err-clause-reads
-returns-in-Err-clause-reads g c = reads_err c.in-Err.fault (reading_of c.args.text.now c.args.coordinator.now.cluster.catalog.tables) c.in-Err.ensures.reading
+returns-in-Err-clause-reads g c =
+    let tables = c.args.coordinator.now.cluster.catalog.tables in
+    record {
+      is_bound = bound_err c.in-Err.fault (reading_with c.args.text.now c.args.copied.now tables) c.in-Err.ensures.err;
+      is_tagged = failed_is_tagged (is_copy (reading_of c.args.text.now tables)) c.in-Err.fault;
+    }
 
 pub returns-in-Err-clause-accounted : goal.returns-in-Err-clause-accounted
 returns-in-Err-clause-accounted g c = λ answers a is all.
     other_is_accounted g.S.Store.state c.args.coordinator.now.cluster.catalog c.args.coordinator.now.cluster.groups.items answers a
-    (unread_named a.answer c.in-Err.fault c.args.text.now c.args.coordinator.now.cluster.catalog.tables is c.in-Err.ensures.reading) all
+    (unread_named a.answer c.in-Err.fault c.args.text.now c.args.copied.now c.args.coordinator.now.cluster.catalog.tables is c.in-Err.ensures.err) all

@@ -17,7 +17,7 @@ use std::alloc::Global;
 #[derive(Debug, Drop)]
 pub(crate) struct Reading {
     pub statement: Statement,
-    pub copied: bool,
+    pub is_copy: bool,
 }
 
 /// The fault of data that make no rows.
@@ -40,13 +40,13 @@ fn insertion(
     columns: &Positions,
     csv: bool,
     header: bool,
-    data: &[u8],
+    copied: &[u8],
 ) -> Result<Statement, Fault>
     requires { table < length catalog.now.tables }
-    ensures { Reads (insertion_into (slice_get catalog.now.tables table) table columns.now csv header data.now) result }
+    ensures { Reads (insertion_into (slice_get catalog.now.tables table) table columns.now csv header copied.now) result }
 {
     let info = catalog.info(table);
-    match rows_of(alloc, data, info, columns.as_slice(), csv, header) {
+    match rows_of(alloc, copied, info, columns.as_slice(), csv, header) {
         Ok(rows) => Ok(Statement::Write(ShardOp::Insert { table, rows })),
         Err(error) => Err(fault_of_copy(error)),
     }
@@ -57,12 +57,12 @@ fn with_data(
     alloc: Global,
     catalog: &Catalog,
     statement: Statement,
-    data: &[u8],
+    copied: &[u8],
 ) -> Result<Reading, Fault>
     requires { IsThere catalog.now.tables statement }
-    ensures ok { IfOk result (λ r. spec.with_data data.now catalog.now.tables (Ok statement) ≡ Ok r.statement) }
-    ensures copied { IfOk result (λ r. r.copied ≡ is_copy (Ok statement)) }
-    ensures err { IfErr result (λ f. Reads (spec.with_data data.now catalog.now.tables (Ok statement)) (Err f)) }
+    ensures ok { IfOk result (λ r. spec.with_data copied.now catalog.now.tables (Ok statement) ≡ Ok r.statement) }
+    ensures copy { IfOk result (λ r. r.is_copy ≡ is_copy (Ok statement)) }
+    ensures err { IfErr result (λ f. Reads (spec.with_data copied.now catalog.now.tables (Ok statement)) (Err f)) }
 {
     match statement {
         Statement::Copy {
@@ -70,16 +70,16 @@ fn with_data(
             columns,
             csv,
             header,
-        } => match insertion(alloc, catalog, table, &columns, csv, header, data) {
+        } => match insertion(alloc, catalog, table, &columns, csv, header, copied) {
             Ok(inserted) => Ok(Reading {
                 statement: inserted,
-                copied: true,
+                is_copy: true,
             }),
             Err(fault) => Err(fault),
         },
         other => Ok(Reading {
             statement: other,
-            copied: false,
+            is_copy: false,
         }),
     }
 }
@@ -91,15 +91,15 @@ pub(crate) fn read_with_data(
     alloc: Global,
     catalog: &Catalog,
     text: &[u8],
-    data: &[u8],
+    copied: &[u8],
 ) -> Result<Reading, Fault>
-    ensures ok { IfOk result (λ r. reading_with text.now data.now catalog.now.tables ≡ Ok r.statement) }
-    ensures copied { IfOk result (λ r. r.copied ≡ is_copy (reading_of text.now catalog.now.tables)) }
-    ensures err { IfErr result (λ f. Reads (reading_with text.now data.now catalog.now.tables) (Err f)) }
+    ensures ok { IfOk result (λ r. reading_with text.now copied.now catalog.now.tables ≡ Ok r.statement) }
+    ensures copy { IfOk result (λ r. r.is_copy ≡ is_copy (reading_of text.now catalog.now.tables)) }
+    ensures err { IfErr result (λ f. Reads (reading_with text.now copied.now catalog.now.tables) (Err f)) }
     ensures means { Means text.now catalog.now.tables (reading_of text.now catalog.now.tables) }
 {
     match read_statement(alloc, text, catalog) {
-        Ok(statement) => with_data(alloc, catalog, statement, data),
+        Ok(statement) => with_data(alloc, catalog, statement, copied),
         Err(fault) => Err(fault),
     }
 }

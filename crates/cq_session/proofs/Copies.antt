@@ -38,7 +38,7 @@ use Rattle.cq_bound_laws.specs.Laws.{HasColumns}
 use Rattle.cq_bound_laws.proofs.Statements.{copies_are_there}
 use Rattle.cq_bound_laws.proofs.Copies.{copies_fit, inserts_compute}
 use Rattle.cq_coordinator.specs.Coordination.{IsNoCopy}
-use Rattle.cq_session.specs.Responses.{fault_of_copy, insertion, insertion_into, with_data, is_copy, IsThere, tagged, IsTagged, IsBoundTo}
+use Rattle.cq_session.specs.Responses.{fault_of_copy, insertion, insertion_into, with_data, is_copy, IsThere, tagged, IsTagged}
 use Rattle.cq_session.proofs.ReadingLaws.{computable_read}
 
 -- ---- data
@@ -62,20 +62,37 @@ pub refused_with : (bytes : List ℕ) (tables : List TableInfo) (read : Result S
 refused_with bytes tables read fault.Memory h = tt
 refused_with bytes tables read f h = subst (λ (r : Result Statement Fault). Reads (with_data bytes tables r) (Err f)) (sym h) refl
 
+-- a text with its data, by whether it is a COPY
+pub by_cases : (bytes : List ℕ) (tables : List TableInfo) (P : Result Statement Fault → Result Statement Fault → Type 0) →
+    ((table : ℕ) (columns : List ℕ) (csv header : Bool) → P (Ok (statement.Copy table columns csv header)) (insertion_into (slice_get tables table) table columns csv header bytes)) →
+    ((read : Result Statement Fault) → is_copy read ≡ false → P read read) → (read : Result Statement Fault) → P read (with_data bytes tables read)
+by_cases bytes tables P h k (Ok (statement.Copy table columns csv header)) = h table columns csv header
+by_cases bytes tables P h k (Ok (statement.CreateTable name columns key)) = k (Ok (statement.CreateTable name columns key)) refl
+by_cases bytes tables P h k (Ok (statement.Distribute table column count beside)) = k (Ok (statement.Distribute table column count beside)) refl
+by_cases bytes tables P h k (Ok (statement.Reference table)) = k (Ok (statement.Reference table)) refl
+by_cases bytes tables P h k (Ok (statement.Setting which value)) = k (Ok (statement.Setting which value)) refl
+by_cases bytes tables P h k (Ok (statement.Select q)) = k (Ok (statement.Select q)) refl
+by_cases bytes tables P h k (Ok (statement.Write op)) = k (Ok (statement.Write op)) refl
+by_cases bytes tables P h k (Ok (statement.Explain q)) = k (Ok (statement.Explain q)) refl
+by_cases bytes tables P h k (Ok (statement.Move shard from to)) = k (Ok (statement.Move shard from to)) refl
+by_cases bytes tables P h k (Ok (statement.Rebalance by_size)) = k (Ok (statement.Rebalance by_size)) refl
+by_cases bytes tables P h k (Ok (statement.RebalancePlan by_size)) = k (Ok (statement.RebalancePlan by_size)) refl
+by_cases bytes tables P h k (Err f) = k (Err f) refl
+
 -- ---- what a text with its data stands for
 
 -- it is the INSERT of the rows of a COPY's data
-record IsInsertion (bytes : List ℕ) (tables : List TableInfo) (read : Result Statement Fault) (s : Statement) : Type 0 where
-  table : ℕ
-  columns : List ℕ
-  csv : Bool
-  header : Bool
-  copy : read ≡ Ok (statement.Copy table columns csv header)
-  info : TableInfo
-  there : slice_get tables table ≡ Some info
-  rows : List Row
-  given : rows_of bytes info columns csv header ≡ Ok rows
-  is : s ≡ statement.Write (Insert table rows)
+pub record IsInsertion (bytes : List ℕ) (tables : List TableInfo) (read : Result Statement Fault) (s : Statement) : Type 0 where
+  pub table : ℕ
+  pub columns : List ℕ
+  pub csv : Bool
+  pub header : Bool
+  pub copy : read ≡ Ok (statement.Copy table columns csv header)
+  pub info : TableInfo
+  pub there : slice_get tables table ≡ Some info
+  pub rows : List Row
+  pub given : rows_of bytes info columns csv header ≡ Ok rows
+  pub is : s ≡ statement.Write (Insert table rows)
 
 same_ok : {A : Type 0} (a b : A) → Path (Result A Fault) (Ok a) (Ok b) → a ≡ b
 same_ok a b e = cc
@@ -108,18 +125,7 @@ module _ (bytes : List ℕ) (tables : List TableInfo) where
       by_table (Some t) at is = by_rows t (rows_of bytes t columns csv header) at refl is
 
   pub stands_for : (read : Result Statement Fault) (s : Statement) → with_data bytes tables read ≡ Ok s → StandsFor read s
-  stands_for (Ok (statement.Copy table columns csv header)) s is = inl (of_copy table columns csv header s is)
-  stands_for (Ok (statement.CreateTable name columns key)) s is = inr (is, refl)
-  stands_for (Ok (statement.Distribute table column count beside)) s is = inr (is, refl)
-  stands_for (Ok (statement.Reference table)) s is = inr (is, refl)
-  stands_for (Ok (statement.Setting which value)) s is = inr (is, refl)
-  stands_for (Ok (statement.Select q)) s is = inr (is, refl)
-  stands_for (Ok (statement.Write op)) s is = inr (is, refl)
-  stands_for (Ok (statement.Explain q)) s is = inr (is, refl)
-  stands_for (Ok (statement.Move shard from to)) s is = inr (is, refl)
-  stands_for (Ok (statement.Rebalance by_size)) s is = inr (is, refl)
-  stands_for (Ok (statement.RebalancePlan by_size)) s is = inr (is, refl)
-  stands_for (Err f) s is = absurd (cc is)
+  stands_for read s = by_cases bytes tables (λ (r w : Result Statement Fault). w ≡ Ok s → StandsFor r s) (λ table columns csv header is. inl (of_copy table columns csv header s is)) (λ r none is. inr (is, none)) read
 
 -- a COPY that is read names a table that there is
 there_read : (tables : List TableInfo) (a : Ast) (s : Statement) → reading tables a ≡ Ok s → IsThere tables s
