@@ -48,6 +48,14 @@ pass_scripts() {
     [ "$failed" -eq 0 ] || status=1
 }
 
+# Writes so many short statements and, as FILE.stdout, what they are answered: the first 20,000 are, and semicolons alone count nothing. Words: how
+# many, the file.
+write_statements() {
+    yes 'a;;' | head -n "$1" >"$2"
+    yes 'ERROR 4 syntax at 0' | head -n "$1" | head -n 20000 >"$2.stdout"
+    [ "$1" -le 20000 ] || echo 'FATAL limit statements 20000' >>"$2.stdout"
+}
+
 # Calls a function for each list of tests/words, with what is wanted and the words. Words: the function.
 for_each_list() {
     while IFS='|' read -r words wanted; do
@@ -82,7 +90,7 @@ pass_lists() {
     [ "$failed" -eq 0 ] || status=1
 }
 
-# The scripts and the lists by the toolchain's trial build, which compares the output alone.
+# The scripts, the lists and the most statements by the toolchain's trial build, which compares the output alone.
 try_scripts() {
     for script in tests/sql/*.sql; do
         name=$(basename "$script" .sql)
@@ -92,6 +100,7 @@ try_scripts() {
     done
     lists=0
     for_each_list write_list
+    for count in 20000 20001; do write_statements "$count" "$work/statements_$count"; done
     (cd crates/citus_run && rt try --seconds 600 --cases "$work") || status=1
 }
 
@@ -132,13 +141,12 @@ done
 head -c 16777217 /dev/zero | tr '\0' ' ' | "$program" >"$work/out"
 [ $? -eq 6 ] && echo 'FATAL limit bytes 16777216' | cmp -s - "$work/out" || fail 'a script of 16,777,217 bytes is not answered by FATAL limit bytes 16777216 and status 6'
 
-# Nor are scripts of 20,000 statements, which are all answered, and of one more. Semicolons alone count nothing.
-yes 'ERROR 4 syntax at 0' | head -n 20000 >"$work/answers"
-yes 'a;;' | head -n 20000 | "$program" >"$work/out"
-[ $? -eq 0 ] && cmp -s "$work/answers" "$work/out" || fail 'a script of 20,000 statements is not answered'
-echo 'FATAL limit statements 20000' >>"$work/answers"
-yes 'a;;' | head -n 20001 | "$program" >"$work/out"
-[ $? -eq 6 ] && cmp -s "$work/answers" "$work/out" || fail 'a script of 20,001 statements is not answered by 20,000 answers, FATAL limit statements 20000 and status 6'
+# Scripts of the most statements, and of one more.
+for count in 20000 20001; do
+    write_statements "$count" "$work/statements"
+    "$program" <"$work/statements" >"$work/out"
+    [ $? -eq "$((count > 20000 ? 6 : 0))" ] && cmp -s "$work/statements.stdout" "$work/out" || fail "a script of $count statements has another answer"
+done
 
 # A folder can't be read, and a full device can't be written.
 "$program" <tests >"$work/out"
