@@ -4,7 +4,6 @@ use Rattle.std.specs.Prelude.{fold, min, ◌↔◌}
 use Rattle.std.proofs.Math.ListN.{set}
 use Rattle.std.proofs.lemmas.Grind.{common_steps}
 use Rattle.cq_answer.specs.declared.answered.Answered.{Answered}
-use Rattle.cq_statement.specs.Reading.{reading_of}
 use Rattle.cq_history.specs.Run.{Environment, after}
 use Rattle.cq_session.specs.Responses.{ReadsAs}
 use Rattle.cq_script.specs.Scripts.{Gives, pieces, statement_of, statements, whole_statements, if_any}
@@ -27,7 +26,7 @@ set_last xs ys zs p a n e y z = z ∙ ap (λ v. set v (n - 1) a) y ∙ ap (λ m.
 
 -- one more text with its answer
 answers_from_more : (e : Environment) (texts : List (List ℕ)) (answers : List Answered) (text : List ℕ) (a : Answered) → AnswersFrom e texts answers →
-    ReadsAs a.bound a.answer (reading_of text (fold (λ v (b : Answered). after v b.bound b.answer) e answers).catalog.tables) → AnswersFrom e (texts ++ text ∷ []) (answers ++ a ∷ [])
+    ReadsAs a.bound a.answer text [] (fold (λ v (b : Answered). after v b.bound b.answer) e answers).catalog.tables → AnswersFrom e (texts ++ text ∷ []) (answers ++ a ∷ [])
 answers_from_more e [] [] text a all r = (r, tt)
 answers_from_more e (t ∷ texts) (b ∷ answers) text a all r = (all.0, answers_from_more (after e b.bound b.answer) texts answers text a all.1 r)
 answers_from_more e [] (b ∷ answers) text a all r = absurd all

@@ -1,7 +1,6 @@
 -- The answers to the statements of a script: each statement is read over the tables that the answers before it give.
 use Rattle.std.specs.Prelude.{◌≡◌, ◌+◌, ◌<◌, ◌≤◌, ◌⊎◌, ⊤, ℕ, min, List, [], ◌∷◌, ◌++◌, length, take, drop, Option, Some}
 use Rattle.cq_answer.specs.declared.answered.Answered.{Answered}
-use Rattle.cq_statement.specs.Reading.{reading_of}
 use Rattle.cq_catalog.specs.Contents.{nothing}
 use Rattle.cq_history.specs.Run.{Environment, first_settings, after}
 use Rattle.cq_script.specs.Scripts.{statements, whole_statements}
@@ -12,7 +11,7 @@ use Rattle.cq_top.specs.declared.status.Status.TheVariants.{Done, Usage, ReadFau
 -- the answers are those to these texts, in order, from this environment on
 abbrev pub AnswersFrom : Environment → List (List ℕ) → List Answered → Type 0
 AnswersFrom e [] [] = ⊤
-AnswersFrom e (text ∷ texts) (a ∷ answers) = ReadsAs a.bound a.answer (reading_of text e.catalog.tables) × AnswersFrom (after e a.bound a.answer) texts answers
+AnswersFrom e (text ∷ texts) (a ∷ answers) = ReadsAs a.bound a.answer text [] e.catalog.tables × AnswersFrom (after e a.bound a.answer) texts answers
 AnswersFrom e [] (a ∷ answers) = ⊥
 AnswersFrom e (text ∷ texts) [] = ⊥
 

@@ -1,7 +1,6 @@
 -- How far a run is: its answers so far, what was taken of the script, and what was written.
 use Rattle.std.specs.Prelude.{◌≡◌, ◌≢◌, ◌≤◌, ◌⊎◌, ⊤, ℕ, IsTrue, Option, Some, None, List, [], ◌∷◌, ◌++◌, length, take, drop}
 use Rattle.cq_answer.specs.declared.answered.Answered.{Answered}
-use Rattle.cq_statement.specs.Reading.{reading_of}
 use Rattle.cq_history.specs.Run.{environment_from, first_settings}
 use Rattle.cq_history.specs.Log.{IsConsistent}
 use Rattle.cq_history.specs.Refusals.{rules}
@@ -39,7 +38,7 @@ KeepsServing {X} state old new = (entry : List (Worker X)) → IsServingOver sta
 
 -- one more answer, to this text
 abbrev pub AnswersNext : List Answered → List Answered → List ℕ → Type 0
-AnswersNext old new text = (a : Answered) × (new ≡ old ++ a ∷ []) × ReadsAs a.bound a.answer (reading_of text (environment_from start old).catalog.tables)
+AnswersNext old new text = (a : Answered) × (new ≡ old ++ a ∷ []) × ReadsAs a.bound a.answer text [] (environment_from start old).catalog.tables
 
 -- the same, or there was no memory for it
 abbrev pub AnswersMaybe : List Answered → List Answered → List ℕ → Type 0

@@ -78,7 +78,7 @@ impl<S: Store> Serving<S> {
             session: 0,
             statement: number,
         };
-        let Response { bound, answer } = respond(alloc, &mut self.coordinator, who, text);
+        let Response { bound, answer } = respond(alloc, &mut self.coordinator, who, text, &[]);
         self.answers.set(
             number - 1,
             Answered {
