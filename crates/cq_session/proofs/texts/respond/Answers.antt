@@ -61,3 +61,18 @@ pub returns-in-Err-clause-accounted : goal.returns-in-Err-clause-accounted
 returns-in-Err-clause-accounted g c = λ answers a is all.
     other_is_accounted g.S.Store.state c.args.coordinator.now.cluster.catalog c.args.coordinator.now.cluster.groups.items answers a
     (unread_named a.answer c.in-Err.fault c.args.text.now c.args.copied.now c.args.coordinator.now.cluster.catalog.tables is c.in-Err.ensures.err) all
+
+pub returns-in-Ok-clause-means : goal.returns-in-Ok-clause-means
+returns-in-Ok-clause-means g c = c.read_with_data.ensures.means
+
+pub returns-in-Ok-clause-sound : goal.returns-in-Ok-clause-sound
+returns-in-Ok-clause-sound g c = c.answer-answer.ensures.sound
+
+pub returns-in-Ok-clause-stores : goal.returns-in-Ok-clause-stores
+returns-in-Ok-clause-stores g c = c.answer-answer.ensures.stores
+
+pub returns-in-Err-clause-means : goal.returns-in-Err-clause-means
+returns-in-Err-clause-means g c = c.read_with_data.ensures.means
+
+pub returns-in-Err-clause-sound : goal.returns-in-Err-clause-sound
+returns-in-Err-clause-sound g c = c.requires.sound

@@ -10,7 +10,6 @@ use Rattle.cq_history.specs.Refusals.{rules}
 use Rattle.cq_history.specs.Run.{Environment, first_settings}
 use Rattle.cq_history.proofs.Script.{answers_go_on}
 use Rattle.cq_session.specs.Responses.{ReadsAs}
-use Rattle.cq_statement.specs.Reading.{reading_of}
 use Rattle.cq_top.specs.Scripts.{node_count}
 use Rattle.cq_top.proofs.Answering.{set_last}
 use Rattle.cq_top.proofs.serving.Serving.answer.Goals as goal
@@ -58,4 +57,4 @@ pub returns-clause-next : goal.returns-clause-next
 returns-clause-next g c =
     let number : c.len-number.result + 1 ≡ length c.args.self.now.answers + 1 = omega (arith, c.len-number.ensures) in
     let e = set_last c.args.self.now.answers c.put.new.self c.set.new.self _ _ (c.len-number.result + 1) number c.in_ok-put.ensures.ok c.set.ensures in
-    (_, e, subst (λ (v : Environment). ReadsAs c.respond-bound.result.bound c.respond-bound.result.answer (reading_of c.args.text.now v.catalog.tables)) c.requires.serving.1.consistent.environment c.respond-bound.ensures.reads)
+    (_, e, subst (λ (v : Environment). ReadsAs c.respond-bound.result.bound c.respond-bound.result.answer c.args.text.now [] v.catalog.tables) c.requires.serving.1.consistent.environment c.respond-bound.ensures.reads)
