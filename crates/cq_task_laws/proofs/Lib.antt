@@ -5,4 +5,5 @@ pub mod GatherRows
 pub mod Regrouping
 pub mod CutLaws
 pub mod GatherLaws
+pub mod LargeLaws
 pub mod TaskLaws

@@ -1,6 +1,7 @@
 -- The queries of the tasks and of the coordinator as patterns see them.
-use Rattle.std.proofs.Common.{◌≡◌, ℕ, ◌+◌, true, false, Bool, List, [], ◌∷◌, ◌++◌, map, length, take}
-use Rattle.std.specs.Prelude.{filter}
+use Rattle.std.proofs.Common.{◌≡◌, ℕ, ◌+◌, true, false, Bool, List, [], ◌∷◌, ◌++◌, map, length, take, refl}
+use Rattle.std.specs.Prelude.{filter, if◌then◌else◌}
+use Rattle.std.specs.List.{list_any}
 use Rattle.std.specs.List.Sorted.{IsPermutation}
 use Rattle.cq_tree.specs.declared.expression.Cond.{Always}
 use Rattle.cq_tree.specs.declared.plan.Combine.{Combine}
@@ -13,8 +14,8 @@ use Rattle.cq_meaning.specs.Expressions.{keeps, items_of}
 use Rattle.cq_meaning.specs.Groups.{distinct_if, groups_of, group_row}
 use Rattle.cq_meaning.specs.Queries.{item_rows, from_rows, AnswersWith}
 use Rattle.cq_task_laws.specs.Partial.{columns_from, partial}
-use Rattle.cq_task_laws.specs.Merging.{merging_rows, merging, as_table, all_combining}
-use Rattle.cq_task_laws.specs.Gathering.{full_over, IsCutOf, AnswersOver}
+use Rattle.cq_task_laws.specs.Merging.{merging_rows, merging, joined, as_table, all_combining, is_large_together, has_large_together}
+use Rattle.cq_task_laws.specs.Gathering.{full_over, has_large_over, IsCutOf, AnswersOver}
 
 -- all rows, in some order
 abbrev pub IsUncutOf : ℕ → List Row → List Row → Type 0
@@ -41,6 +42,10 @@ regrouped_rows (Query' cs ctes ss subs from filter_ grouped keys aggs having ite
 -- what a query gives up to its items
 abbrev pub rows_of_items : Query → Results → List Row → List Row
 rows_of_items (Query' cs ctes ss subs from filter_ grouped keys aggs having items shown distinct order limit offset names) rs rows = item_rows filter_ grouped keys aggs having items rs rows
+
+abbrev pub has_large_rows : Query → Results → List Row → Bool
+has_large_rows (Query' cs ctes ss subs from filter_ grouped keys aggs having items shown distinct order limit offset names) rs rows =
+    if grouped then list_any (is_large_together (length keys + length aggs) rs) (groups_of (columns_from 0 (length keys)) rs rows) else false
 
 pub all_items : (q : Query) (rs : Results) (p a : List Row) → AnswersOver (partial RowsOnly q) rs p a → IsUncutOf (items_in q) (full_over q rs p) a
 unfolding out-Query roll-Query denote.Hole.Carrier.out denote.Hole.Carrier.roll
@@ -83,3 +88,21 @@ over_from (Query' cs ctes ss subs from filter_ grouped keys aggs having items sh
 over_from (Query' cs ctes ss subs from filter_ grouped keys aggs having items shown distinct order limit offset names) RowsOnly db rs rows a = a
 over_from (Query' cs ctes ss subs from filter_ false keys aggs having items shown distinct order limit offset names) Groups db rs rows a = a
 over_from (Query' cs ctes ss subs from filter_ true keys aggs having items shown distinct order limit offset names) Groups db rs rows a = a
+
+-- a task's groups are those of the block over its rows
+pub large_partial : (kind : Combine) (q : Query) (rs : Results) (rows : List Row) → has_large_over (partial kind q) rs rows ≡ has_large_over q rs rows
+unfolding out-Query roll-Query denote.Hole.Carrier.out denote.Hole.Carrier.roll
+large_partial Nothing (Query' cs ctes ss subs from filter_ grouped keys aggs having items shown distinct order limit offset names) rs rows = refl
+large_partial RowsOnly (Query' cs ctes ss subs from filter_ grouped keys aggs having items shown distinct order limit offset names) rs rows = refl
+large_partial Groups (Query' cs ctes ss subs from filter_ false keys aggs having items shown distinct order limit offset names) rs rows = refl
+large_partial Groups (Query' cs ctes ss subs from filter_ true keys aggs having items shown distinct order limit offset names) rs rows = refl
+
+-- the groups of the tasks' rows
+pub large_opened : (q : Query) (rs : Results) (answers : List (List Row)) → has_large_together Groups q rs answers ≡ has_large_rows q rs (joined answers)
+unfolding out-Query denote.Hole.Carrier.out
+large_opened (Query' cs ctes ss subs from filter_ false keys aggs having items shown distinct order limit offset names) rs answers = refl
+large_opened (Query' cs ctes ss subs from filter_ true keys aggs having items shown distinct order limit offset names) rs answers = refl
+
+pub from_is : (q : Query) → (out-Query q).from ≡ from_of q
+unfolding out-Query denote.Hole.Carrier.out
+from_is (Query' cs ctes ss subs from filter_ grouped keys aggs having items shown distinct order limit offset names) = refl

@@ -4,7 +4,6 @@ use Rattle.std.specs.Prelude.{filter}
 use Rattle.std.specs.List.{flat_map}
 use Rattle.cq_tree.specs.declared.expression.Expr.{Expr}
 use Rattle.cq_tree.specs.declared.query.Agg.{Agg}
-use Rattle.cq_tree.specs.declared.query.Agg.TheVariants as agg
 use Rattle.cq_meaning.specs.Values.{Row, column, same_row}
 use Rattle.cq_meaning.specs.Expressions.{value_of, items_of}
 use Rattle.cq_meaning.specs.Groups.{distinct, aggregate, group_row, groups_by, group_with}
@@ -43,7 +42,8 @@ some_joined : (ps : List (List Row)) (r : Row) → Has (joined ps) r → IsNonEm
 some_joined [] r h = absurd h
 some_joined (p ∷ ps) r h = tt
 
-module _ (rs : List (List Row)) (keys : List Expr) (aggs : List Agg) where
+-- parts give the keys, these aggregates and some more
+module _ (rs : List (List Row)) (keys : List Expr) (aggs rest : List Agg) where
   abbrev key : Row → Row
   key = items_of keys rs
 
@@ -51,7 +51,7 @@ module _ (rs : List (List Row)) (keys : List Expr) (aggs : List Agg) where
   first_key = items_of (columns_from 0 (length keys)) rs
 
   abbrev part_aggs : List Agg
-  part_aggs = aggs ++ agg.CountAll ∷ []
+  part_aggs = aggs ++ rest
 
   abbrev sums : List Agg
   sums = all_combining (length keys) aggs
@@ -126,7 +126,7 @@ module _ (rs : List (List Row)) (keys : List Expr) (aggs : List Agg) where
       let full : IsNonEmpty some = some_joined some u.0 (subst (λ us. Has us u.0) (sym whole) (filtered_has (λ r. same_row k (key r)) (joined parts) u.0 u.1 (same_from k (key u.0) (sym u.2)))) in
       ap (λ us. k ++ us)
       (ap (λ us. map (aggregate rs us) sums) rows
-      ∙ (all_combined rs (part_row k) some full aggs (agg.CountAll ∷ []) (length keys)
+      ∙ (all_combined rs (part_row k) some full aggs rest (length keys)
       (λ p j. subst (λ n. column (part_row k p) (n + j) ≡ column (map (aggregate rs p) part_aggs) j) e (past k (map (aggregate rs p) part_aggs) j))
       ∙ ap (λ us. map (aggregate rs us) aggs) whole))
 

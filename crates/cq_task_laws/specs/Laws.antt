@@ -1,17 +1,18 @@
 -- The laws on which tasks stand.
-use Rattle.std.specs.Prelude.{ℕ, List, filter, Bool}
+use Rattle.std.specs.Prelude.{◌≡◌, ◌≤◌, ◌^◌, ℕ, List, length, filter, Bool, true}
 use Rattle.std.specs.List.{flat_map}
 use Rattle.std.specs.List.Sorted.{IsPermutation}
 use Rattle.cq_tree.specs.declared.plan.Combine.{Combine}
-use Rattle.cq_tree.specs.declared.query.FromTree.{FromTree}
-use Rattle.cq_tree.specs.declared.query.Query.{Query}
-use Rattle.cq_meaning.specs.Values.{Row, Results, Tables}
+use Rattle.cq_tree.specs.declared.query.FromTree.{FromTree, Table}
+use Rattle.cq_tree.specs.declared.query.Query.{Query, out-Query}
+use Rattle.cq_meaning.specs.Values.{Row, Results, Tables, table_rows}
+use Rattle.cq_meaning.specs.Lists.{Has}
 use Rattle.cq_meaning.specs.Queries.{AnswersWith}
 use Rattle.cq_task_laws.specs.Partial.{partial}
-use Rattle.cq_task_laws.specs.Merging.{GathersTo}
-use Rattle.cq_task_laws.specs.Gathering.{kept_of, Serves, AllAnswer, AnswersOver}
+use Rattle.cq_task_laws.specs.Merging.{joined, has_large_together, GathersTo}
+use Rattle.cq_task_laws.specs.Gathering.{kept_of, has_large_over, IsNonEmpty, Serves, AllAnswer, AnswersOver}
 use Rattle.cq_task_laws.specs.Cutting.{Joins, all_rows, rows_at, AllFit, Located, AreDistinct}
-use Rattle.cq_task_laws.specs.Tasks.{Side, TasksServe, AnswersAt}
+use Rattle.cq_task_laws.specs.Tasks.{Side, TasksServe, AnswersAt, AnswerParts}
 
 -- what a FROM keeps is, up to order, what the FROMs of its tasks keep, joined
 abbrev pub CutsWhole : Type 0
@@ -29,3 +30,25 @@ abbrev pub TasksAnswer : Type 0
 TasksAnswer = (side : FromTree → Side) (kind : Combine) (q : Query) (db : Tables) (dbs : ℕ → Tables) (results : Results) (indices : List ℕ) (answers : List (List Row)) (rows : List Row) →
     TasksServe side kind q db dbs results indices → AnswersAt (partial kind q) dbs results indices answers → GathersTo kind q results answers rows →
     AnswersWith q db results rows
+
+-- ---- groups that are too large
+
+-- where the kept rows of a block are, up to order, those of its tasks' parts, a group that is too large for a task is too large for the block
+abbrev pub LargeForTask : Type 0
+LargeForTask = (kind : Combine) (q : Query) (results : Results) (parts : List (List Row)) (whole part : List Row) →
+    IsPermutation (kept_of q results whole) (flat_map (kept_of q results) parts) → Has parts part →
+    has_large_over (partial kind q) results part ≡ true → has_large_over q results whole ≡ true
+
+-- so is one that is too large over all tasks together
+abbrev pub LargeTogether : Type 0
+LargeTogether = (kind : Combine) (q : Query) (results : Results) (parts answers : List (List Row)) (whole : List Row) →
+    IsPermutation (kept_of q results whole) (flat_map (kept_of q results) parts) → IsNonEmpty parts → length parts ≤ 2 ^ 31 → AllAnswer (partial kind q) results parts answers →
+    has_large_together kind q results answers ≡ true → has_large_over q results whole ≡ true
+
+-- ---- a block over one table
+
+-- each task has a part of the table
+abbrev pub OneTableAnswers : Type 0
+OneTableAnswers = (kind : Combine) (q : Query) (table columns : ℕ) (db : Tables) (results : Results) (parts answers : List (List Row)) (rows : List Row) →
+    (out-Query q).from ≡ Table table columns → table_rows db table ≡ joined parts → Serves kind q results parts →
+    AnswerParts (partial kind q) table results parts answers → GathersTo kind q results answers rows → AnswersWith q db results rows

@@ -63,3 +63,10 @@ TasksServe side kind (Query' cs ctes ss subs from filter_ grouped keys aggs havi
     let f = joins_of side db dbs results 0 from in
     AreDistinct indices × AllFit f indices × IsPlaced f (keeps filter_ results) indices
     × Serves kind (Query' cs ctes ss subs from filter_ grouped keys aggs having items shown distinct order limit offset names) results (map (λ i. from_rows from 0 (dbs i) results) indices)
+
+-- an answer for each part of a table, in their order, over that part alone
+abbrev pub AnswerParts : Query → ℕ → Results → List (List Row) → List (List Row) → Type 0
+AnswerParts q table results [] [] = ⊤
+AnswerParts q table results [] (a ∷ answers) = ⊥
+AnswerParts q table results (p ∷ parts) [] = ⊥
+AnswerParts q table results (p ∷ parts) (a ∷ answers) = AnswersWith q ((table, p) ∷ []) results a × AnswerParts q table results parts answers
