@@ -21,7 +21,7 @@ use Rattle.cq_meaning.proofs.RowLaws.{filter_all, distinct_has}
 use Rattle.cq_task_laws.proofs.PartLaws.{mapped_has}
 use Rattle.cq_task_laws.specs.Partial.{columns_from}
 use Rattle.cq_task_laws.specs.Merging.{is_above_limit, is_large_together, has_large_groups, merging_groups}
-use Rattle.cq_combine.specs.Counting.{counting}
+use Rattle.cq_task_laws.specs.Counting.{counting}
 
 -- the groups of the tasks' rows
 abbrev groups : Query → Results → List Row → List Group

@@ -1,7 +1,7 @@
 ghost use Rattle.std.specs.Prelude.{◌≡◌, ◌+◌, ◌∷◌, [], length, IfOk};
 ghost use Rattle.cq_tree.specs.declared.query.Query.{out-Query};
 ghost use Rattle.cq_task_laws.specs.Merging.{combining as combining_of, all_combining as all_combining_of, merging_rows as merging_rows_of, merging_groups as merging_groups_of};
-ghost use Rattle.cq_combine.specs.Counting.{counting as counting_of};
+ghost use Rattle.cq_task_laws.specs.Counting.{counting as counting_of};
 
 use crate::memory::{both, small};
 use crate::tasks::{columns, width_of_groups};

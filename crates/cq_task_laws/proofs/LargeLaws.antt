@@ -34,7 +34,7 @@ use Rattle.cq_task_laws.proofs.PartLaws.{mapped_has, flat_map_of_map, flat_map_s
 use Rattle.cq_task_laws.proofs.GatherRows.{whole_rows, all_given, answers_joined}
 use Rattle.cq_task_laws.proofs.GatherLaws.{part_width, groups_join, some_map, length_push}
 
-any_at : {X : Type 0} (p : X → Bool) (xs : List X) → list_any p xs ≡ true → (x : X) × Has xs x × (p x ≡ true)
+pub any_at : {X : Type 0} (p : X → Bool) (xs : List X) → list_any p xs ≡ true → (x : X) × Has xs x × (p x ≡ true)
 any_at p [] e = cc
 any_at {X} p (x ∷ xs) e = go (p x) refl e (any_at p xs)
   where
@@ -42,7 +42,7 @@ any_at {X} p (x ∷ xs) e = go (p x) refl e (any_at p xs)
     go true d f rest = (x, inl refl, d)
     go false d f rest = let u : (z : X) × Has xs z × (p z ≡ true) = rest f in (u.0, inr u.1, u.2)
 
-any_from : {X : Type 0} (p : X → Bool) (xs : List X) (x : X) → Has xs x → p x ≡ true → list_any p xs ≡ true
+pub any_from : {X : Type 0} (p : X → Bool) (xs : List X) (x : X) → Has xs x → p x ≡ true → list_any p xs ≡ true
 any_from p [] x h t = absurd h
 any_from p (y ∷ xs) x (inl e) t = ap (λ b. b || list_any p xs) (subst (λ z. p z ≡ true) (sym e) t)
 any_from p (y ∷ xs) x (inr h) t = elim (p y) as (λ b. (b || list_any p xs) ≡ true) [ true ↦ refl | false ↦ any_from p xs x h t ]
@@ -107,7 +107,7 @@ length_items : (es : List Expr) (rs : List (List Row)) (row : Row) → length (i
 length_items [] rs row = refl
 length_items (e ∷ es) rs row = ap suc (length_items es rs row)
 
-groups_wide : (keys : List Expr) (rs : List (List Row)) (rows : List Row) (g : Group) → Has (groups_of keys rs rows) g → length g.keys ≡ length keys
+pub groups_wide : (keys : List Expr) (rs : List (List Row)) (rows : List Row) (g : Group) → Has (groups_of keys rs rows) g → length g.keys ≡ length keys
 groups_wide [] rs rows g (inl e) = ap (λ (h : Group). length h.keys) (sym e)
 groups_wide [] rs rows g (inr h) = absurd h
 groups_wide (k ∷ ks) rs rows g h =
@@ -116,7 +116,7 @@ groups_wide (k ∷ ks) rs rows g h =
     let v : (r : Row) × Has rows r × (key r ≡ u.0) = mapped_has key rows u.0 (distinct_has (map key rows) u.0 u.1) in
     ap (λ (x : Group). length x.keys) (sym u.2) ∙ (ap length (sym v.2) ∙ length_items (k ∷ ks) rs v.0)
 
-length_columns : (at n : ℕ) → length (columns_from at n) ≡ n
+pub length_columns : (at n : ℕ) → length (columns_from at n) ≡ n
 length_columns at zero = refl
 length_columns at (suc n) = ap suc (length_columns (suc at) n)
 
@@ -124,7 +124,7 @@ length_columns at (suc n) = ap suc (length_columns (suc at) n)
 behind : (k row : Row) (n j : ℕ) → length k ≡ n → column (k ++ row) (n + j) ≡ column row j
 behind k row n j e = subst (λ m. column (k ++ row) (m + j) ≡ column row j) e (get_or-append-add k row j Null)
 
-last_one : (f : Agg → Value) (aggs : List Agg) (a : Agg) → column (map f (aggs ++ a ∷ [])) (length aggs) ≡ f a
+pub last_one : (f : Agg → Value) (aggs : List Agg) (a : Agg) → column (map f (aggs ++ a ∷ [])) (length aggs) ≡ f a
 last_one f [] a = refl
 last_one f (b ∷ aggs) a = last_one f aggs a
 
@@ -164,7 +164,7 @@ sum_counts (v ∷ vs) h e =
     above : (n : ℕ) → 2 ^ 31 < n → is_above_limit (Int (pos n)) ≡ true
     above n h = lt-ltb (2 ^ 31) n h
 
-length_map : {X Y : Type 0} (f : X → Y) (xs : List X) → length (map f xs) ≡ length xs
+pub length_map : {X Y : Type 0} (f : X → Y) (xs : List X) → length (map f xs) ≡ length xs
 length_map f [] = refl
 length_map f (x ∷ xs) = ap suc (length_map f xs)
 
@@ -192,10 +192,10 @@ module _ (rs : List (List Row)) (keys : List Expr) (aggs : List Agg) where
   abbrev at : ℕ
   at = length keys + length aggs
 
-  count_of : (rows : List Row) (h : Group) → Has (groups_of keys rs rows) h → column (group_row counted rs h) at ≡ Int (pos (length h.rows))
+  pub count_of : (rows : List Row) (h : Group) → Has (groups_of keys rs rows) h → column (group_row counted rs h) at ≡ Int (pos (length h.rows))
   count_of rows h m = behind h.keys (map (aggregate rs h.rows) counted) (length keys) (length aggs) (groups_wide keys rs rows h m) ∙ last_one (aggregate rs h.rows) aggs agg.CountAll
 
-  sum_in : (rows : List Row) (g : Group) → Has (groups_of cols rs rows) g → column (group_row sums rs g) at ≡ aggregate rs g.rows (agg.Sum (Column at))
+  pub sum_in : (rows : List Row) (g : Group) → Has (groups_of cols rs rows) g → column (group_row sums rs g) at ≡ aggregate rs g.rows (agg.Sum (Column at))
   sum_in rows g m =
       behind g.keys (map (aggregate rs g.rows) sums) (length keys) (length aggs) (groups_wide cols rs rows g m ∙ length_columns 0 (length keys))
       ∙ combining_last (aggregate rs g.rows) (length keys) aggs agg.CountAll
@@ -247,7 +247,7 @@ one_each : (f : List Row → Row) (parts : List (List Row)) → length (flat_map
 one_each f [] = refl
 one_each f (p ∷ parts) = ap suc (one_each f parts)
 
-or_true : (a b : Bool) → (a || b) ≡ true → (a ≡ true) ⊎ (b ≡ true)
+pub or_true : (a b : Bool) → (a || b) ≡ true → (a ≡ true) ⊎ (b ≡ true)
 or_true true b e = inl refl
 or_true false b e = inr e
 

@@ -6,4 +6,6 @@ pub mod Regrouping
 pub mod CutLaws
 pub mod GatherLaws
 pub mod LargeLaws
+pub mod SafeMerge
 pub mod TaskLaws
+pub mod OneTable

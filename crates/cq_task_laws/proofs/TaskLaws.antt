@@ -1,5 +1,5 @@
 -- What is made of the rows of tasks is an answer of their block.
-use Rattle.std.proofs.Common.{◌≡◌, ℕ, Bool, true, false, cond, List, [], ◌∷◌, map, take, drop, refl, sym, ap, subst, ◌∙◌, inl, inr}
+use Rattle.std.proofs.Common.{◌≡◌, ℕ, Bool, true, false, List, [], ◌∷◌, map, take, drop, refl, sym, ap, subst, ◌∙◌, inl, inr}
 use Rattle.std.specs.Prelude.{filter, not, ◌+◌, ◌⊎◌, ◌&&◌, ◌||◌, nat_eq}
 use Rattle.std.specs.List.{flat_map}
 use Rattle.std.proofs.lemmas.Bool.{eqb-true, eq-eqb}
@@ -16,7 +16,7 @@ use Rattle.cq_task_laws.specs.Partial.{partial}
 use Rattle.cq_task_laws.specs.Merging.{GathersTo, joined}
 use Rattle.cq_task_laws.specs.Gathering.{AllAnswer, AnswersOver, Serves, ShareNo}
 use Rattle.cq_task_laws.specs.Cutting.{Relation, Joins, only, inner, left, width_of, all_rows, rows_at, is_here, AllFit, stands, RightsStand, Located, AreDistinct}
-use Rattle.cq_task_laws.specs.Tasks.{Side, joins_of, has_cut, IsPlaced, AnswersAt, AnswerParts, TasksServe}
+use Rattle.cq_task_laws.specs.Tasks.{Side, joins_of, has_cut, IsPlaced, AnswersAt, AnswerEach, parts_of, TasksServe}
 use Rattle.cq_meaning.proofs.RowLaws.{filter_all, true_not_false, has_either}
 use Rattle.cq_task_laws.proofs.Opened.{from_of, from_is, over_from}
 use Rattle.cq_task_laws.proofs.PartLaws.{flat_map_filter, flat_map_same, flat_map_of_map}
@@ -125,24 +125,22 @@ share_no key place part (i ∷ indices) d h = (
       | inr c ↦ (let u : (k : ℕ) × Has js k × Has (part k) y = in_part js y c in (u.0, inr u.1, u.2))
     ]
 
--- a block over one table, of which each task has a part
-parts_over : (q : Query) (kind : Combine) (table columns : ℕ) (rs : List (List Row)) → from_of q ≡ Table table columns → (parts answers : List (List Row)) → AnswerParts (partial kind q) table rs parts answers → AllAnswer (partial kind q) rs parts answers
+-- a block over one table, of which each task reads a part
+parts_over : (q : Query) (kind : Combine) (table columns : ℕ) (rs : List (List Row)) → from_of q ≡ Table table columns → (dbs : List Tables) (answers : List (List Row)) → AnswerEach (partial kind q) rs dbs answers → AllAnswer (partial kind q) rs (parts_of table dbs) answers
 parts_over q kind table columns rs e [] [] h = tt
 parts_over q kind table columns rs e [] (a ∷ answers) h = absurd h
-parts_over q kind table columns rs e (p ∷ parts) [] h = absurd h
-parts_over q kind table columns rs e (p ∷ parts) (a ∷ answers) h =
-    (subst (λ rows. AnswersOver (partial kind q) rs rows a) (ap (λ f. from_rows f 0 ((table, p) ∷ []) rs) e ∙ own_part) (over_from q kind ((table, p) ∷ []) rs a h.0), parts_over q kind table columns rs e parts answers h.1)
-  where
-    own_part : table_rows ((table, p) ∷ []) table ≡ p
-    own_part = ap (λ b. cond b p []) (eq-eqb table table refl)
+parts_over q kind table columns rs e (db ∷ dbs) [] h = absurd h
+parts_over q kind table columns rs e (db ∷ dbs) (a ∷ answers) h =
+    (subst (λ rows. AnswersOver (partial kind q) rs rows a) (ap (λ f. from_rows f 0 db rs) e) (over_from q kind db rs a h.0), parts_over q kind table columns rs e dbs answers h.1)
 
-pub one_table : (kind : Combine) (q : Query) (table columns : ℕ) (db : Tables) (rs : List (List Row)) (parts answers : List (List Row)) (rows : List Row) →
-    (out-Query q).from ≡ Table table columns → table_rows db table ≡ joined parts → Serves kind q rs parts →
-    AnswerParts (partial kind q) table rs parts answers → GathersTo kind q rs answers rows → AnswersWith q db rs rows
-one_table kind (Query' cs ctes ss subs from filter_ grouped keys aggs having items shown distinct order limit offset names) table columns db rs parts answers rows is whole serves given gathers =
+pub one_table : (kind : Combine) (q : Query) (table columns : ℕ) (db : Tables) (rs : List (List Row)) (dbs : List Tables) (answers : List (List Row)) (rows : List Row) →
+    (out-Query q).from ≡ Table table columns → table_rows db table ≡ joined (parts_of table dbs) → Serves kind q rs (parts_of table dbs) →
+    AnswerEach (partial kind q) rs dbs answers → GathersTo kind q rs answers rows → AnswersWith q db rs rows
+one_table kind (Query' cs ctes ss subs from filter_ grouped keys aggs having items shown distinct order limit offset names) table columns db rs dbs answers rows is whole serves given gathers =
     let q : Query = Query' cs ctes ss subs from filter_ grouped keys aggs having items shown distinct order limit offset names in
+    let parts : List (List Row) = parts_of table dbs in
     let e : from ≡ Table table columns = sym (from_is q) ∙ is in
     let w : from_rows from 0 db rs ≡ joined parts = ap (λ f. from_rows f 0 db rs) e ∙ whole in
     gather kind q rs parts answers (from_rows from 0 db rs) rows
     (subst (λ us. Reordered (filter (keeps filter_ rs) (from_rows from 0 db rs)) us) (ap (filter (keeps filter_ rs)) w ∙ flat_map_filter (keeps filter_ rs) (λ p. p) parts) (same (filter (keeps filter_ rs) (from_rows from 0 db rs))))
-    serves (parts_over q kind table columns rs e parts answers given) gathers
+    serves (parts_over q kind table columns rs e dbs answers given) gathers

@@ -10,6 +10,7 @@ use Rattle.cq_meaning.specs.Expressions.{keeps, items_of}
 use Rattle.cq_meaning.specs.Groups.{distinct_if}
 use Rattle.cq_meaning.specs.Sorting.{keys_cmp, cut}
 use Rattle.cq_meaning.specs.Limits.{has_large_group}
+use Rattle.cq_meaning.specs.Safety.{AreSafeItems}
 use Rattle.cq_meaning.specs.Queries.{item_rows}
 use Rattle.cq_task_laws.specs.Merging.{joined}
 
@@ -32,6 +33,10 @@ AnswersOver q results from rows = IsCutOf q (full_over q results from) rows
 -- the rows that WHERE keeps
 abbrev pub kept_of : Query → Results → List Row → List Row
 kept_of (Query' cs ctes ss subs from filter_ grouped keys aggs having items shown distinct order limit offset names) results rows = filter (keeps filter_ results) rows
+
+-- it needs no more than 128 bits over these rows, and the columns are there
+abbrev pub IsSafeOver : Query → Results → List Row → Type 0
+IsSafeOver (Query' cs ctes ss subs from filter_ grouped keys aggs having items shown distinct order limit offset names) results rows = AreSafeItems filter_ grouped keys aggs having items results rows
 
 -- whether it has a group of more than 2^31 rows
 abbrev pub has_large_over : Query → Results → List Row → Bool

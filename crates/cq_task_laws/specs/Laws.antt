@@ -1,8 +1,9 @@
 -- The laws on which tasks stand.
-use Rattle.std.specs.Prelude.{◌≡◌, ◌≤◌, ◌^◌, ℕ, List, length, filter, Bool, true}
-use Rattle.std.specs.List.{flat_map}
+use Rattle.std.specs.Prelude.{◌≡◌, ◌≤◌, ◌^◌, ℕ, List, length, map, filter, Bool, true, false}
+use Rattle.std.specs.List.{flat_map, AllByRecursion}
 use Rattle.std.specs.List.Sorted.{IsPermutation}
 use Rattle.cq_tree.specs.declared.plan.Combine.{Combine}
+use Rattle.cq_tree.specs.declared.plan.Combine.TheVariants.{Nothing}
 use Rattle.cq_tree.specs.declared.query.FromTree.{FromTree, Table}
 use Rattle.cq_tree.specs.declared.query.Query.{Query, out-Query}
 use Rattle.cq_meaning.specs.Values.{Row, Results, Tables, table_rows}
@@ -10,9 +11,10 @@ use Rattle.cq_meaning.specs.Lists.{Has}
 use Rattle.cq_meaning.specs.Queries.{AnswersWith}
 use Rattle.cq_task_laws.specs.Partial.{partial}
 use Rattle.cq_task_laws.specs.Merging.{joined, has_large_together, GathersTo}
-use Rattle.cq_task_laws.specs.Gathering.{kept_of, has_large_over, IsNonEmpty, Serves, AllAnswer, AnswersOver}
+use Rattle.cq_task_laws.specs.Counting.{CanMerge}
+use Rattle.cq_task_laws.specs.Gathering.{kept_of, has_large_over, full_over, IsSafeOver, IsNonEmpty, Serves, AllAnswer, AnswersOver}
 use Rattle.cq_task_laws.specs.Cutting.{Joins, all_rows, rows_at, AllFit, Located, AreDistinct}
-use Rattle.cq_task_laws.specs.Tasks.{Side, TasksServe, AnswersAt, AnswerParts}
+use Rattle.cq_task_laws.specs.Tasks.{Side, TasksServe, AnswersAt, AnswerEach, parts_of}
 
 -- what a FROM keeps is, up to order, what the FROMs of its tasks keep, joined
 abbrev pub CutsWhole : Type 0
@@ -47,8 +49,20 @@ LargeTogether = (kind : Combine) (q : Query) (results : Results) (parts answers 
 
 -- ---- a block over one table
 
--- each task has a part of the table
+-- of which each task reads a part
 abbrev pub OneTableAnswers : Type 0
-OneTableAnswers = (kind : Combine) (q : Query) (table columns : ℕ) (db : Tables) (results : Results) (parts answers : List (List Row)) (rows : List Row) →
-    (out-Query q).from ≡ Table table columns → table_rows db table ≡ joined parts → Serves kind q results parts →
-    AnswerParts (partial kind q) table results parts answers → GathersTo kind q results answers rows → AnswersWith q db results rows
+OneTableAnswers = (kind : Combine) (q : Query) (table columns : ℕ) (db : Tables) (results : Results) (dbs : List Tables) (answers : List (List Row)) (rows : List Row) →
+    (out-Query q).from ≡ Table table columns → table_rows db table ≡ joined (parts_of table dbs) → Serves kind q results (parts_of table dbs) →
+    AnswerEach (partial kind q) results dbs answers → GathersTo kind q results answers rows → AnswersWith q db results rows
+
+-- ---- what is needed of numbers and columns
+
+-- where a block is safe over the rows of a part, so is its task
+abbrev pub TasksAreSafe : Type 0
+TasksAreSafe = (kind : Combine) (q : Query) (results : Results) (part : List Row) → IsSafeOver q results part → IsSafeOver (partial kind q) results part
+
+-- where a block is safe over the rows of all its parts, and has no group in one of them that is too large, what its tasks give can be merged
+abbrev pub MergesAreSafe : Type 0
+MergesAreSafe = (kind : Combine) (q : Query) (results : Results) (parts : List (List Row)) → (kind ≡ Nothing → length parts ≡ 1) → IsNonEmpty parts → length parts ≤ 2 ^ 31 →
+    IsSafeOver q results (joined parts) → AllByRecursion (λ part. has_large_over q results part ≡ false) parts →
+    CanMerge kind q results (map (full_over (partial kind q) results) parts)

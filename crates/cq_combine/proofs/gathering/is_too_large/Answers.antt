@@ -4,7 +4,7 @@ use Rattle.cq_meaning.specs.Values.{column, table_rows}
 use Rattle.cq_meaning.specs.Queries.{meaning}
 use Rattle.cq_meaning.specs.Limits.{is_large}
 use Rattle.cq_task_laws.specs.Merging.{is_above_limit, has_large_groups}
-use Rattle.cq_combine.specs.Counting.{counting}
+use Rattle.cq_task_laws.specs.Counting.{counting}
 use Rattle.cq_combine.proofs.LargeLaws.{counting_tells, counting_too_large}
 use Rattle.cq_combine.proofs.gathering.is_too_large.Goals as goal
 

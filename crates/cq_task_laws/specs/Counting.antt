@@ -1,4 +1,5 @@
--- What the coordinator computes over the rows of a block's tasks, besides what it makes of them: how many rows each group has.
+-- What the coordinator computes over the rows of a block's tasks, besides what it makes of them: how many rows each group has. And what it
+-- needs of these rows.
 use Rattle.std.specs.Prelude.{◌≡◌, ◌+◌, List, [], ◌∷◌, length, true, false, None}
 use Rattle.cq_tree.specs.declared.expression.Expr.{Column}
 use Rattle.cq_tree.specs.declared.expression.Cond.{Always}
