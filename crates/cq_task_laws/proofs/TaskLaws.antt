@@ -126,7 +126,7 @@ share_no key place part (i ∷ indices) d h = (
     ]
 
 -- a block over one table, of which each task reads a part
-parts_over : (q : Query) (kind : Combine) (table columns : ℕ) (rs : List (List Row)) → from_of q ≡ Table table columns → (dbs : List Tables) (answers : List (List Row)) → AnswerEach (partial kind q) rs dbs answers → AllAnswer (partial kind q) rs (parts_of table dbs) answers
+pub parts_over : (q : Query) (kind : Combine) (table columns : ℕ) (rs : List (List Row)) → from_of q ≡ Table table columns → (dbs : List Tables) (answers : List (List Row)) → AnswerEach (partial kind q) rs dbs answers → AllAnswer (partial kind q) rs (parts_of table dbs) answers
 parts_over q kind table columns rs e [] [] h = tt
 parts_over q kind table columns rs e [] (a ∷ answers) h = absurd h
 parts_over q kind table columns rs e (db ∷ dbs) [] h = absurd h
