@@ -1,4 +1,4 @@
--- L5: what the coordinator makes of the tasks' rows is an answer of the block.
+-- What the coordinator makes of the tasks' rows is an answer of the block, where it only joins them.
 use Rattle.std.proofs.Common.{◌≡◌, ℕ, zero, suc, Bool, true, false, List, [], ◌∷◌, ◌++◌, map, length, take, refl, sym, ap, subst, ◌∙◌, append-nil, inl, inr}
 use Rattle.std.specs.Prelude.{filter, ⊤}
 use Rattle.std.specs.List.{flat_map}
