@@ -19,7 +19,7 @@ use cq_value::{Items, NoMemory, Results, Rows};
 use std::alloc::Global;
 
 /// What each task reads.
-pub type Reads = Items<Tables>;
+type Reads = Items<Tables>;
 
 fn memory<T: Drop>(r: Result<T, NoMemory>) -> Result<T, QueryError>
     ensures { MatchResult result (λ x. r ≡ Ok x) (λ e. e ≡ QueryError.Memory) }
@@ -63,6 +63,7 @@ pub fn run_by_tasks(
     requires tasks { All (λ db. IsSafeQuery (partial_of kind query.now) db results.now) reads.now }
     requires merge { has_large_task kind query.now results.now reads.now ≡ false → CanMerge kind query.now results.now (task_rows kind query.now results.now reads.now) }
     ensures gathers { IfOk result (λ rows. GathersTo kind query.now results.now (task_rows kind query.now results.now reads.now) rows) }
+    ensures fits { IfOk result (λ rows. (has_large_task kind query.now results.now reads.now ≡ false) × (has_large_together kind query.now results.now (task_rows kind query.now results.now reads.now) ≡ false)) }
     ensures err { IfErr result (λ e. e ≡ QueryError.Rows → (has_large_task kind query.now results.now reads.now ≡ true) ⊎ (has_large_together kind query.now results.now (task_rows kind query.now results.now reads.now) ≡ true)) }
 {
     let task = memory(partial(alloc, query, kind))?;

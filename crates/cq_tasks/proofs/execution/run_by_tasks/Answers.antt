@@ -1,7 +1,7 @@
 use Rattle.std.proofs.Common.{rules, ◌≡◌, true, false, map, subst, sym, ap, ◌∙◌, inl, inr}
 use Rattle.std.specs.Prelude.{◌⊎◌, IfOk}
 use Rattle.std.specs.List.{list_any}
-use Rattle.std.proofs.lemmas.Result.{IfErr-weaker}
+use Rattle.std.proofs.lemmas.Result.{IfErr-weaker, IfOk-weaker}
 use Rattle.cq_meaning.specs.Limits.{is_large}
 use Rattle.cq_meaning.specs.Queries.{meaning}
 use Rattle.cq_task_laws.specs.Partial.{partial}
@@ -40,3 +40,12 @@ returns-clause-err c =
     let rows : c.in_ok-parts.field-0 ≡ task_rows c.args.kind c.args.query.now c.args.results.now c.args.reads.now =
     c.in_ok-parts.ensures.ok.0 ∙ ap (λ t. map (λ db. meaning t db c.args.results.now) c.args.reads.now) task in
     IfErr-weaker c.combine.result _ _ (λ e h r. inr (subst (λ parts. has_large_together c.args.kind c.args.query.now c.args.results.now parts ≡ true) rows (h r))) c.combine.ensures.err
+
+pub returns-clause-fits : goal.returns-clause-fits
+returns-clause-fits c =
+    let task : c.in_ok-task.task ≡ partial c.args.kind c.args.query.now = search rules in
+    let rows : c.in_ok-parts.field-0 ≡ task_rows c.args.kind c.args.query.now c.args.results.now c.args.reads.now =
+    c.in_ok-parts.ensures.ok.0 ∙ ap (λ t. map (λ db. meaning t db c.args.results.now) c.args.reads.now) task in
+    let small : has_large_task c.args.kind c.args.query.now c.args.results.now c.args.reads.now ≡ false =
+    subst (λ t. list_any (λ db. is_large t db c.args.results.now) c.args.reads.now ≡ false) task c.in_ok-parts.ensures.ok.1 in
+    IfOk-weaker c.combine.result _ _ (λ r f. (small, subst (λ parts. has_large_together c.args.kind c.args.query.now c.args.results.now parts ≡ false) rows f)) c.combine.ensures.fits
