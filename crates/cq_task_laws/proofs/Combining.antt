@@ -55,7 +55,7 @@ module _ (rs : List (List Row)) where
     column_values : (at : ℕ) (a : Agg) → ((p : List Row) → column (make p) at ≡ aggregate rs p a) → known_values (Column at) rs (map make ps) ≡ filter is_known (map (λ p. aggregate rs p a) ps)
     column_values at a h = ap (λ us. filter is_known us) (map_map (λ r. value_of (Column at) r rs) make ps ∙ map_same (λ p. column (make p) at) (λ p. aggregate rs p a) ps (λ p k. h p))
 
-    one : (at : ℕ) (a : Agg) → ((p : List Row) → column (make p) at ≡ aggregate rs p a) → aggregate rs (map make ps) (combining at a) ≡ aggregate rs (joined ps) a
+    pub one : (at : ℕ) (a : Agg) → ((p : List Row) → column (make p) at ≡ aggregate rs p a) → aggregate rs (map make ps) (combining at a) ≡ aggregate rs (joined ps) a
     one at agg.CountAll h = ap sum_of (column_values at agg.CountAll h) ∙ (fold_skip added added_unit Null (map (λ p. aggregate rs p agg.CountAll) ps) ∙ counts (λ p. p) ps some)
     one at (agg.Count e) h = ap sum_of (column_values at (agg.Count e) h) ∙ (fold_skip added added_unit Null (map (λ p. aggregate rs p (agg.Count e)) ps)
         ∙ (counts (known_values e rs) ps some ∙ ap (λ us. Int (pos (length us))) (values_parts e ps)))

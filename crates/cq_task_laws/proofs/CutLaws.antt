@@ -1,4 +1,4 @@
--- L4: the kept rows of a FROM are those of the tasks' FROMs, joined.
+-- The kept rows of a FROM are those of the tasks' FROMs, joined.
 use Rattle.std.proofs.Common.{◌≡◌, ℕ, ◌+◌, Bool, true, false, cond, List, [], ◌∷◌, ◌++◌, map, length, take, drop, replicate, length-append, refl, sym, ap, subst, ◌∙◌, append_assoc, inl, inr}
 use Rattle.std.specs.Prelude.{filter, not, ◌⊎◌, ◌&&◌, ◌||◌, nat_eq}
 use Rattle.std.specs.List.{flat_map}
@@ -409,7 +409,7 @@ parted keep s is d (x ∷ xs) h = go (keep x) refl (parted keep s is d xs (λ y 
         subst (λ b. Reordered (cond b (x ∷ filter keep xs) (filter keep xs)) (flat_map (λ i. cond (b && s i x) (x ∷ filter (λ x. keep x && s i x) xs) (filter (λ x. keep x && s i x) xs)) is)) (sym e)
         (then (kept r) (put_once x (λ i. s i x) (λ i. filter (λ x. keep x && s i x) xs) is d p.0 p.1 p.2))
 
--- L4
+-- the kept rows of a FROM are those of the tasks' FROMs, joined
 pub cut_law : (f : Joins) (keep : Row → Bool) (indices : List ℕ) → AreDistinct indices → AllFit f indices → Located f keep indices →
     Reordered (filter keep (all_rows f)) (flat_map (λ i. filter keep (rows_at f i)) indices)
 cut_law f keep indices distinct fit located =

@@ -43,11 +43,11 @@ gather_distinct q rs parts answers full rows f w width again given a =
     (subst (λ us. IsCutOf q (distinct us) rows) e a)
 
 -- the rows of the groups of parts
-module _ (rs : List (List Row)) (aggs : List Agg) where
+module _ (rs : List (List Row)) (aggs rest : List Agg) where
   abbrev more : List Agg
-  more = aggs ++ agg.CountAll ∷ []
+  more = aggs ++ rest
 
-  part_width : (keys : List Expr) (rows : List Row) (r : Row) → Has (map (group_row more rs) (groups_of keys rs rows)) r → length r ≡ length keys + length more
+  pub part_width : (keys : List Expr) (rows : List Row) (r : Row) → Has (map (group_row more rs) (groups_of keys rs rows)) r → length r ≡ length keys + length more
   part_width [] rows r (inl e) = subst (λ z. length z ≡ length more) e (length_map (aggregate rs rows) more) ∙ sym (zero-add (length more))
   part_width [] rows r (inr h) = absurd h
   part_width (e ∷ es) rows r h =
@@ -67,19 +67,19 @@ module _ (rs : List (List Row)) (aggs : List Agg) where
   single f [] = refl
   single f (p ∷ ps) = ap (λ us. f p ∷ us) (single f ps)
 
-  groups_join : (keys : List Expr) (ps : List (List Row)) → IsNonEmpty ps →
+  pub groups_join : (keys : List Expr) (ps : List (List Row)) → IsNonEmpty ps →
       map (group_row (all_combining (length keys) aggs) rs) (groups_of (columns_from 0 (length keys)) rs (flat_map (λ p. map (group_row more rs) (groups_of keys rs p)) ps))
       ≡ map (group_row aggs rs) (groups_of keys rs (joined ps))
   groups_join [] ps some = ap (λ us. us ∷ [])
       (ap (λ us. map (aggregate rs us) (all_combining 0 aggs)) (single (λ p. map (aggregate rs p) more) ps)
-      ∙ all_combined rs (λ p. map (aggregate rs p) more) ps some aggs (agg.CountAll ∷ []) 0 (λ p j. ap (λ n. column (map (aggregate rs p) more) n) (zero-add j)))
-  groups_join (e ∷ es) ps some = regrouped rs (e ∷ es) aggs ps
+      ∙ all_combined rs (λ p. map (aggregate rs p) more) ps some aggs rest 0 (λ p j. ap (λ n. column (map (aggregate rs p) more) n) (zero-add j)))
+  groups_join (e ∷ es) ps some = regrouped rs (e ∷ es) aggs rest ps
 
-some_map : {X Y : Type 0} (f : X → Y) (ps : List X) → IsNonEmpty ps → IsNonEmpty (map f ps)
+pub some_map : {X Y : Type 0} (f : X → Y) (ps : List X) → IsNonEmpty ps → IsNonEmpty (map f ps)
 some_map f [] h = absurd h
 some_map f (p ∷ ps) h = tt
 
-length_push : {X : Type 0} (xs : List X) (x : X) → length (xs ++ x ∷ []) ≡ length xs + 1
+pub length_push : {X : Type 0} (xs : List X) (x : X) → length (xs ++ x ∷ []) ≡ length xs + 1
 length_push xs x = length-append xs (x ∷ [])
 
 pub gather_groups : (q : Query) (rs : List (List Row)) (parts answers : List (List Row)) (whole rows : List Row) →
@@ -102,7 +102,7 @@ gather_groups (Query' cs ctes ss subs from filter_ true keys aggs having items s
     let more_aggs : List Agg = aggs ++ agg.CountAll ∷ [] in
     let w : ℕ = length keys + (length aggs + 1) in
     let g : List Row → List Row = λ p. map (group_row more_aggs rs) (groups_of keys rs (keep p)) in
-    let wide : (p : List Row) (r : Row) → Has (g p) r → length r ≡ w = λ p r h. part_width rs aggs keys (keep p) r h ∙ ap (λ n. length keys + n) (length_push aggs agg.CountAll) in
+    let wide : (p : List Row) (r : Row) → Has (g p) r → length r ≡ w = λ p r h. part_width rs aggs (agg.CountAll ∷ []) keys (keep p) r h ∙ ap (λ n. length keys + n) (length_push aggs agg.CountAll) in
     let g2 : List Row → List Row = λ p. map (items_of (columns_from 0 w) rs) (filter (keeps Always rs) (g p)) in
     let same : (p : List Row) → g2 p ≡ g p = λ p. whole_rows rs w (g p) (wide p) in
     let r1 : Reordered (flat_map g2 parts) (joined answers) =
@@ -114,7 +114,7 @@ gather_groups (Query' cs ctes ss subs from filter_ true keys aggs having items s
     let e1 : filter (keeps Always rs) (joined answers) ≡ joined answers = filter_all (keeps Always rs) (joined answers) (λ r h. refl) in
     let e2 : map (group_row sums rs) (groups_of cols rs (flat_map g parts)) ≡ map (group_row aggs rs) (groups_of keys rs (flat_map keep parts)) =
     ap (λ us. map (group_row sums rs) (groups_of cols rs us)) (sym (flat_map_of_map (λ p. map (group_row more_aggs rs) (groups_of keys rs p)) keep parts))
-    ∙ (groups_join rs aggs keys (map keep parts) (some_map keep parts serves.0)
+    ∙ (groups_join rs aggs (agg.CountAll ∷ []) keys (map keep parts) (some_map keep parts serves.0)
     ∙ ap (λ us. map (group_row aggs rs) (groups_of keys rs us)) (flat_map_of_map (λ p. p) keep parts)) in
     let r3 : Reordered (map (group_row aggs rs) (groups_of keys rs (keep whole))) (map (group_row sums rs) (groups_of cols rs (filter (keeps Always rs) (joined answers)))) =
     subst (λ us. Reordered (map (group_row aggs rs) (groups_of keys rs (keep whole))) (map (group_row sums rs) (groups_of cols rs us))) (sym e1)

@@ -1,4 +1,4 @@
--- L5: what the coordinator makes of the tasks' rows is an answer of the block.
+-- What the coordinator makes of the tasks' rows is an answer of the block, where it only joins them.
 use Rattle.std.proofs.Common.{◌≡◌, ℕ, zero, suc, Bool, true, false, List, [], ◌∷◌, ◌++◌, map, length, take, refl, sym, ap, subst, ◌∙◌, append-nil, inl, inr}
 use Rattle.std.specs.Prelude.{filter, ⊤}
 use Rattle.std.specs.List.{flat_map}
@@ -54,7 +54,7 @@ take_whole : (row : Row) → take (length row) row ≡ row
 take_whole [] = refl
 take_whole (v ∷ row) = ap (λ us. v ∷ us) (take_whole row)
 
-shown_whole : (w : ℕ) (rows : List Row) → ((r : Row) → Has rows r → length r ≡ w) → map (λ r. take w r) rows ≡ rows
+pub shown_whole : (w : ℕ) (rows : List Row) → ((r : Row) → Has rows r → length r ≡ w) → map (λ r. take w r) rows ≡ rows
 shown_whole w [] width = refl
 shown_whole w (r ∷ rows) width =
     let e : take w r ≡ r = subst (λ n. take n r ≡ r) (width r (inl refl)) (take_whole r) in

@@ -5,4 +5,7 @@ pub mod GatherRows
 pub mod Regrouping
 pub mod CutLaws
 pub mod GatherLaws
+pub mod LargeLaws
+pub mod SafeMerge
 pub mod TaskLaws
+pub mod OneTable

@@ -4,7 +4,6 @@ use Rattle.std.specs.Prelude.{filter}
 use Rattle.std.specs.List.{flat_map}
 use Rattle.cq_tree.specs.declared.expression.Expr.{Expr}
 use Rattle.cq_tree.specs.declared.query.Agg.{Agg}
-use Rattle.cq_tree.specs.declared.query.Agg.TheVariants as agg
 use Rattle.cq_meaning.specs.Values.{Row, column, same_row}
 use Rattle.cq_meaning.specs.Expressions.{value_of, items_of}
 use Rattle.cq_meaning.specs.Groups.{distinct, aggregate, group_row, groups_by, group_with}
@@ -27,11 +26,11 @@ past : (k row : Row) (j : ℕ) → column (k ++ row) (length k + j) ≡ column r
 past k row j = get_or-append-add k row j _
 
 -- one list, where it isn't empty
-abbrev if_some : {X : Type 0} → List X → List (List X)
+abbrev pub if_some : {X : Type 0} → List X → List (List X)
 if_some [] = []
 if_some (x ∷ xs) = (x ∷ xs) ∷ []
 
-joined_some : (f : List Row → List Row) (ps : List (List Row)) → joined (flat_map (λ p. if_some (f p)) ps) ≡ flat_map f ps
+pub joined_some : (f : List Row → List Row) (ps : List (List Row)) → joined (flat_map (λ p. if_some (f p)) ps) ≡ flat_map f ps
 joined_some f [] = refl
 joined_some f (p ∷ ps) = go (f p) (joined_some f ps)
   where
@@ -43,7 +42,8 @@ some_joined : (ps : List (List Row)) (r : Row) → Has (joined ps) r → IsNonEm
 some_joined [] r h = absurd h
 some_joined (p ∷ ps) r h = tt
 
-module _ (rs : List (List Row)) (keys : List Expr) (aggs : List Agg) where
+-- parts give the keys, these aggregates and some more
+module _ (rs : List (List Row)) (keys : List Expr) (aggs rest : List Agg) where
   abbrev key : Row → Row
   key = items_of keys rs
 
@@ -51,7 +51,7 @@ module _ (rs : List (List Row)) (keys : List Expr) (aggs : List Agg) where
   first_key = items_of (columns_from 0 (length keys)) rs
 
   abbrev part_aggs : List Agg
-  part_aggs = aggs ++ agg.CountAll ∷ []
+  part_aggs = aggs ++ rest
 
   abbrev sums : List Agg
   sums = all_combining (length keys) aggs
@@ -73,7 +73,7 @@ module _ (rs : List (List Row)) (keys : List Expr) (aggs : List Agg) where
   abbrev part_rows : List Row → List Row
   part_rows p = map (group_row part_aggs rs) (groups_by key p)
 
-  width_in : (p : List Row) (k : Row) → Has (distinct (map key p)) k → length k ≡ length keys
+  pub width_in : (p : List Row) (k : Row) → Has (distinct (map key p)) k → length k ≡ length keys
   width_in p k h = let u : (r : Row) × Has p r × (key r ≡ k) = mapped_has key p k (distinct_has (map key p) k h) in subst (λ z. length z ≡ length keys) u.2 (key_width u.0)
 
   keys_of_part : (p : List Row) → map first_key (part_rows p) ≡ distinct (map key p)
@@ -88,7 +88,7 @@ module _ (rs : List (List Row)) (keys : List Expr) (aggs : List Agg) where
       itself (x ∷ xs) = ap (λ us. x ∷ us) (itself xs)
 
   -- a key's partial rows in a part: one, where it has rows there
-  one_part : (k : Row) (p : List Row) → filter (λ r. same_row k (first_key r)) (part_rows p) ≡ map (part_row k) (if_some (filter (λ r. same_row k (key r)) p))
+  pub one_part : (k : Row) (p : List Row) → filter (λ r. same_row k (first_key r)) (part_rows p) ≡ map (part_row k) (if_some (filter (λ r. same_row k (key r)) p))
   one_part k p =
       let make : Row → Row = λ j. group_row part_aggs rs (group_with key p j) in
       let ks : List Row = distinct (map key p) in
@@ -111,32 +111,45 @@ module _ (rs : List (List Row)) (keys : List Expr) (aggs : List Agg) where
           ap (λ us. map (λ j. group_row part_aggs rs (group_with key p j)) us) (one_left k (distinct (map key p)) (distinct_differ (map key p)) m)
           ∙ ap (λ us. part_row k us ∷ []) f
 
+  -- the rows of a key in each part that has some
+  abbrev pub some_of : Row → List (List Row) → List (List Row)
+  some_of k parts = flat_map (λ p. if_some (filter (λ r. same_row k (key r)) p)) parts
+
+  -- are all rows of the key
+  pub some_whole : (k : Row) (parts : List (List Row)) → joined (some_of k parts) ≡ filter (λ r. same_row k (key r)) (joined parts)
+  some_whole k parts = joined_some (filter (λ r. same_row k (key r))) parts ∙ sym (flat_map_filter (λ r. same_row k (key r)) (λ p. p) parts)
+
+  -- and give one partial row each
+  pub some_rows : (k : Row) (parts : List (List Row)) → filter (λ r. same_row k (first_key r)) (flat_map part_rows parts) ≡ map (part_row k) (some_of k parts)
+  some_rows k parts =
+      flat_map_filter (λ r. same_row k (first_key r)) part_rows parts
+      ∙ (flat_map_same (λ p. filter (λ r. same_row k (first_key r)) (part_rows p)) (λ p. map (part_row k) (if_some (filter (λ r. same_row k (key r)) p))) parts (λ p m. one_part k p)
+      ∙ sym (map_of_flat_map (part_row k) (λ p. if_some (filter (λ r. same_row k (key r)) p)) parts))
+
+  -- a partial row's columns
+  pub part_columns : (k : Row) → length k ≡ length keys → (p : List Row) (j : ℕ) → column (part_row k p) (length keys + j) ≡ column (map (aggregate rs p) part_aggs) j
+  part_columns k e p j = subst (λ n. column (part_row k p) (n + j) ≡ column (map (aggregate rs p) part_aggs) j) e (past k (map (aggregate rs p) part_aggs) j)
+
   -- the partial groups of a key together
   one_group : (k : Row) (parts : List (List Row)) → length k ≡ length keys → Has (distinct (map key (joined parts))) k →
       group_row sums rs (group_with first_key (flat_map part_rows parts) k) ≡ group_row aggs rs (group_with key (joined parts) k)
   one_group k parts e h =
-      let mine : List Row → List Row = filter (λ r. same_row k (key r)) in
-      let some : List (List Row) = flat_map (λ p. if_some (mine p)) parts in
-      let whole : joined some ≡ mine (joined parts) = joined_some mine parts ∙ sym (flat_map_filter (λ r. same_row k (key r)) (λ p. p) parts) in
-      let rows : filter (λ r. same_row k (first_key r)) (flat_map part_rows parts) ≡ map (part_row k) some =
-      flat_map_filter (λ r. same_row k (first_key r)) part_rows parts
-      ∙ (flat_map_same (λ p. filter (λ r. same_row k (first_key r)) (part_rows p)) (λ p. map (part_row k) (if_some (mine p))) parts (λ p m. one_part k p)
-      ∙ sym (map_of_flat_map (part_row k) (λ p. if_some (mine p)) parts)) in
       let u : (r : Row) × Has (joined parts) r × (key r ≡ k) = mapped_has key (joined parts) k (distinct_has (map key (joined parts)) k h) in
-      let full : IsNonEmpty some = some_joined some u.0 (subst (λ us. Has us u.0) (sym whole) (filtered_has (λ r. same_row k (key r)) (joined parts) u.0 u.1 (same_from k (key u.0) (sym u.2)))) in
+      let full : IsNonEmpty (some_of k parts) = some_joined (some_of k parts) u.0 (subst (λ us. Has us u.0) (sym (some_whole k parts)) (filtered_has (λ r. same_row k (key r)) (joined parts) u.0 u.1 (same_from k (key u.0) (sym u.2)))) in
       ap (λ us. k ++ us)
-      (ap (λ us. map (aggregate rs us) sums) rows
-      ∙ (all_combined rs (part_row k) some full aggs (agg.CountAll ∷ []) (length keys)
-      (λ p j. subst (λ n. column (part_row k p) (n + j) ≡ column (map (aggregate rs p) part_aggs) j) e (past k (map (aggregate rs p) part_aggs) j))
-      ∙ ap (λ us. map (aggregate rs us) aggs) whole))
+      (ap (λ us. map (aggregate rs us) sums) (some_rows k parts)
+      ∙ (all_combined rs (part_row k) (some_of k parts) full aggs rest (length keys) (part_columns k e)
+      ∙ ap (λ us. map (aggregate rs us) aggs) (some_whole k parts)))
+
+  pub same_keys : (parts : List (List Row)) → distinct (map first_key (flat_map part_rows parts)) ≡ distinct (map key (joined parts))
+  same_keys parts =
+      ap distinct (map_of_flat_map first_key part_rows parts ∙ flat_map_same (λ p. map first_key (part_rows p)) (λ p. distinct (map key p)) parts (λ p h. keys_of_part p))
+      ∙ (distinct_of_parts (map key) parts ∙ ap distinct (sym (map_of_flat_map key (λ p. p) parts)))
 
   pub regrouped : (parts : List (List Row)) → map (group_row sums rs) (groups_by first_key (flat_map part_rows parts)) ≡ map (group_row aggs rs) (groups_by key (joined parts))
   regrouped parts =
-      let ks : distinct (map first_key (flat_map part_rows parts)) ≡ distinct (map key (joined parts)) =
-      ap distinct (map_of_flat_map first_key part_rows parts ∙ flat_map_same (λ p. map first_key (part_rows p)) (λ p. distinct (map key p)) parts (λ p h. keys_of_part p))
-      ∙ (distinct_of_parts (map key) parts ∙ ap distinct (sym (map_of_flat_map key (λ p. p) parts))) in
       group_rows_are rs sums first_key (flat_map part_rows parts)
-      ∙ (ap (λ us. map (λ k. group_row sums rs (group_with first_key (flat_map part_rows parts) k)) us) ks
+      ∙ (ap (λ us. map (λ k. group_row sums rs (group_with first_key (flat_map part_rows parts) k)) us) (same_keys parts)
       ∙ (map_same (λ k. group_row sums rs (group_with first_key (flat_map part_rows parts) k)) (λ k. group_row aggs rs (group_with key (joined parts) k)) (distinct (map key (joined parts)))
       (λ k h. one_group k parts (width_in (joined parts) k h) h)
       ∙ sym (group_rows_are rs aggs key (joined parts))))

@@ -4,22 +4,22 @@ use Rattle.std.specs.Prelude.{filter, not, ◌+◌, ◌⊎◌, ◌&&◌, ◌||�
 use Rattle.std.specs.List.{flat_map}
 use Rattle.std.proofs.lemmas.Bool.{eqb-true, eq-eqb}
 use Rattle.cq_tree.specs.declared.query.FromTree.{FromTree, Table, Sub', Result, Cross', Inner', Left', more_of-FromTree, end_of-FromTree, more_of-Query, end_of-Query}
-use Rattle.cq_tree.specs.declared.query.Query.{Query, Query'}
-use Rattle.cq_meaning.specs.Values.{Row, Tables}
+use Rattle.cq_tree.specs.declared.query.Query.{Query, Query', out-Query}
+use Rattle.cq_meaning.specs.Values.{Row, Tables, table_rows}
 use Rattle.cq_meaning.specs.Expressions.{keeps}
 use Rattle.cq_meaning.specs.Joins.{product, left_join}
 use Rattle.cq_meaning.specs.Queries.{columns_in, joins, from_rows, AnswersWith}
-use Rattle.cq_meaning.proofs.Reorder.{Reordered}
+use Rattle.cq_meaning.proofs.Reorder.{Reordered, same}
 use Rattle.cq_meaning.specs.Lists.{Has}
 use Rattle.cq_tree.specs.declared.plan.Combine.{Combine}
 use Rattle.cq_task_laws.specs.Partial.{partial}
 use Rattle.cq_task_laws.specs.Merging.{GathersTo, joined}
-use Rattle.cq_task_laws.specs.Gathering.{AllAnswer, ShareNo}
+use Rattle.cq_task_laws.specs.Gathering.{AllAnswer, AnswersOver, Serves, ShareNo}
 use Rattle.cq_task_laws.specs.Cutting.{Relation, Joins, only, inner, left, width_of, all_rows, rows_at, is_here, AllFit, stands, RightsStand, Located, AreDistinct}
-use Rattle.cq_task_laws.specs.Tasks.{Side, joins_of, has_cut, IsPlaced, AnswersAt, TasksServe}
+use Rattle.cq_task_laws.specs.Tasks.{Side, joins_of, has_cut, IsPlaced, AnswersAt, AnswerEach, parts_of, TasksServe}
 use Rattle.cq_meaning.proofs.RowLaws.{filter_all, true_not_false, has_either}
-use Rattle.cq_task_laws.proofs.Opened.{from_of, over_from}
-use Rattle.cq_task_laws.proofs.PartLaws.{flat_map_same, flat_map_of_map}
+use Rattle.cq_task_laws.proofs.Opened.{from_of, from_is, over_from}
+use Rattle.cq_task_laws.proofs.PartLaws.{flat_map_filter, flat_map_same, flat_map_of_map}
 use Rattle.cq_task_laws.proofs.CutLaws.{cut_law, other}
 use Rattle.cq_task_laws.proofs.GatherLaws.{gather}
 
@@ -124,3 +124,23 @@ share_no key place part (i ∷ indices) d h = (
       | inl a ↦ (j, inl refl, a)
       | inr c ↦ (let u : (k : ℕ) × Has js k × Has (part k) y = in_part js y c in (u.0, inr u.1, u.2))
     ]
+
+-- a block over one table, of which each task reads a part
+pub parts_over : (q : Query) (kind : Combine) (table columns : ℕ) (rs : List (List Row)) → from_of q ≡ Table table columns → (dbs : List Tables) (answers : List (List Row)) → AnswerEach (partial kind q) rs dbs answers → AllAnswer (partial kind q) rs (parts_of table dbs) answers
+parts_over q kind table columns rs e [] [] h = tt
+parts_over q kind table columns rs e [] (a ∷ answers) h = absurd h
+parts_over q kind table columns rs e (db ∷ dbs) [] h = absurd h
+parts_over q kind table columns rs e (db ∷ dbs) (a ∷ answers) h =
+    (subst (λ rows. AnswersOver (partial kind q) rs rows a) (ap (λ f. from_rows f 0 db rs) e) (over_from q kind db rs a h.0), parts_over q kind table columns rs e dbs answers h.1)
+
+pub one_table : (kind : Combine) (q : Query) (table columns : ℕ) (db : Tables) (rs : List (List Row)) (dbs : List Tables) (answers : List (List Row)) (rows : List Row) →
+    (out-Query q).from ≡ Table table columns → table_rows db table ≡ joined (parts_of table dbs) → Serves kind q rs (parts_of table dbs) →
+    AnswerEach (partial kind q) rs dbs answers → GathersTo kind q rs answers rows → AnswersWith q db rs rows
+one_table kind (Query' cs ctes ss subs from filter_ grouped keys aggs having items shown distinct order limit offset names) table columns db rs dbs answers rows is whole serves given gathers =
+    let q : Query = Query' cs ctes ss subs from filter_ grouped keys aggs having items shown distinct order limit offset names in
+    let parts : List (List Row) = parts_of table dbs in
+    let e : from ≡ Table table columns = sym (from_is q) ∙ is in
+    let w : from_rows from 0 db rs ≡ joined parts = ap (λ f. from_rows f 0 db rs) e ∙ whole in
+    gather kind q rs parts answers (from_rows from 0 db rs) rows
+    (subst (λ us. Reordered (filter (keeps filter_ rs) (from_rows from 0 db rs)) us) (ap (filter (keeps filter_ rs)) w ∙ flat_map_filter (keeps filter_ rs) (λ p. p) parts) (same (filter (keeps filter_ rs) (from_rows from 0 db rs))))
+    serves (parts_over q kind table columns rs e dbs answers given) gathers

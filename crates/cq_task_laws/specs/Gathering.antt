@@ -1,5 +1,5 @@
 -- When the rows of a block can be made of those of its tasks.
-use Rattle.std.specs.Prelude.{◌≡◌, List, [], ◌∷◌, map, filter, ⊤, true, ◌⊎◌}
+use Rattle.std.specs.Prelude.{◌≡◌, List, [], ◌∷◌, map, filter, ⊤, Bool, true, ◌⊎◌}
 use Rattle.std.specs.List.Sorted.{IsPermutation, IsSorted}
 use Rattle.cq_tree.specs.declared.plan.Combine.{Combine}
 use Rattle.cq_tree.specs.declared.plan.Combine.TheVariants.{Nothing, RowsOnly, Groups}
@@ -9,6 +9,8 @@ use Rattle.cq_meaning.specs.Values.{Row, Results}
 use Rattle.cq_meaning.specs.Expressions.{keeps, items_of}
 use Rattle.cq_meaning.specs.Groups.{distinct_if}
 use Rattle.cq_meaning.specs.Sorting.{keys_cmp, cut}
+use Rattle.cq_meaning.specs.Limits.{has_large_group}
+use Rattle.cq_meaning.specs.Safety.{AreSafeItems}
 use Rattle.cq_meaning.specs.Queries.{item_rows}
 use Rattle.cq_task_laws.specs.Merging.{joined}
 
@@ -31,6 +33,14 @@ AnswersOver q results from rows = IsCutOf q (full_over q results from) rows
 -- the rows that WHERE keeps
 abbrev pub kept_of : Query → Results → List Row → List Row
 kept_of (Query' cs ctes ss subs from filter_ grouped keys aggs having items shown distinct order limit offset names) results rows = filter (keeps filter_ results) rows
+
+-- it needs no more than 128 bits over these rows, and the columns are there
+abbrev pub IsSafeOver : Query → Results → List Row → Type 0
+IsSafeOver (Query' cs ctes ss subs from filter_ grouped keys aggs having items shown distinct order limit offset names) results rows = AreSafeItems filter_ grouped keys aggs having items results rows
+
+-- whether it has a group of more than 2^31 rows
+abbrev pub has_large_over : Query → Results → List Row → Bool
+has_large_over (Query' cs ctes ss subs from filter_ grouped keys aggs having items shown distinct order limit offset names) results rows = has_large_group filter_ grouped keys results rows
 
 -- ---- when it serves
 

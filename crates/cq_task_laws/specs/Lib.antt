@@ -1,5 +1,6 @@
 pub mod Partial
 pub mod Merging
+pub mod Counting
 pub mod Gathering
 pub mod Cutting
 pub mod Tasks

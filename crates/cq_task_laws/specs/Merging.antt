@@ -102,10 +102,14 @@ is_above_limit (Text t) = false
 abbrev pub is_large_together : ℕ → Results → Group → Bool
 is_large_together at results g = is_large_group g || is_above_limit (aggregate results g.rows (agg.Sum (Column at)))
 
--- whether a block that groups has a group of more than 2^31 rows over all tasks, by the counts that the tasks' rows carry
+-- whether one of the groups of tasks' rows is
+abbrev pub has_large_groups : Query → Results → List Row → Bool
+has_large_groups q results rows =
+    let p = out-Query q in
+    list_any (is_large_together (length p.keys + length p.aggs) results) (groups_of (columns_from 0 (length p.keys)) results rows)
+
+-- whether a block has a group of more than 2^31 rows over all tasks, by the counts that the tasks' rows carry
 abbrev pub has_large_together : Combine → Query → Results → List (List Row) → Bool
 has_large_together Nothing q results parts = false
 has_large_together RowsOnly q results parts = false
-has_large_together Groups q results parts =
-    let p = out-Query q in
-    if p.grouped then list_any (is_large_together (length p.keys + length p.aggs) results) (groups_of (columns_from 0 (length p.keys)) results (joined parts)) else false
+has_large_together Groups q results parts = if (out-Query q).grouped then has_large_groups q results (joined parts) else false

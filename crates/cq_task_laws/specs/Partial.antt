@@ -1,5 +1,5 @@
 -- What each task of a block computes over its part of the rows (Citus, "Query Processing").
-use Rattle.std.specs.Prelude.{ℕ, zero, suc, ◌+◌, List, [], ◌∷◌, ◌++◌, length, true, false, if◌then◌else◌, None}
+use Rattle.std.specs.Prelude.{ℕ, zero, suc, ◌+◌, List, [], ◌∷◌, ◌++◌, length, Bool, true, false, if◌then◌else◌, None}
 use Rattle.cq_tree.specs.declared.expression.Expr.{Expr, Column}
 use Rattle.cq_tree.specs.declared.expression.Cond.{Always}
 use Rattle.cq_tree.specs.declared.plan.Combine.{Combine}
@@ -12,13 +12,9 @@ abbrev pub columns_from : ℕ → ℕ → List Expr
 columns_from at zero = []
 columns_from at (suc n) = Column at ∷ columns_from (suc at) n
 
--- all items of a query are outputs, without ORDER BY, LIMIT, OFFSET and names
-abbrev pub with_all_items : Query → Query
-with_all_items q = let p = out-Query q in roll-Query (record p { shown = length p.items; order = []; limit = None; offset = 0; names = [] })
-
--- and they are DISTINCT
-abbrev pub with_distinct_items : Query → Query
-with_distinct_items q = let p = out-Query q in roll-Query (record p { shown = length p.items; distinct = true; order = []; limit = None; offset = 0; names = [] })
+-- all items of a query are outputs, without ORDER BY, LIMIT, OFFSET and names, and with DISTINCT if it is asked for
+abbrev pub with_all_items : Bool → Query → Query
+with_all_items distinct q = let p = out-Query q in roll-Query (record p { shown = length p.items; distinct = distinct; order = []; limit = None; offset = 0; names = [] })
 
 -- the columns of a group's row: its keys, its aggregates, and the number of its rows
 abbrev pub group_columns : Query → ℕ
@@ -47,5 +43,5 @@ with_counted_groups q = let p = out-Query q in roll-Query (record {
 -- the query that each task of a block computes
 abbrev pub partial : Combine → Query → Query
 partial Nothing q = q
-partial RowsOnly q = with_all_items q
-partial Groups q = if (out-Query q).grouped then with_counted_groups q else with_distinct_items q
+partial RowsOnly q = with_all_items (out-Query q).distinct q
+partial Groups q = if (out-Query q).grouped then with_counted_groups q else with_all_items true q

@@ -4,7 +4,7 @@ use Rattle.cq_tree.specs.declared.plan.Combine.{Combine}
 use Rattle.cq_tree.specs.declared.query.FromTree.{FromTree, Table, Sub', Result, Cross', Inner', Left', more_of-FromTree, end_of-FromTree, more_of-Query, end_of-Query}
 use Rattle.cq_tree.specs.declared.query.Query.{Query, Query'}
 use Rattle.cq_meaning.specs.Lists.{Has}
-use Rattle.cq_meaning.specs.Values.{Row, Results, Tables}
+use Rattle.cq_meaning.specs.Values.{Row, Results, Tables, table_rows}
 use Rattle.cq_meaning.specs.Expressions.{keeps}
 use Rattle.cq_meaning.specs.Queries.{columns_in, joins, from_rows, AnswersWith}
 use Rattle.cq_task_laws.specs.Cutting.{Relation, Joins, only, inner, left, IsChoice, stands, RightsStand, AllFit, AreDistinct}
@@ -63,3 +63,14 @@ TasksServe side kind (Query' cs ctes ss subs from filter_ grouped keys aggs havi
     let f = joins_of side db dbs results 0 from in
     AreDistinct indices × AllFit f indices × IsPlaced f (keeps filter_ results) indices
     × Serves kind (Query' cs ctes ss subs from filter_ grouped keys aggs having items shown distinct order limit offset names) results (map (λ i. from_rows from 0 (dbs i) results) indices)
+
+-- an answer for each of the tables that the tasks read, in their order
+abbrev pub AnswerEach : Query → Results → List Tables → List (List Row) → Type 0
+AnswerEach q results [] [] = ⊤
+AnswerEach q results [] (a ∷ answers) = ⊥
+AnswerEach q results (db ∷ dbs) [] = ⊥
+AnswerEach q results (db ∷ dbs) (a ∷ answers) = AnswersWith q db results a × AnswerEach q results dbs answers
+
+-- the parts of a table that the tasks read
+abbrev pub parts_of : ℕ → List Tables → List (List Row)
+parts_of table dbs = map (λ db. table_rows db table) dbs

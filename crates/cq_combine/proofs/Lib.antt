@@ -1,0 +1,2 @@
+pub mod LargeLaws
+pub mod StepLaws

@@ -1,0 +1,10 @@
+//! The query that each task of a block computes, and how the block's rows are made of the rows of its tasks.
+#![tactic(auto)]
+
+mod gathering;
+mod memory;
+mod queries;
+mod tasks;
+
+pub use gathering::{RowsList, combine};
+pub use tasks::partial;

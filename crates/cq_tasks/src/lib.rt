@@ -1,0 +1,6 @@
+//! Blocks that tasks compute: each task over what it reads, and the block's rows made of those of the tasks.
+#![tactic(auto)]
+
+mod execution;
+
+pub use execution::{run_by_tasks, run_over_table};
