@@ -1,6 +1,8 @@
 pub mod Through
 pub mod Zips
 pub mod Turns
+pub mod MoveLaws
+pub mod IncomingLaws
 pub mod Staging
 pub mod TableLaws
 pub mod GroupLaws
@@ -9,6 +11,8 @@ pub mod ReadLaws
 pub mod WriteLaws
 pub mod CommitLaws
 pub mod AddLaws
+pub mod MoveLaws
+pub mod IncomingLaws
 pub mod DropLaws
 pub mod Cases
 pub mod KeyLaws
