@@ -11,13 +11,16 @@ use Rattle.cq_change.specs.declared.log.TableChange.{TableChange}
 use Rattle.cq_change.specs.Logs.{changes_in}
 use Rattle.cq_store.specs.Stores.{StoreState, Becomes}
 use Rattle.cq_group.specs.declared.group.GroupError.{GroupError}
+use Rattle.cq_group.specs.declared.group.GroupError.TheVariants.{Worker, Memory}
 use Rattle.cq_group.specs.declared.incoming.IncomingTable.{IncomingTable}
 use Rattle.cq_group.specs.declared.incoming.Incoming.{Incoming}
 use Rattle.cq_group.specs.Groups.{Outline}
 use Rattle.cq_group.specs.Calls.{Rests, Stages, Commits, GoesOn, Lifted, Blames, Takes, IsThrough, SomeZip, Failed}
 use Rattle.cq_group.specs.Incoming.{IsArriving, IsIncomingTable, arriving, IsIncoming, IsSettled, CanSettle, Makes, IsSettledTable, IsWaitingTable, IsSettledOrWaits, with_due}
 use Rattle.cq_group.proofs.Turns.{rests, rests_go_on}
-use Rattle.cq_group.proofs.Zips.{zip_trans, zip_weaker, zip_set, zip_refl, zip_flat, some_flat, all_along}
+use Rattle.cq_group.proofs.TableLaws.{blames_later}
+use Rattle.cq_group.proofs.Through.{through_both}
+use Rattle.cq_group.proofs.Zips.{zip_trans, zip_weaker, zip_set, zip_refl, zip_flat, some_flat, some_set, all_along}
 
 pub makes : (changes : List Change) (s t u : StoreState) → Stages changes s t → Commits t u → Makes changes s u
 makes changes s t u h k = record {
@@ -150,3 +153,40 @@ cleared log [] zero h = refl
 cleared log [] (suc n) h = refl
 cleared log (t ∷ ts) zero h = λ i. record t { pending = sym h.0 i } ∷ cleared log ts zero h.1 i
 cleared log (t ∷ ts) (suc n) h = λ i. record t { pending = sym h.0 i } ∷ cleared log ts n h.1 i
+
+-- what held of each element when a walk began holds of the next one
+pub through_next : {Y : Type 0} (R : Y → Y → Type 0) (P : Y → Type 0) (n : ℕ) (xs ys : List Y) (y : Y) → IsThrough R n xs ys → n < length ys → y ≡ get_or ys n y → AllByRecursion P xs → P y
+through_next R P n xs [] y h low is all = absurd (omega (arith, low))
+through_next R P zero [] (w ∷ ys) y h low is all = absurd (cc (h.rest))
+through_next R P zero (x ∷ xs) (w ∷ ys) y h low is all =
+    let same : w ∷ ys ≡ x ∷ xs = h.rest in
+    let first : x ≡ w = cc same in
+    subst P (sym is) (subst P first all.0)
+through_next R P (suc n) [] (w ∷ ys) y h low is all = absurd (h.done)
+through_next R P (suc n) (x ∷ xs) (w ∷ ys) y h low is all = through_next R P n xs ys y (record { done = h.done.1; rest = h.rest }) (omega (arith, low)) is all.1
+
+module _ {X : Type 0} (state : X → StoreState) where
+  -- an error of a store that comes in
+  pub blames_arriving : (e : GroupError) (n : ℕ) (ts us : List (IncomingTable X)) (u v : IncomingTable X) → IsThrough (IsSettledTable state) n ts us → n < length us → u ≡ get_or us n u → IsWaitingTable state u v →
+      Blames state e u.stores.items v.stores.items → Blames state e (flat_map (λ (t : IncomingTable X). t.stores.items) ts) (flat_map (λ (t : IncomingTable X). t.stores.items) (set us n v))
+  blames_arriving Memory n ts us u v h low is w b = tt
+  blames_arriving (Worker node shard before after) n ts us u v h low is w b =
+      let items : IncomingTable X → List X = λ t. t.stores.items in
+      let G : X → X → Type 0 = Lifted state GoesOn in
+      let F : X → X → Type 0 = Lifted state (Failed node shard before after) in
+      let stay : (t : IncomingTable X) → AllZip G (items t) (items t) = λ t. zip_refl G (λ x. rests_go_on (state x) (state x) (rests (state x))) (items t) in
+      let now : AllZip (λ t r. AllZip G (items t) (items r)) us (set us n v) =
+      zip_set (λ t r. AllZip G (items t) (items r)) stay us n u v low is (zip_weaker (Lifted state Rests) G (λ x y. rests_go_on (state x) (state y)) u.stores.items v.stores.items w.stores) in
+      blames_later state (Worker node shard before after) (flat_map items ts) (flat_map items us) (flat_map items (set us n v))
+      (zip_flat G items ts us (through_both (IsSettledTable state) (λ t r. AllZip G (items t) (items r))
+      (λ t r k. zip_weaker (Lifted state (Makes t.pending)) G (λ x y. makes_go_on t.pending (state x) (state y)) t.stores.items r.stores.items k.stores) stay n ts us h))
+      (some_flat G F items us (set us n v) now (some_set (λ t r. SomeZip F (items t) (items r)) us n u v low is b))
+
+-- a walk that is through
+pub through_end : {Y : Type 0} (R : Y → Y → Type 0) (n : ℕ) (xs ys : List Y) → IsThrough R n xs ys → length ys ≤ n → AllZip R xs ys
+through_end R zero xs [] h low = subst (λ zs. AllZip R zs []) (let same : [] ≡ xs = h.rest in same) tt
+through_end R zero xs (y ∷ ys) h low = absurd (omega (arith, low))
+through_end R (suc n) [] [] h low = tt
+through_end R (suc n) [] (y ∷ ys) h low = absurd (h.done)
+through_end R (suc n) (x ∷ xs) [] h low = absurd (h.done)
+through_end R (suc n) (x ∷ xs) (y ∷ ys) h low = (h.done.0, through_end R n xs ys (record { done = h.done.1; rest = h.rest }) (omega (arith, low)))

@@ -3,6 +3,10 @@ pub mod Zips
 pub mod Turns
 pub mod MoveLaws
 pub mod IncomingLaws
+pub mod SnapshotLaws
+pub mod MoveEntries
+pub mod StartLaws
+pub mod CutoverLaws
 pub mod Staging
 pub mod TableLaws
 pub mod GroupLaws
@@ -13,6 +17,10 @@ pub mod CommitLaws
 pub mod AddLaws
 pub mod MoveLaws
 pub mod IncomingLaws
+pub mod SnapshotLaws
+pub mod MoveEntries
+pub mod StartLaws
+pub mod CutoverLaws
 pub mod DropLaws
 pub mod Cases
 pub mod KeyLaws

@@ -18,7 +18,8 @@ use Rattle.cq_group.specs.declared.group.GroupError.TheVariants as error
 use Rattle.cq_group.specs.declared.incoming.IncomingTable.{IncomingTable}
 use Rattle.cq_group.specs.declared.incoming.Incoming.{Incoming}
 use Rattle.cq_group.specs.declared.start.MoveWhy.{MoveWhy}
-use Rattle.cq_group.specs.declared.start.MoveWhy.TheVariants.{Moving, NotThere, SameNode, Worker, Memory}
+use Rattle.cq_group.specs.declared.start.MoveWhy.TheVariants as why
+use Rattle.cq_group.specs.declared.moving.Moving.{Moving}
 use Rattle.cq_group.specs.Groups.{Outline, outlines, journal_of, entries_of, stores_of}
 use Rattle.cq_group.specs.Calls.{Rests, Lifted, Blames, Takes}
 
@@ -125,8 +126,41 @@ pub record CanStart {X : Type 0} (g : GroupState X) (to from : ℕ) : Type 0 whe
 
 -- why a move didn't begin, in this order
 abbrev pub RefusesMove : {X : Type 0} → (X → StoreState) → GroupState X → GroupState X → ℕ → ℕ → MoveWhy → Type 0
-RefusesMove state old new to from (Moving by) = moving_of (journal_of old) ≡ Some by
-RefusesMove state old new to from (NotThere node) = (moving_of (journal_of old) ≡ None) × (node ≡ old.node) × (node ≢ from)
-RefusesMove state old new to from (SameNode node) = (moving_of (journal_of old) ≡ None) × (node ≡ old.node) × (node ≡ from) × (node ≡ to)
-RefusesMove state old new to from (Worker node shard before after) = CanStart old to from × Blames state (error.Worker node shard before after) (stores_of old) (stores_of new)
-RefusesMove state old new to from Memory = CanStart old to from
+RefusesMove state old new to from (why.Moving by) = moving_of (journal_of old) ≡ Some by
+RefusesMove state old new to from (why.NotThere node) = (moving_of (journal_of old) ≡ None) × (node ≡ old.node) × (node ≢ from)
+RefusesMove state old new to from (why.SameNode node) = (moving_of (journal_of old) ≡ None) × (node ≡ old.node) × (node ≡ from) × (node ≡ to)
+RefusesMove state old new to from (why.Worker node shard before after) = CanStart old to from × Blames state (error.Worker node shard before after) (stores_of old) (stores_of new)
+RefusesMove state old new to from why.Memory = CanStart old to from
+
+-- what an error tells of a move that it kept from beginning
+abbrev pub why_told : GroupError → MoveWhy
+why_told (error.Worker node shard before after) = why.Worker node shard before after
+why_told error.Memory = why.Memory
+
+-- what comes in is as it was
+pub record IsSameIncoming {X : Type 0} (old new : Incoming X) : Type 0 where
+  pub tables : new.tables.items ≡ old.tables.items
+  pub due : new.due ≡ old.due
+  pub room : new.room ≡ old.room
+
+-- the log of a move
+abbrev pub move_log : Option Moving → List TableChange
+move_log None = []
+move_log (Some m) = m.log.list
+
+-- tables with the stores that came in for them, and what came in with the stores that the tables had
+abbrev pub with_stores : {X : Type 0} → List (GroupTable X) → List (IncomingTable X) → List (GroupTable X)
+with_stores [] us = []
+with_stores (t ∷ ts) [] = t ∷ ts
+with_stores (t ∷ ts) (u ∷ us) = record t { stores = u.stores } ∷ with_stores ts us
+
+abbrev pub without_stores : {X : Type 0} → List (GroupTable X) → List (IncomingTable X) → List (IncomingTable X)
+without_stores [] us = us
+without_stores (t ∷ ts) [] = []
+without_stores (t ∷ ts) (u ∷ us) = record u { stores = t.stores } ∷ without_stores ts us
+
+-- a group that went to another node: its number, its opening and its nodes stay
+pub record IsExchanged {X : Type 0} (old new : GroupState X) : Type 0 where
+  pub number : new.journal.group ≡ old.journal.group
+  pub opening : new.journal.opening ≡ old.journal.opening
+  pub nodes : new.nodes ≡ old.nodes

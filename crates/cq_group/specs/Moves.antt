@@ -129,3 +129,15 @@ Logs table changes None None = ⊤
 Logs table changes None (Some new) = ⊥
 Logs table changes (Some old) None = ⊥
 Logs table changes (Some old) (Some new) = HasLogged table changes old new
+
+-- the log of a move in flight is empty
+pub record HasNoLog (old new : Moving) : Type 0 where
+  pub who : new.who ≡ old.who
+  pub to : new.to ≡ old.to
+  pub log : new.log.list ≡ []
+
+abbrev pub IsCleared : Option Moving → Option Moving → Type 0
+IsCleared None None = ⊤
+IsCleared None (Some new) = ⊥
+IsCleared (Some old) None = ⊥
+IsCleared (Some old) (Some new) = HasNoLog old new

@@ -1,6 +1,15 @@
+ghost use Rattle.std.specs.Prelude.{◌≡◌, ◌+◌, ◌<◌, ◌≤◌, [], ◌∷◌, ◌++◌, length, map, Some, IsSome, OnOk, OnErr, IfOk, IfErr};
+ghost use Rattle.std.specs.List.{AllZip};
+ghost use Rattle.cq_journal.specs.Stations.{station_of, moving_of};
+ghost use Rattle.cq_group.specs.Groups.{outlines, entries_of, stores_of, journal_of};
+ghost use Rattle.cq_group.specs.Calls.{GoesOn, Lifted, Blames, GroupGoesOn};
+ghost use Rattle.cq_group.specs.Moves.{upto_move, changed_since};
+ghost use Rattle.cq_group.specs.Resting.{IsResting};
+ghost use Rattle.cq_group.specs.Incoming.{IsIncoming, IsSettled, IsSameIncoming, IsExchanged, arriving, with_due, with_stores, without_stores, move_log};
+
 use crate::group::{GroupError, GroupState, GroupTable};
 use crate::incoming::{Incoming, IncomingTable};
-use crate::moving::Moving;
+use crate::moving::{Moving, clear_log, target_of};
 use cq_store::Store;
 use cq_tree::{Entry, EntryKind, Who};
 use cq_value::NoMemory;
@@ -22,7 +31,11 @@ pub struct MoveFailed<S> {
 }
 
 /// Exchanges the stores of tables for those that came in for them.
-fn exchange<S>(tables: &mut Vec<GroupTable<S>>, arrived: &mut Vec<IncomingTable<S>>) {
+fn exchange<S>(tables: &mut Vec<GroupTable<S>>, arrived: &mut Vec<IncomingTable<S>>)
+    requires { length tables.old.items ≡ length arrived.old.items }
+    ensures tables { tables.new.items ≡ with_stores tables.old.items arrived.old.items }
+    ensures arrived { arrived.new.items ≡ without_stores tables.old.items arrived.old.items }
+{
     for place in 0..tables.len() {
         mem::swap(&mut tables[place].stores, &mut arrived[place].stores);
     }
@@ -33,7 +46,15 @@ fn fetch_log<S: Store>(
     alloc: Global,
     moving: &Option<Moving>,
     incoming: &mut Incoming<S>,
-) -> Result<(), NoMemory> {
+) -> Result<(), NoMemory>
+    requires in_flight { IsSome moving.now }
+    requires settled { IsSettled incoming.old }
+    ensures ok { OnOk result (incoming.new.tables.items ≡ map (with_due (move_log moving.now)) incoming.old.tables.items) }
+    ensures due { OnOk result (incoming.new.due ≡ length (move_log moving.now)) }
+    ensures err { OnErr result (incoming.new.tables.items ≡ incoming.old.tables.items) }
+    ensures undue { OnErr result (incoming.new.due ≡ incoming.old.due) }
+    ensures room { incoming.new.room ≡ incoming.old.room }
+{
     match moving {
         Some(moving) => incoming.fetch(alloc, &moving.log),
         None => unreachable!(),
@@ -51,12 +72,24 @@ impl<S: Store> GroupState<S> {
         alloc: Global,
         who: Who,
         incoming: &mut Incoming<S>,
-    ) -> Result<u64, NoMemory> {
+    ) -> Result<u64, NoMemory>
+        requires resting { IsResting S.state self.old }
+        requires mover { moving_of (journal_of self.old) ≡ Some who }
+        requires incoming { IsIncoming S.state (station_of (journal_of self.old)).target (upto_move (entries_of self.old)) (outlines self.old) incoming.old }
+        requires settled { IsSettled incoming.old }
+        ensures changes { IfOk result (λ n. n ≡ changed_since (entries_of self.old)) }
+        ensures due { IfOk result (λ n. n ≡ incoming.new.due) }
+        ensures entry { OnOk result (entries_of self.new ≡ entries_of self.old ++ record { who = who; kind = EntryKind.CatchUp } ∷ []) }
+        ensures incoming { OnOk result (IsIncoming S.state (station_of (journal_of self.old)).target (entries_of self.new) (outlines self.old) incoming.new) }
+        ensures stores { arriving incoming.new ≡ arriving incoming.old }
+        ensures err { OnErr result (entries_of self.new ≡ entries_of self.old) }
+        ensures kept { OnErr result (IsSameIncoming incoming.old incoming.new) }
+        ensures resting { IsResting S.state self.new }
+        ensures goes_on { GroupGoesOn S.state self.old self.new }
+    {
         self.journal.entries.reserve(2)?;
         fetch_log(alloc, &self.moving, incoming)?;
-        if let Some(moving) = &mut self.moving {
-            moving.log.take();
-        }
+        clear_log(&mut self.moving);
         self.journal.entries.push(Entry {
             who,
             kind: EntryKind::CatchUp,
@@ -74,7 +107,24 @@ impl<S: Store> GroupState<S> {
         alloc: Global,
         who: Who,
         incoming: Incoming<S>,
-    ) -> Result<Exchanged<S>, MoveFailed<S>> {
+    ) -> Result<Exchanged<S>, MoveFailed<S>>
+        requires resting { IsResting S.state self.old }
+        requires mover { moving_of (journal_of self.old) ≡ Some who }
+        requires incoming { IsIncoming S.state (station_of (journal_of self.old)).target (upto_move (entries_of self.old)) (outlines self.old) incoming }
+        requires settled { IsSettled incoming }
+        ensures last { IfOk result (λ e. e.last ≡ changed_since (entries_of self.old)) }
+        ensures old { IfOk result (λ e. e.stores.items ≡ stores_of self.old) }
+        ensures new { OnOk result (AllZip (Lifted S.state GoesOn) (arriving incoming) (stores_of self.new)) }
+        ensures entry { OnOk result (entries_of self.new ≡ entries_of self.old ++ record { who = who; kind = EntryKind.Cutover } ∷ []) }
+        ensures node { OnOk result (self.new.node ≡ (station_of (journal_of self.old)).target) }
+        ensures tables { OnOk result (outlines self.new ≡ outlines self.old) }
+        ensures same { OnOk result (IsExchanged self.old self.new) }
+        ensures err { OnErr result (self.new ≡ self.old) }
+        ensures blame { IfErr result (λ e. Blames S.state e.why (arriving incoming) (arriving e.incoming)) }
+        ensures failed { IfErr result (λ e. AllZip (Lifted S.state GoesOn) (arriving incoming) (arriving e.incoming)) }
+        ensures room { IfErr result (λ e. e.incoming.room ≡ incoming.room) }
+        ensures resting { IsResting S.state self.new }
+    {
         let mut incoming = incoming;
         if fetch_log(alloc, &self.moving, &mut incoming).is_err() {
             return Err(MoveFailed {
@@ -91,9 +141,8 @@ impl<S: Store> GroupState<S> {
             who,
             kind: EntryKind::Cutover,
         });
-        if let Some(moving) = self.moving.take() {
-            self.node = moving.to;
-        }
+        self.node = target_of(&self.moving);
+        self.moving = None;
         Ok(Exchanged {
             stores: incoming.into_stores(),
             last,
@@ -103,7 +152,13 @@ impl<S: Store> GroupState<S> {
     /// Ends the move in flight with a MoveStop. Takes no memory.
     ///
     /// Conditions: this statement began the move that is in flight.
-    pub fn stop_move(&mut self, who: Who) {
+    pub fn stop_move(&mut self, who: Who)
+        requires resting { IsResting S.state self.old }
+        requires mover { moving_of (journal_of self.old) ≡ Some who }
+        ensures entry { entries_of self.new ≡ entries_of self.old ++ record { who = who; kind = EntryKind.MoveStop } ∷ [] }
+        ensures resting { IsResting S.state self.new }
+        ensures goes_on { GroupGoesOn S.state self.old self.new }
+    {
         self.journal.entries.push(Entry {
             who,
             kind: EntryKind::MoveStop,

@@ -63,8 +63,8 @@ returns-clause-ready g c =
     let two : 2 ≤ c.reserve.new.self.room = search rules in
     let room : 1 < c.reserve.new.self.room = omega (arith, two) in
     if_ok_three c.stage.result (λ reply. reply ≡ reply_of c.args.op.now (first_rows state t.stores.items) t.shape)
-    (AllByRecursion (λ x. IsStagedIn true c.args.op.now t.shape (state x)) c.stage.new.self.stores.items) _
-    (KeepsChanges c.args.op.now (first_rows state t.stores.items) t.shape c.stage.new.moving)
+    (AllByRecursion (λ x. IsStagedIn true c.args.op.now t.shape (state x)) c.stage.new.self.stores.items)
+    (KeepsChanges c.args.op.now (first_rows state t.stores.items) t.shape c.stage.new.moving) _
     (λ reply replied staged logged.
     ready state group c.requires.kept c.args.place (table_of c.args.op.now) t c.requires.within is named _ c.args.op.now c.stage.new.self reply refl c.requires.quiet c.stage.ensures.same staged replied
     c.requires.ids (record { node = refl; nodes = refl; room = refl; moving = c.stage.ensures.moving; tables = keeps }) refl c.reserve.ensures.list room logged)
