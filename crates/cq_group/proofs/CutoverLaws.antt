@@ -58,6 +58,9 @@ shapes_found all (o ∷ os) d f = (
 pub found_all : (os : List Outline) → AreDistinct os → AllByRecursion (λ (o : Outline). shape_at os o.0 ≡ Some o.1) os
 found_all os d = shapes_found os os d (λ table s. refl)
 
+node_here : (node : ℕ) → 0 < node → node_at node 0 ≡ node
+node_here node some = elim (eqb_tells node 0) [ inl p ↦ absurd (let zero_node = p.1 in omega (arith, some, zero_node)) | inr p ↦ ap (λ b. if b then 0 + 1 else node) p.0 ]
+
 module _ {X : Type 0} (state : X → StoreState) where
   -- what comes in, where the entries leave the same
   unmoved_table : (node : ℕ) (es more : List Entry) (o : Outline) (t : IncomingTable X) → replay o.0 o.1 more ≡ replay o.0 o.1 es → IsIncomingTable state node es o t → IsIncomingTable state node more o t
@@ -175,7 +178,7 @@ module _ {X : Type 0} (state : X → StoreState) where
   settled_replica node es table shape shard count pending [] some none one h = tt
   settled_replica node es table shape shard count pending (x ∷ []) some none one h = (
     record {
-      of_node = h.0.of_node ∙ sym (ap (λ b. if b then 0 + 1 else node) (elim (eqb_tells node 0) [ inl p ↦ absurd (omega (arith, some, p.1)) | inr p ↦ p.0 ]));
+      of_node = h.0.of_node ∙ sym (node_here node some);
       of_shard = h.0.of_shard;
       holds = subst (λ cs. applied (state x).rows cs ≡ replay table shape es) none h.0.gives;
     },
@@ -225,7 +228,7 @@ pub target_found : (shapes : ℕ → Shape) (j : Journal) (node room : ℕ) (o :
 target_found shapes j node room None n h s e = absurd (cc s)
 target_found shapes j node room (Some m) n h s e = e ∙ sym h.target
 
-one_copy : (node nodes : ℕ) → 0 < node → (if nat_eq node 0 then nodes else 1) ≡ 1
+pub one_copy : (node nodes : ℕ) → 0 < node → (if nat_eq node 0 then nodes else 1) ≡ 1
 one_copy node nodes some = elim (eqb_tells node 0) [ inl p ↦ absurd (omega (arith, some, p.1)) | inr p ↦ ap (λ b. if b then nodes else 1) p.0 ]
 
 module _ {X : Type 0} (state : X → StoreState) where

@@ -1,5 +1,5 @@
 -- What comes in: settled, fetched and handed back.
-use Rattle.std.proofs.Common.{◌≡◌, ◌∙◌, ◌+◌, ◌<◌, ◌≤◌, ◌⊎◌, inl, inr, ℕ, zero, suc, IsTrue, List, [], ◌∷◌, ◌++◌, length, map, take, drop, get_or, refl, sym, ap, subst, vec_capacity, OnOk, Result, Ok, Err, length-append, arith}
+use Rattle.std.proofs.Common.{◌≡◌, ◌∙◌, ◌+◌, ◌<◌, ◌≤◌, ◌⊎◌, inl, inr, ℕ, zero, suc, IsTrue, List, [], ◌∷◌, ◌++◌, length, map, take, drop, get_or, refl, sym, ap, subst, vec_capacity, OnOk, OnErr, Result, Ok, Err, length-append, arith}
 use Rattle.std.proofs.Math.ListN.{set}
 use Rattle.std.specs.List.{AllByRecursion, AllZip, flat_map}
 use Rattle.std.proofs.lemmas.List.{map-append}
@@ -190,3 +190,12 @@ through_end R (suc n) [] [] h low = tt
 through_end R (suc n) [] (y ∷ ys) h low = absurd (h.done)
 through_end R (suc n) (x ∷ xs) [] h low = absurd (h.done)
 through_end R (suc n) (x ∷ xs) (y ∷ ys) h low = (h.done.0, through_end R n xs ys (record { done = h.done.1; rest = h.rest }) (omega (arith, low)))
+
+module _ {X : Type 0} (state : X → StoreState) where
+  pub same_arriving : (i j : Incoming X) → j.tables.items ≡ i.tables.items → AllZip (Lifted state GoesOn) (arriving i) (arriving j)
+  same_arriving i j e = subst (λ ts. AllZip (Lifted state GoesOn) (arriving i) (flat_map (λ (t : IncomingTable X). t.stores.items) ts)) (sym e)
+      (zip_refl (Lifted state GoesOn) (λ x. rests_go_on (state x) (state x) (rests (state x))) (arriving i))
+
+  pub settled_either : {T E : Type 0} (r : Result T E) (ts us : List (IncomingTable X)) → OnOk r (AllZip (IsSettledTable state) ts us) → OnErr r (AllZip (IsSettledOrWaits state) ts us) → AllZip (IsSettledOrWaits state) ts us
+  settled_either (Ok x) ts us h k = zip_weaker (IsSettledTable state) (IsSettledOrWaits state) (λ t u s. inl s) ts us h
+  settled_either (Err e) ts us h k = k

@@ -15,12 +15,6 @@ pub mod ReadLaws
 pub mod WriteLaws
 pub mod CommitLaws
 pub mod AddLaws
-pub mod MoveLaws
-pub mod IncomingLaws
-pub mod SnapshotLaws
-pub mod MoveEntries
-pub mod StartLaws
-pub mod CutoverLaws
 pub mod DropLaws
 pub mod Cases
 pub mod KeyLaws

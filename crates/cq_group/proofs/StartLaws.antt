@@ -1,8 +1,9 @@
 -- A move that begins: the tables that come in get their stores.
-use Rattle.std.proofs.Common.{◌≡◌, ◌≢◌, ◌∙◌, ◌+◌, ◌<◌, ◌≤◌, ℕ, zero, suc, IsSome, Option, Some, None, Bool, true, false, if◌then◌else◌, nat_eq, List, [], ◌∷◌, ◌++◌, length, map, get_or, refl, sym, ap, subst, vec_capacity, append-nil, length-append, eq-eqb, arith}
+use Rattle.std.proofs.Common.{◌≡◌, ◌≢◌, ◌∙◌, ◌+◌, ◌<◌, ◌≤◌, ℕ, zero, suc, IsSome, Option, Some, None, Bool, true, false, if◌then◌else◌, nat_eq, List, [], ◌∷◌, ◌++◌, length, map, take, get_or, refl, sym, ap, subst, vec_capacity, Result, Ok, Err, OnOk, append-nil, length-append, add-one, eq-eqb, arith}
 use Rattle.std.proofs.Math.ListN.{set}
 use Rattle.std.specs.List.{AllByRecursion, AllZip, flat_map}
-use Rattle.std.proofs.lemmas.List.{append_assoc}
+use Rattle.std.proofs.lemmas.List.{append_assoc, take_more, length-map}
+use Rattle.std.proofs.lemmas.List.Sums.{sum_by_push}
 use Rattle.cq_value.specs.declared.schema.Shape.{Shape}
 use Rattle.cq_value.specs.declared.change.Change.{Change}
 use Rattle.cq_value.specs.Tables.{Table, empty_table}
@@ -23,14 +24,14 @@ use Rattle.cq_group.specs.declared.incoming.Incoming.{Incoming}
 use Rattle.cq_group.specs.declared.group.GroupError.{GroupError}
 use Rattle.cq_group.specs.declared.group.GroupError.TheVariants.{Worker, Memory}
 use Rattle.cq_group.specs.Groups.{Outline, outline, outlines, entries_of, journal_of, stores_of, copies_of, IsTableKept, IsKept, IsTableQuiet}
-use Rattle.cq_group.specs.Calls.{Rests, Lifted, Blames, IsSameBut}
+use Rattle.cq_group.specs.Calls.{Rests, Lifted, Blames, IsSameBut, IsRestingTable, first_rows}
 use Rattle.cq_group.specs.Resting.{IsResting}
 use Rattle.cq_group.specs.Moves.{IsSameMove}
 use Rattle.cq_group.proofs.MoveLaws.{same_move}
 use Rattle.cq_group.proofs.GroupLaws.{kept_along, quiet_along}
 use Rattle.cq_group.proofs.ReadLaws.{rested_kept}
 use Rattle.cq_group.proofs.WriteLaws.{keeps_none}
-use Rattle.cq_group.specs.Incoming.{IsArriving, IsIncomingTable, IsLeaving, IsFilled, AreFilled, AreSpareOn, Adopts, arriving, IsIncoming, CanStart, RefusesMove, why_told}
+use Rattle.cq_group.specs.Incoming.{IsArriving, IsIncomingTable, IsLeaving, IsFilled, AreFilled, AreSpareOn, Adopts, IsOutgoing, arriving, IsIncoming, rows_in, CanStart, RefusesMove, why_told}
 
 -- a list that isn't empty has a last element
 unsnoc : {Y : Type 0} (n : ℕ) (ys : List Y) → length ys ≡ n + 1 → (front : List Y) × (y : Y) × (ys ≡ front ++ y ∷ []) × (length front ≡ n)
@@ -66,7 +67,19 @@ pub record IsFilling {X : Type 0} (state : X → StoreState) (xs : List X) (ts :
   pub long : length front ≡ length left
   pub each : AreFilled state given waited filled
 
+pub outline_at : {X : Type 0} (ts : List (GroupTable X)) (n : ℕ) (t : GroupTable X) (d : Outline) → n < length ts → t ≡ get_or ts n t → get_or (map outline ts) n d ≡ outline t
+outline_at [] n t d low is = absurd (omega (arith, low))
+outline_at (u ∷ ts) zero t d low is = ap outline (sym is)
+outline_at (u ∷ ts) (suc n) t d low is = outline_at ts n t d (omega (arith, low)) is
+
+pub on_ok : {T E : Type 0} (r : Result T E) (P Q : Type 0) → (P → Q) → OnOk r P → OnOk r Q
+on_ok (Ok x) P Q f h = f h
+on_ok (Err e) P Q f h = tt
+
 module _ {X : Type 0} (state : X → StoreState) where
+  pub leaving : (es : List Entry) (t : GroupTable X) (u : IncomingTable X) → first_rows state t.stores.items ≡ replay t.table t.shape es → IsOutgoing state t u → IsLeaving es (outline t) u
+  leaving es t u e h = record { table = h.table; shard = h.shard; fit = h.fit; gives = h.gives ∙ e; empty = h.empty; room = h.room }
+
   pub filling_none : (xs : List X) (ts : List (IncomingTable X)) → length xs ≡ length ts → IsFilling state xs ts xs ts
   filling_none xs ts e = record { front = ts; given = []; waited = []; filled = []; stores = sym (append-nil xs); before = sym (append-nil ts); now = sym (append-nil ts); long = sym e; each = tt }
 
@@ -255,3 +268,29 @@ module _ {X : Type 0} (state : X → StoreState) where
   pub why_error : (e : GroupError) (g h : GroupState X) (to from : ℕ) → CanStart g to from → Blames state e (stores_of g) (stores_of h) → RefusesMove state g h to from (why_told e)
   why_error Memory g h to from can b = can
   why_error (Worker node shard before after) g h to from can b = (can, b)
+
+  pub rested_length : (g h : GroupState X) → IsSameBut (Lifted state Rests) g h → length h.tables.items ≡ length g.tables.items
+  rested_length g h s = length_zipped (IsRestingTable (Lifted state Rests)) g.tables.items h.tables.items s.tables
+
+pub outlines_length : {X : Type 0} (g : GroupState X) → length (outlines g) ≡ length g.tables.items
+outlines_length g = length-map g.tables.items outline
+
+-- one more table that leaves
+leaving_suc : {X : Type 0} (es : List Entry) (os : List Outline) (ts : List (IncomingTable X)) (n : ℕ) (u : IncomingTable X) → n < length os → AllZip (IsLeaving es) (take n os) ts →
+    ((d : Outline) → IsLeaving es (get_or os n d) u) → AllZip (IsLeaving es) (take (suc n) os) (ts ++ u ∷ [])
+leaving_suc es [] ts n u low h l = absurd (omega (arith, low))
+leaving_suc es (o ∷ os) [] zero u low h l = (l o, tt)
+leaving_suc es (o ∷ os) (t ∷ ts) zero u low h l = absurd h
+leaving_suc es (o ∷ os) [] (suc n) u low h l = absurd h
+leaving_suc es (o ∷ os) (t ∷ ts) (suc n) u low h l = (h.0, leaving_suc es os ts n u (omega (arith, low)) h.1 l)
+
+pub leaving_more : {X : Type 0} (es : List Entry) (os : List Outline) (ts : List (IncomingTable X)) (n : ℕ) (u : IncomingTable X) → n < length os → AllZip (IsLeaving es) (take n os) ts →
+    ((d : Outline) → IsLeaving es (get_or os n d) u) → AllZip (IsLeaving es) (take (n + 1) os) (ts ++ u ∷ [])
+leaving_more es os ts n u low h l = rw add-one (leaving_suc es os ts n u low h l)
+
+pub due_more : (es : List Entry) (os : List Outline) (n old new : ℕ) → n < length os → old ≡ rows_in es (take n os) → ((d : Outline) → new ≡ old + length (replay (get_or os n d).0 (get_or os n d).1 es).pairs) → new ≡ rows_in es (take (n + 1) os)
+due_more es [] n old new low h e = absurd (omega (arith, low))
+due_more es (o ∷ os) n old new low h e =
+    let more = take_more (o ∷ os) n o low in
+    let sum = sum_by_push (λ (p : Outline). length (replay p.0 p.1 es).pairs) (take n (o ∷ os)) (get_or (o ∷ os) n o) in
+    e o ∙ ap (λ k. k + length (replay (get_or (o ∷ os) n o).0 (get_or (o ∷ os) n o).1 es).pairs) h ∙ sym sum ∙ ap (λ ps. rows_in es ps) (sym more)

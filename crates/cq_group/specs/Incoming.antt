@@ -21,7 +21,7 @@ use Rattle.cq_group.specs.declared.start.MoveWhy.{MoveWhy}
 use Rattle.cq_group.specs.declared.start.MoveWhy.TheVariants as why
 use Rattle.cq_group.specs.declared.moving.Moving.{Moving}
 use Rattle.cq_group.specs.Groups.{Outline, outlines, journal_of, entries_of, stores_of}
-use Rattle.cq_group.specs.Calls.{Rests, Lifted, Blames, Takes}
+use Rattle.cq_group.specs.Calls.{Rests, Lifted, Blames, Takes, first_rows}
 
 -- a store that a table's shard comes to: on its node, under the shard's id, with nothing staged; the pending changes fit its rows, and applied give what the entries leave of the table
 pub record IsArriving (node : ℕ) (entries : List Entry) (o : Outline) (pending : List Change) (s : StoreState) : Type 0 where
@@ -102,6 +102,15 @@ AreSpareOn {X} state node stores = AllByRecursion (λ (x : X). IsSpare (state x)
 -- a store adopted under some shard's id
 abbrev pub Adopts : StoreState → StoreState → Type 0
 Adopts old new = Becomes old (record old { shard = new.shard }) new
+
+-- what comes to another node of a table, without its store: the pending changes make of an empty table the rows of the first store
+pub record IsOutgoing {X : Type 0} (state : X → StoreState) (t : GroupTable X) (u : IncomingTable X) : Type 0 where
+  pub table : u.table ≡ t.table
+  pub shard : u.shard ≡ t.shard
+  pub fit : Fit empty_table u.pending
+  pub gives : applied empty_table u.pending ≡ first_rows state t.stores.items
+  pub empty : u.stores.items ≡ []
+  pub room : 0 < vec_capacity u.stores
 
 -- a table that has got a store, which adopted its shard's id
 pub record IsFilled {X : Type 0} (state : X → StoreState) (x : X) (old new : IncomingTable X) : Type 0 where

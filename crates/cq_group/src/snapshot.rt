@@ -1,11 +1,11 @@
-ghost use Rattle.std.specs.Prelude.{◌≡◌, ◌+◌, ◌<◌, ◌≤◌, [], length, vec_capacity, OnOk, IfOk, IfErr};
+ghost use Rattle.std.specs.Prelude.{◌≡◌, ◌+◌, ◌<◌, ◌≤◌, length, OnOk, IfOk, IfErr};
 ghost use Rattle.std.specs.List.{AllZip, HoldsAt};
 ghost use Rattle.cq_value.specs.Changes.{Fit, applied};
 ghost use Rattle.cq_value.specs.Tables.{IsAscending, empty_table};
 ghost use Rattle.cq_journal.specs.Journals.{most_ids, replay};
 ghost use Rattle.cq_group.specs.Groups.{IsKept, IsQuiet, outlines, entries_of, stores_of};
 ghost use Rattle.cq_group.specs.Calls.{Rests, Lifted, Blames, IsRestingTable, IsSameBut, AreAlike, first_rows};
-ghost use Rattle.cq_group.specs.Incoming.{IsLeaving, rows_in};
+ghost use Rattle.cq_group.specs.Incoming.{IsOutgoing, IsLeaving, rows_in};
 
 use crate::group::{GroupError, GroupState, GroupTable};
 use crate::incoming::{Incoming, IncomingTable};
@@ -41,12 +41,7 @@ impl<S: Store> GroupTable<S> {
     fn outgoing(&mut self, alloc: Global, due: &mut u64) -> Result<IncomingTable<S>, GroupError>
         requires alike { AreAlike S.state self.old }
         requires few { self.old.next ≤ most_ids }
-        ensures table { IfOk result (λ t. t.table ≡ self.old.table) }
-        ensures shard { IfOk result (λ t. t.shard ≡ self.old.shard) }
-        ensures fit { IfOk result (λ t. Fit empty_table t.pending) }
-        ensures gives { IfOk result (λ t. applied empty_table t.pending ≡ first_rows S.state self.old.stores.items) }
-        ensures empty { IfOk result (λ t. t.stores.items ≡ []) }
-        ensures room { IfOk result (λ t. 0 < vec_capacity t.stores) }
+        ensures copy { IfOk result (IsOutgoing S.state self.old) }
         ensures due { OnOk result (due.new ≡ due.old + length (first_rows S.state self.old.stores.items).pairs) }
         ensures same { IsRestingTable (Lifted S.state Rests) self.old self.new }
         ensures blame { IfErr result (λ e. Blames S.state e self.old.stores.items self.new.stores.items) }
