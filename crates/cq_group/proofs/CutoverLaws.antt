@@ -1,5 +1,5 @@
 -- A move that catches up, and one that is cut over.
-use Rattle.std.proofs.Common.{◌≡◌, ◌≢◌, ◌∙◌, ◌+◌, ◌<◌, ◌≤◌, ℕ, zero, suc, inl, inr, IsSome, IfSome, Option, Some, None, Bool, true, false, if◌then◌else◌, nat_eq, List, [], ◌∷◌, ◌++◌, length, map, take, drop, refl, sym, ap, subst, vec_capacity, length-append, get_or, add-one, eq-eqb, arith}
+use Rattle.std.proofs.Common.{◌≡◌, ◌∙◌, ◌+◌, ◌<◌, ◌≤◌, ℕ, zero, suc, inl, inr, IsSome, IfSome, Option, Some, None, if◌then◌else◌, nat_eq, List, [], ◌∷◌, ◌++◌, length, map, take, drop, refl, sym, ap, subst, vec_capacity, length-append, get_or, add-one, eq-eqb, arith}
 use Rattle.std.proofs.Math.ListN.{set}
 use Rattle.std.specs.List.{AllByRecursion, AllZip, flat_map}
 use Rattle.std.proofs.lemmas.Bool.Decides.{eqb_tells}
@@ -12,7 +12,7 @@ use Rattle.cq_tree.specs.declared.journal.Entry.{Entry}
 use Rattle.cq_tree.specs.declared.journal.EntryKind.TheVariants.{Cutover}
 use Rattle.cq_journal.specs.Journals.{replay, EachReplied}
 use Rattle.cq_journal.specs.Records.{Journal}
-use Rattle.cq_journal.specs.Stations.{Station, moved, station_of, moving_of, node_of}
+use Rattle.cq_journal.specs.Stations.{Station, station_of, moving_of, node_of}
 use Rattle.cq_journal.proofs.Replays.{replay_more, replied_more}
 use Rattle.cq_change.specs.declared.log.TableChange.{TableChange}
 use Rattle.cq_change.specs.Logs.{changes_in, Leads}
@@ -23,12 +23,11 @@ use Rattle.cq_group.specs.declared.moving.Moving.{Moving}
 use Rattle.cq_group.specs.declared.incoming.IncomingTable.{IncomingTable}
 use Rattle.cq_group.specs.declared.incoming.Incoming.{Incoming}
 use Rattle.cq_group.specs.Groups.{Outline, outline, outlines, shape_at, or_no_shape, shapes, entries_of, journal_of, stores_of, copies_of, node_at, AreDistinct, AreReplicasFrom, IsNamed, IsTableKept, IsKept, IsTableQuiet}
-use Rattle.cq_group.specs.Calls.{Lifted}
 use Rattle.cq_group.specs.Resting.{IsResting}
 use Rattle.cq_group.proofs.Zips.{all_push}
 use Rattle.cq_group.proofs.MoveLaws.{station_push}
 use Rattle.cq_group.proofs.GroupLaws.{table_unmoved}
-use Rattle.cq_group.specs.Moves.{upto_move, changed_since, IsLogged, IsMoveKept, IsInFlight}
+use Rattle.cq_group.specs.Moves.{upto_move, changed_since, IsLogged, IsMoveKept}
 use Rattle.cq_group.specs.Incoming.{IsArriving, IsIncomingTable, arriving, IsIncoming, IsSettled, with_due, with_stores, without_stores, move_log}
 
 -- where a move is in flight by the journal, it is
@@ -51,7 +50,7 @@ shapes_found all (o ∷ os) d f = (
   where
     behind : (o : Outline) (os : List Outline) (table : ℕ) → shape_at os o.0 ≡ None → IsSome (shape_at os table) → shape_at (o ∷ os) table ≡ shape_at os table
     behind o os table none s = elim (eqb_tells o.0 table) [
-      inl p ↦ absurd (let clash : IsSome {T = Shape} None = subst (λ x. IsSome x) (ap (shape_at os) (sym p.1) ∙ none) s in cc clash)
+      | inl p ↦ absurd (let clash : IsSome {T = Shape} None = subst (λ x. IsSome x) (ap (shape_at os) (sym p.1) ∙ none) s in cc clash)
       | inr p ↦ ap (λ b. if b then Some o.1 else shape_at os table) p.0
     ]
 
@@ -89,14 +88,14 @@ module _ {X : Type 0} (state : X → StoreState) where
       each [] k = tt
       each (x ∷ xs) k = (
         (let rows : (state x).rows ≡ replay o.0 o.1 es = subst (λ cs. applied (state x).rows cs ≡ replay o.0 o.1 es) none k.0.gives in
-        record {
-          of_node = k.0.of_node;
-          of_shard = k.0.of_shard;
-          adopted = k.0.adopted;
-          nothing = k.0.nothing;
-          fit = subst (λ n. Fit (state x).rows (changes_in n log)) (sym h.table) (subst (λ (v : Table). Fit v (changes_in o.0 log)) (sym rows) l.fit);
-          gives = (λ i. applied (rows i) (changes_in (h.table i) log)) ∙ l.gives;
-        }),
+            record {
+              of_node = k.0.of_node;
+              of_shard = k.0.of_shard;
+              adopted = k.0.adopted;
+              nothing = k.0.nothing;
+              fit = subst (λ n. Fit (state x).rows (changes_in n log)) (sym h.table) (subst (λ (v : Table). Fit v (changes_in o.0 log)) (sym rows) l.fit);
+              gives = (λ i. applied (rows i) (changes_in (h.table i) log)) ∙ l.gives;
+            }),
         each xs k.1,
       )
 

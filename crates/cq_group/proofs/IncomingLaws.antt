@@ -1,22 +1,19 @@
 -- What comes in: settled, fetched and handed back.
-use Rattle.std.proofs.Common.{◌≡◌, ◌∙◌, ◌+◌, ◌<◌, ◌≤◌, ◌⊎◌, inl, inr, ℕ, zero, suc, IsTrue, List, [], ◌∷◌, ◌++◌, length, map, take, drop, get_or, refl, sym, ap, subst, vec_capacity, OnOk, OnErr, Result, Ok, Err, length-append, arith}
+use Rattle.std.proofs.Common.{◌≡◌, ◌∙◌, ◌<◌, ◌≤◌, inl, inr, ℕ, zero, suc, IsTrue, List, [], ◌∷◌, ◌++◌, length, map, take, drop, get_or, refl, sym, ap, subst, vec_capacity, OnOk, OnErr, Result, Ok, Err, arith}
 use Rattle.std.proofs.Math.ListN.{set}
 use Rattle.std.specs.List.{AllByRecursion, AllZip, flat_map}
-use Rattle.std.proofs.lemmas.List.{map-append}
 use Rattle.cq_value.specs.declared.change.Change.{Change}
-use Rattle.cq_value.specs.Changes.{applied, Fit}
+use Rattle.cq_value.specs.Changes.{applied}
 use Rattle.cq_tree.specs.declared.journal.Entry.{Entry}
-use Rattle.cq_journal.specs.Journals.{replay}
 use Rattle.cq_change.specs.declared.log.TableChange.{TableChange}
-use Rattle.cq_change.specs.Logs.{changes_in}
-use Rattle.cq_store.specs.Stores.{StoreState, Becomes}
+use Rattle.cq_store.specs.Stores.{StoreState}
 use Rattle.cq_group.specs.declared.group.GroupError.{GroupError}
 use Rattle.cq_group.specs.declared.group.GroupError.TheVariants.{Worker, Memory}
 use Rattle.cq_group.specs.declared.incoming.IncomingTable.{IncomingTable}
 use Rattle.cq_group.specs.declared.incoming.Incoming.{Incoming}
 use Rattle.cq_group.specs.Groups.{Outline}
 use Rattle.cq_group.specs.Calls.{Rests, Stages, Commits, GoesOn, Lifted, Blames, Takes, IsThrough, SomeZip, Failed}
-use Rattle.cq_group.specs.Incoming.{IsArriving, IsIncomingTable, arriving, IsIncoming, IsSettled, CanSettle, Makes, IsSettledTable, IsWaitingTable, IsSettledOrWaits, with_due}
+use Rattle.cq_group.specs.Incoming.{IsArriving, IsIncomingTable, arriving, IsIncoming, CanSettle, Makes, IsSettledTable, IsWaitingTable, IsSettledOrWaits, with_due}
 use Rattle.cq_group.proofs.Turns.{rests, rests_go_on}
 use Rattle.cq_group.proofs.TableLaws.{blames_later}
 use Rattle.cq_group.proofs.Through.{through_both}

@@ -1,11 +1,11 @@
 -- A group with one more entry of a move.
-use Rattle.std.proofs.Common.{◌≡◌, ◌≢◌, ◌∙◌, ◌+◌, ℕ, ◌<◌, ◌≤◌, IsSome, Option, Some, None, List, [], ◌∷◌, ◌++◌, length, map, refl, sym, ap, subst, arith}
+use Rattle.std.proofs.Common.{◌≡◌, ◌∙◌, ℕ, ◌<◌, IsSome, Option, Some, None, List, [], ◌∷◌, ◌++◌, length, map, refl, sym, ap, subst, arith}
 use Rattle.std.specs.List.{AllZip, AllByRecursion, flat_map}
 use Rattle.cq_value.specs.declared.schema.Shape.{Shape}
 use Rattle.cq_value.specs.Tables.{Table}
 use Rattle.cq_tree.specs.declared.journal.Who.{Who}
 use Rattle.cq_tree.specs.declared.journal.Entry.{Entry}
-use Rattle.cq_tree.specs.declared.journal.EntryKind.TheVariants.{MoveStart, CatchUp, Cutover, MoveStop}
+use Rattle.cq_tree.specs.declared.journal.EntryKind.TheVariants.{MoveStart, CatchUp, MoveStop}
 use Rattle.cq_journal.specs.Journals.{entered, replay, IsReplied}
 use Rattle.cq_journal.specs.Records.{Journal}
 use Rattle.cq_journal.specs.Stations.{Station, moved, station_of, moving_of, node_of}
@@ -14,7 +14,7 @@ use Rattle.cq_store.specs.Stores.{StoreState}
 use Rattle.cq_group.specs.declared.group.GroupTable.{GroupTable}
 use Rattle.cq_group.specs.declared.group.GroupState.{GroupState}
 use Rattle.cq_group.specs.declared.moving.Moving.{Moving}
-use Rattle.cq_group.specs.Moves.{is_of_move, IsMoveKept, IsInFlight, IsLogged, HasNoLog, IsCleared}
+use Rattle.cq_group.specs.Moves.{IsMoveKept, IsInFlight, IsLogged, IsCleared}
 use Rattle.cq_group.specs.Groups.{entries_of, journal_of, outline, outlines, shapes, copies_of, IsNamed, IsTableKept, IsKept, IsQuiet, IsTableQuiet}
 use Rattle.cq_group.specs.Calls.{GoesOn, Lifted, IsSameTable, GroupGoesOn}
 use Rattle.cq_group.specs.Resting.{IsResting}

@@ -1,5 +1,5 @@
 -- A move in flight, entry after entry.
-use Rattle.std.proofs.Common.{◌≡◌, ◌∙◌, ◌+◌, ℕ, ◌<◌, ◌≤◌, Bool, true, false, if◌then◌else◌, nat_eq, inl, inr, Option, Some, None, IfSome, List, [], ◌∷◌, ◌++◌, length, refl, sym, ap, subst, append-nil, length-append, filter, eq-eqb, arith}
+use Rattle.std.proofs.Common.{◌≡◌, ◌∙◌, ◌+◌, ℕ, ◌<◌, ◌≤◌, Bool, true, false, if◌then◌else◌, inl, inr, Option, Some, None, IfSome, List, [], ◌∷◌, ◌++◌, length, refl, sym, ap, subst, append-nil, length-append, filter, arith}
 use Rattle.std.specs.List.{AllByRecursion, sum_by, fold}
 use Rattle.std.proofs.lemmas.List.{append_assoc, length-map}
 use Rattle.std.proofs.lemmas.List.Sums.{fold_push, sum_by_push}
@@ -10,8 +10,7 @@ use Rattle.cq_value.specs.Tables.{Table, rows_of}
 use Rattle.cq_value.specs.Changes.{applied, Fit}
 use Rattle.cq_tree.specs.declared.journal.Who.{Who}
 use Rattle.cq_tree.specs.declared.journal.Entry.{Entry}
-use Rattle.cq_tree.specs.declared.journal.EntryKind.{EntryKind}
-use Rattle.cq_tree.specs.declared.journal.EntryKind.TheVariants.{Read, Write, MoveStart, CatchUp, Cutover, MoveStop}
+use Rattle.cq_tree.specs.declared.journal.EntryKind.TheVariants.{Read, Write}
 use Rattle.cq_tree.specs.declared.write.Reply.{Reply}
 use Rattle.cq_tree.specs.declared.write.ShardOp.{ShardOp}
 use Rattle.cq_tree.specs.declared.write.Reply.TheVariants.{Count, Duplicate, OutOfRange}
@@ -26,7 +25,7 @@ use Rattle.cq_change.specs.declared.log.TableChange.{TableChange}
 use Rattle.cq_change.specs.Logs.{logged, Leads}
 use Rattle.cq_change.proofs.LogLaws.{empty_leads, log_goes_on, others_stay}
 use Rattle.cq_group.specs.declared.moving.Moving.{Moving}
-use Rattle.cq_group.specs.Moves.{is_of_move, Parted, with_entry, parted, upto_move, since_move, rows_counted, rows_changed, changed_since, IsLogged, IsInFlight, IsMoveKept, HasSameLog, IsSameMove, KeepsChanges, WillLog, CanLog, HasLogged, Logs}
+use Rattle.cq_group.specs.Moves.{is_of_move, Parted, with_entry, parted, upto_move, since_move, rows_counted, rows_changed, changed_since, IsLogged, IsMoveKept, IsSameMove, WillLog, CanLog, Logs}
 
 pub parted_push : (es : List Entry) (e : Entry) → parted (es ++ e ∷ []) ≡ with_entry (parted es) e
 parted_push es e = fold_push with_entry (record { upto = []; since = [] }) es e
@@ -110,23 +109,24 @@ logged_write shapes es who op reply log changes h fit gives long =
     logged_length : (table : ℕ) (cs : List Change) → length (logged table cs) ≡ length cs
     logged_length table [] = refl
     logged_length table (c ∷ cs) = let rest = logged_length table cs in omega (arith, rest)
+
     leads_to : (table : ℕ) → Leads table (log ++ logged (table_of op) changes) (replay table (shapes table) (upto_move es)) (replay table (shapes table) (es ++ record { who = who; kind = Write op reply } ∷ []))
     leads_to table =
         let e : Entry = record { who = who; kind = Write op reply } in
         elim (eqb_tells (table_of op) table) [
-          inl p ↦ (
-            let after : replay table (shapes table) (es ++ e ∷ []) ≡ applied (replay table (shapes table) es) changes =
-            replay_more table (shapes table) es e ∙ ap (λ b. if b then effect op (replay table (shapes table) es) (shapes table) else replay table (shapes table) es) p.0
-            ∙ subst (λ n. effect op (replay n (shapes n) es) (shapes n) ≡ applied (replay n (shapes n) es) changes) p.1 (sym gives) in
-            subst (λ t. Leads table (log ++ logged (table_of op) changes) (replay table (shapes table) (upto_move es)) t) (sym after)
-            (subst (λ n. Leads table (log ++ logged n changes) (replay table (shapes table) (upto_move es)) (applied (replay table (shapes table) es) changes)) (sym p.1)
-            (log_goes_on table log (replay table (shapes table) (upto_move es)) (replay table (shapes table) es) changes (h.leads table)
-            (subst (λ n. Fit (replay n (shapes n) es) changes) p.1 fit))))
+          | inl p ↦ (
+              let after : replay table (shapes table) (es ++ e ∷ []) ≡ applied (replay table (shapes table) es) changes =
+              replay_more table (shapes table) es e ∙ ap (λ b. if b then effect op (replay table (shapes table) es) (shapes table) else replay table (shapes table) es) p.0
+              ∙ subst (λ n. effect op (replay n (shapes n) es) (shapes n) ≡ applied (replay n (shapes n) es) changes) p.1 (sym gives) in
+              subst (λ t. Leads table (log ++ logged (table_of op) changes) (replay table (shapes table) (upto_move es)) t) (sym after)
+              (subst (λ n. Leads table (log ++ logged n changes) (replay table (shapes table) (upto_move es)) (applied (replay table (shapes table) es) changes)) (sym p.1)
+              (log_goes_on table log (replay table (shapes table) (upto_move es)) (replay table (shapes table) es) changes (h.leads table)
+              (subst (λ n. Fit (replay n (shapes n) es) changes) p.1 fit))))
           | inr p ↦ (
-            let after : replay table (shapes table) (es ++ e ∷ []) ≡ replay table (shapes table) es =
-            replay_more table (shapes table) es e ∙ ap (λ b. if b then effect op (replay table (shapes table) es) (shapes table) else replay table (shapes table) es) p.0 in
-            subst (λ t. Leads table (log ++ logged (table_of op) changes) (replay table (shapes table) (upto_move es)) t) (sym after)
-            (others_stay table (table_of op) log (replay table (shapes table) (upto_move es)) (replay table (shapes table) es) changes p.0 (h.leads table)))
+              let after : replay table (shapes table) (es ++ e ∷ []) ≡ replay table (shapes table) es =
+              replay_more table (shapes table) es e ∙ ap (λ b. if b then effect op (replay table (shapes table) es) (shapes table) else replay table (shapes table) es) p.0 in
+              subst (λ t. Leads table (log ++ logged (table_of op) changes) (replay table (shapes table) (upto_move es)) t) (sym after)
+              (others_stay table (table_of op) log (replay table (shapes table) (upto_move es)) (replay table (shapes table) es) changes p.0 (h.leads table)))
         ]
 
 -- a made write has as many row changes as it counts, and a refused one none

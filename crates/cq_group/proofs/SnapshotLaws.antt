@@ -1,5 +1,5 @@
 -- The changes that make the rows of a table.
-use Rattle.std.proofs.Common.{◌≡◌, ◌≢◌, ◌∙◌, ◌+◌, ◌-◌, ◌<◌, ◌≤◌, ◌||◌, ◌⊎◌, inl, inr, ℕ, zero, suc, Bool, true, false, not, if◌then◌else◌, nat_eq, List, [], ◌∷◌, ◌++◌, length, refl, sym, ap, subst, filter, append-nil, eq-eqb, arith}
+use Rattle.std.proofs.Common.{◌≡◌, ◌≢◌, ◌∙◌, ◌+◌, ◌-◌, ◌<◌, ◌≤◌, ◌||◌, inl, inr, ℕ, Bool, true, false, not, if◌then◌else◌, nat_eq, List, [], ◌∷◌, ◌++◌, refl, sym, ap, subst, filter, append-nil, eq-eqb, arith}
 use Rattle.std.specs.List.{AllByRecursion, list_any}
 use Rattle.std.proofs.lemmas.List.{append_assoc}
 use Rattle.std.proofs.lemmas.List.Elements.{filter-append}
@@ -7,7 +7,7 @@ use Rattle.std.proofs.lemmas.List.Folds.{list_any-append}
 use Rattle.std.proofs.lemmas.Bool.Decides.{eqb_tells}
 use Rattle.cq_value.specs.declared.change.Change.{Change}
 use Rattle.cq_value.specs.declared.change.Change.TheVariants.{Add, Drop}
-use Rattle.cq_value.specs.Changes.{FitsOne, changed, applied, Fit, has_id}
+use Rattle.cq_value.specs.Changes.{applied, Fit, has_id}
 use Rattle.cq_value.specs.Tables.{Table, Pair, IsAscending, empty_table, with_row, without_row}
 use Rattle.cq_store.specs.Stores.{has_values}
 use Rattle.cq_change.proofs.LogLaws.{applied_append, fit_append}
@@ -63,7 +63,7 @@ made_more changes made p rest all next few h =
 stays : (ps : List Pair) (n : ℕ) → AllByRecursion (λ (q : Pair). q.0 < n) ps → filter (λ (q : Pair). not (nat_eq q.0 n)) ps ≡ ps
 stays [] n h = refl
 stays (p ∷ ps) n h = elim (eqb_tells p.0 n) [
-  inl e ↦ absurd (let less = h.0 in let same = e.1 in omega (arith, less, same))
+  | inl e ↦ absurd (let less = h.0 in let same = e.1 in omega (arith, less, same))
   | inr e ↦ (ap (λ b. if not b then p ∷ filter (λ (q : Pair). not (nat_eq q.0 n)) ps else filter (λ (q : Pair). not (nat_eq q.0 n)) ps) e.0 ∙ ap (λ qs. p ∷ qs) (stays ps n h.1))
 ]
 

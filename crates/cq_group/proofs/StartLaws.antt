@@ -1,26 +1,18 @@
 -- A move that begins: the tables that come in get their stores.
-use Rattle.std.proofs.Common.{◌≡◌, ◌≢◌, ◌∙◌, ◌+◌, ◌<◌, ◌≤◌, ℕ, zero, suc, IsSome, Option, Some, None, Bool, true, false, if◌then◌else◌, nat_eq, List, [], ◌∷◌, ◌++◌, length, map, take, get_or, refl, sym, ap, subst, vec_capacity, Result, Ok, Err, OnOk, append-nil, length-append, add-one, eq-eqb, arith}
+use Rattle.std.proofs.Common.{◌≡◌, ◌∙◌, ◌+◌, ◌<◌, ◌≤◌, ℕ, zero, suc, List, [], ◌∷◌, ◌++◌, length, map, take, get_or, refl, sym, ap, subst, vec_capacity, Result, Ok, Err, OnOk, append-nil, length-append, add-one, arith}
 use Rattle.std.proofs.Math.ListN.{set}
 use Rattle.std.specs.List.{AllByRecursion, AllZip, flat_map}
 use Rattle.std.proofs.lemmas.List.{append_assoc, take_more, length-map}
 use Rattle.std.proofs.lemmas.List.Sums.{sum_by_push}
-use Rattle.cq_value.specs.declared.schema.Shape.{Shape}
-use Rattle.cq_value.specs.declared.change.Change.{Change}
 use Rattle.cq_value.specs.Tables.{Table, empty_table}
 use Rattle.cq_value.specs.Changes.{applied, Fit}
-use Rattle.cq_tree.specs.declared.journal.Who.{Who}
 use Rattle.cq_tree.specs.declared.journal.Entry.{Entry}
-use Rattle.cq_tree.specs.declared.journal.EntryKind.TheVariants.{MoveStart}
 use Rattle.cq_journal.specs.Journals.{replay}
-use Rattle.cq_journal.specs.Records.{Journal}
 use Rattle.cq_journal.specs.Stations.{node_of}
-use Rattle.cq_journal.proofs.Replays.{replay_more}
 use Rattle.cq_store.specs.Stores.{StoreState, Becomes, IsSpare}
 use Rattle.cq_group.specs.declared.group.GroupTable.{GroupTable}
 use Rattle.cq_group.specs.declared.group.GroupState.{GroupState}
-use Rattle.cq_group.specs.declared.moving.Moving.{Moving}
 use Rattle.cq_group.specs.declared.incoming.IncomingTable.{IncomingTable}
-use Rattle.cq_group.specs.declared.incoming.Incoming.{Incoming}
 use Rattle.cq_group.specs.declared.group.GroupError.{GroupError}
 use Rattle.cq_group.specs.declared.group.GroupError.TheVariants.{Worker, Memory}
 use Rattle.cq_group.specs.Groups.{Outline, outline, outlines, entries_of, journal_of, stores_of, copies_of, IsTableKept, IsKept, IsTableQuiet}
@@ -31,7 +23,7 @@ use Rattle.cq_group.proofs.MoveLaws.{same_move}
 use Rattle.cq_group.proofs.GroupLaws.{kept_along, quiet_along}
 use Rattle.cq_group.proofs.ReadLaws.{rested_kept}
 use Rattle.cq_group.proofs.WriteLaws.{keeps_none}
-use Rattle.cq_group.specs.Incoming.{IsArriving, IsIncomingTable, IsLeaving, IsFilled, AreFilled, AreSpareOn, Adopts, IsOutgoing, arriving, IsIncoming, rows_in, CanStart, RefusesMove, why_told}
+use Rattle.cq_group.specs.Incoming.{IsArriving, IsIncomingTable, IsLeaving, IsFilled, AreFilled, AreSpareOn, Adopts, IsOutgoing, rows_in, CanStart, RefusesMove, why_told}
 
 -- a list that isn't empty has a last element
 unsnoc : {Y : Type 0} (n : ℕ) (ys : List Y) → length ys ≡ n + 1 → (front : List Y) × (y : Y) × (ys ≡ front ++ y ∷ []) × (length front ≡ n)
@@ -166,14 +158,17 @@ module _ {X : Type 0} (state : X → StoreState) where
         shard = f.shard ∙ l.shard;
         one = ap length f.stores;
         stores = subst (λ ys. AllByRecursion (λ (y : X). IsArriving node more o u.pending (state y)) ys) (sym f.stores)
-            (subst (λ cs. AllByRecursion (λ (y : X). IsArriving node more o cs (state y)) (f.store ∷ [])) (sym f.pending) (record {
-              of_node = ap (λ (z : StoreState). z.node) f.adopted.state ∙ s.1;
-              of_shard = shard;
-              adopted = subst (λ n. 0 < n) (sym shard) some;
-              nothing = ap (λ (z : StoreState). z.staged) f.adopted.state ∙ s.0.nothing;
-              fit = subst (λ (v : Table). Fit v t.pending) (sym rows) l.fit;
-              gives = ap (λ (v : Table). applied v t.pending) rows ∙ l.gives ∙ sym e;
-            }, tt));
+            (subst (λ cs. AllByRecursion (λ (y : X). IsArriving node more o cs (state y)) (f.store ∷ [])) (sym f.pending) (
+              record {
+                of_node = ap (λ (z : StoreState). z.node) f.adopted.state ∙ s.1;
+                of_shard = shard;
+                adopted = subst (λ n. 0 < n) (sym shard) some;
+                nothing = ap (λ (z : StoreState). z.staged) f.adopted.state ∙ s.0.nothing;
+                fit = subst (λ (v : Table). Fit v t.pending) (sym rows) l.fit;
+                gives = ap (λ (v : Table). applied v t.pending) rows ∙ l.gives ∙ sym e;
+              },
+              tt,
+            ));
       }
 
   pub filled_incoming : (node : ℕ) (es more : List Entry) (os : List Outline) (xs : List X) (ts us : List (IncomingTable X)) → ((o : Outline) → replay o.0 o.1 more ≡ replay o.0 o.1 es) → AllByRecursion (λ (o : Outline). 0 < o.2) os →

@@ -1,10 +1,9 @@
 -- What comes to another node in a move of a shard group.
-use Rattle.std.specs.Prelude.{◌≡◌, ◌≢◌, ◌+◌, ◌<◌, ◌≤◌, ◌⊎◌, ℕ, ⊤, Option, Some, None, List, [], ◌∷◌, ◌++◌, length, map, sum_by, vec_capacity}
+use Rattle.std.specs.Prelude.{◌≡◌, ◌≢◌, ◌<◌, ◌≤◌, ◌⊎◌, ℕ, ⊤, Option, Some, None, List, [], ◌∷◌, length, sum_by, vec_capacity}
 use Rattle.std.specs.List.{AllByRecursion, AllZip, flat_map}
 use Rattle.cq_value.specs.declared.change.Change.{Change}
 use Rattle.cq_value.specs.Tables.{empty_table}
 use Rattle.cq_value.specs.Changes.{applied, Fit}
-use Rattle.cq_tree.specs.declared.journal.Who.{Who}
 use Rattle.cq_tree.specs.declared.journal.Entry.{Entry}
 use Rattle.cq_journal.specs.Journals.{replay}
 use Rattle.cq_journal.specs.Stations.{moving_of}
@@ -20,7 +19,7 @@ use Rattle.cq_group.specs.declared.incoming.Incoming.{Incoming}
 use Rattle.cq_group.specs.declared.start.MoveWhy.{MoveWhy}
 use Rattle.cq_group.specs.declared.start.MoveWhy.TheVariants as why
 use Rattle.cq_group.specs.declared.moving.Moving.{Moving}
-use Rattle.cq_group.specs.Groups.{Outline, outlines, journal_of, entries_of, stores_of}
+use Rattle.cq_group.specs.Groups.{Outline, journal_of, stores_of}
 use Rattle.cq_group.specs.Calls.{Rests, Lifted, Blames, Takes, first_rows}
 
 -- a store that a table's shard comes to: on its node, under the shard's id, with nothing staged; the pending changes fit its rows, and applied give what the entries leave of the table

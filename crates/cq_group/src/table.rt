@@ -59,7 +59,11 @@ fn rows_alone(pairs: Pairs) -> Result<Rows, NoMemory>
 
 impl<S: Store> GroupTable<S> {
     /// The rows with these values that the store in a place of the list holds, with their ids.
-    pub(crate) fn pick_pairs(&mut self, place: usize, wanted: &ColumnValues) -> Result<Pairs, GroupError>
+    pub(crate) fn pick_pairs(
+        &mut self,
+        place: usize,
+        wanted: &ColumnValues,
+    ) -> Result<Pairs, GroupError>
         requires { place < length self.old.stores.items }
         ensures pairs { IfOk result (λ pairs. HoldsAt (λ x. pairs ≡ filter (λ p. has_values wanted.now p.1) (S.state x).rows.pairs) self.old.stores.items place) }
         ensures same { IsRestingTable (Lifted S.state Rests) self.old self.new }

@@ -1,4 +1,4 @@
-use Rattle.std.proofs.Common.{◌≡◌, ◌∙◌, ◌+◌, ◌-◌, ◌<◌, ◌≤◌, [], ◌∷◌, ◌++◌, List, refl, sym, ap, subst, append-nil, Global, arith, rules}
+use Rattle.std.proofs.Common.{◌≡◌, ◌∙◌, ◌+◌, ◌-◌, [], ◌∷◌, ◌++◌, List, sym, ap, subst, Global, arith, rules}
 use Rattle.std.specs.Vec.Iter.{into_iter_items, into_iter_len}
 use Rattle.std.specs.declared.vec.IntoIter.{IntoIter}
 use Rattle.std.proofs.lemmas.List.{nil_from_length}
@@ -6,7 +6,7 @@ use Rattle.cq_value.specs.declared.change.Change.{Change}
 use Rattle.cq_value.specs.declared.change.Change.TheVariants.{Add, Drop}
 use Rattle.cq_value.specs.declared.value.Value.{Value}
 use Rattle.cq_value.specs.Changes.{applied, Fit}
-use Rattle.cq_value.specs.Tables.{Table, Pair, empty_table}
+use Rattle.cq_value.specs.Tables.{Pair, empty_table}
 use Rattle.cq_group.proofs.SnapshotLaws.{HasMade, climbs_low, made_none, made_more, made_all, raised_all}
 use Rattle.cq_group.proofs.snapshot.changes_for.Goals as goal
 

@@ -1,9 +1,8 @@
-use Rattle.std.proofs.Common.{◌≡◌, ◌∙◌, ◌+◌, ◌<◌, ◌≤◌, [], ◌∷◌, ◌++◌, length, get_or, option_to_list, vec_capacity, refl, sym, ap, subst, length-append, rules, arith}
-use Rattle.std.specs.List.{AllByRecursion}
+use Rattle.std.proofs.Common.{◌≡◌, ◌∙◌, ◌<◌, [], ◌∷◌, ◌++◌, length, get_or, option_to_list, vec_capacity, refl, sym, ap, subst, rules, arith}
 use Rattle.cq_store.specs.Stores.{IsSpare}
 use Rattle.cq_group.specs.declared.incoming.IncomingTable.{IncomingTable}
 use Rattle.cq_group.specs.Incoming.{IsFilled}
-use Rattle.cq_group.proofs.StartLaws.{IsFilling, filling_none, next_table, next_is, next_within, filling_more, filling_all, next_holds, next_store}
+use Rattle.cq_group.proofs.StartLaws.{filling_none, next_table, next_is, next_within, filling_more, next_holds, next_store}
 use Rattle.cq_group.proofs.start.fill.Goals as goal
 
 pub loop-store-init : goal.loop-store-init
@@ -34,7 +33,7 @@ loop-store-preserved g c =
     let n : c.len.result ≡ length c.pop.new.self.items = omega (arith, c.len.ensures, c.pop.new.self.ok.0) in
     let same : t ≡ h.table = is ∙ next_is state c.args.stores.items c.args.tables.now.items c.pop.new.self.items c.in-Some.store c.loop-store.tables.items c.len.result t h n in
     let empty : t.stores.items ≡ [] = subst (λ (u : IncomingTable _). u.stores.items ≡ []) (sym same)
-        (next_holds state (λ u. (u.stores.items ≡ []) × (0 < vec_capacity u.stores) × (0 < u.shard)) c.args.stores.items c.args.tables.now.items c.pop.new.self.items c.in-Some.store c.loop-store.tables.items h c.requires.tables).0 in
+    (next_holds state (λ u. (u.stores.items ≡ []) × (0 < vec_capacity u.stores) × (0 < u.shard)) c.args.stores.items c.args.tables.now.items c.pop.new.self.items c.in-Some.store c.loop-store.tables.items h c.requires.tables).0 in
     record {
       filling = filling_more state c.args.stores.items c.args.tables.now.items c.pop.new.self.items c.in-Some.store c.loop-store.tables.items c.len.result _ h n
           (subst (λ u. IsFilled state c.in-Some.store u (record t { stores = c.push_reserved.new.self })) same (record {

@@ -1,8 +1,7 @@
-use Rattle.std.proofs.Common.{◌≡◌, ◌∙◌, IfErr, refl, sym, ap, subst, rules}
+use Rattle.std.proofs.Common.{IfErr, subst}
 use Rattle.cq_journal.specs.Stations.{station_of}
 use Rattle.cq_group.specs.Groups.{outlines, entries_of, journal_of}
 use Rattle.cq_group.specs.Calls.{GoesOn, Lifted, Blames}
-use Rattle.cq_group.specs.Moves.{upto_move}
 use Rattle.cq_group.specs.Incoming.{arriving}
 use Rattle.std.specs.List.{AllZip}
 use Rattle.cq_group.proofs.CutoverLaws.{fetched_incoming, stores_fetched}

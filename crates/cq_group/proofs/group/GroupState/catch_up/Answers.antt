@@ -1,13 +1,12 @@
-use Rattle.std.proofs.Common.{◌≡◌, ◌∙◌, ◌+◌, ◌<◌, ◌≤◌, [], ◌∷◌, ◌++◌, IsSome, refl, sym, ap, rules, arith}
+use Rattle.std.proofs.Common.{◌∙◌, ◌≤◌, [], ◌∷◌, ◌++◌, IsSome, refl, ap, rules, arith}
 use Rattle.cq_tree.specs.declared.journal.Entry.{Entry}
 use Rattle.cq_tree.specs.declared.journal.EntryKind.TheVariants.{CatchUp}
 use Rattle.cq_journal.specs.Journals.{replay}
 use Rattle.cq_journal.specs.Stations.{station_of}
 use Rattle.cq_journal.proofs.Replays.{replay_more}
 use Rattle.cq_group.specs.Groups.{Outline, journal_of, shapes, outlines, entries_of}
-use Rattle.cq_group.specs.Moves.{upto_move}
 use Rattle.cq_group.proofs.StartLaws.{reserved_resting}
-use Rattle.cq_group.proofs.CutoverLaws.{in_flight, unmoved_incoming, fetched_incoming, stores_fetched, counted_log}
+use Rattle.cq_group.proofs.CutoverLaws.{in_flight, unmoved_incoming, fetched_incoming, stores_fetched}
 use Rattle.cq_group.proofs.MoveEntries.{resting_entry, caught_kept, same_go_on}
 use Rattle.cq_group.proofs.group.GroupState.catch_up.Goals as goal
 

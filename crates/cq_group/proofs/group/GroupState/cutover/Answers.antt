@@ -1,14 +1,12 @@
-use Rattle.std.proofs.Common.{◌≡◌, ◌∙◌, ◌+◌, ◌<◌, ◌≤◌, [], ◌∷◌, ◌++◌, IsSome, length, map, vec_capacity, refl, sym, ap, subst, rules, arith}
-use Rattle.std.specs.List.{AllZip, AllByRecursion, flat_map}
+use Rattle.std.proofs.Common.{◌∙◌, IsSome, length, map, refl, sym, ap, subst, arith}
+use Rattle.std.specs.List.{AllZip, flat_map}
 use Rattle.std.proofs.lemmas.List.{length-map}
-use Rattle.cq_tree.specs.declared.journal.Entry.{Entry}
-use Rattle.cq_tree.specs.declared.journal.EntryKind.TheVariants.{Cutover}
 use Rattle.cq_journal.specs.Stations.{station_of}
 use Rattle.cq_group.specs.declared.group.GroupTable.{GroupTable}
 use Rattle.cq_group.specs.declared.incoming.IncomingTable.{IncomingTable}
-use Rattle.cq_group.specs.Groups.{outline, outlines, entries_of, journal_of, stores_of, shapes, copies_of}
+use Rattle.cq_group.specs.Groups.{outline, outlines, entries_of, journal_of, shapes, copies_of}
 use Rattle.cq_group.specs.Calls.{GoesOn, Lifted}
-use Rattle.cq_group.specs.Incoming.{IsIncomingTable, arriving, with_stores, without_stores}
+use Rattle.cq_group.specs.Incoming.{IsIncomingTable, arriving}
 use Rattle.cq_group.proofs.StartLaws.{length_zipped}
 use Rattle.cq_group.proofs.MoveEntries.{slot_kept}
 use Rattle.cq_group.proofs.CutoverLaws.{in_flight, flight, target_found, one_store, one_copy, one_each, left_stores, exchanged_outlines, exchanged_stores, exchanged_resting}

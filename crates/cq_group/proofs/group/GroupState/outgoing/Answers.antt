@@ -1,12 +1,10 @@
 use Rattle.std.proofs.Common.{◌≡◌, ◌∙◌, ◌+◌, ◌<◌, [], ◌∷◌, ◌++◌, length, take, get_or, refl, sym, ap, subst, rules, arith}
-use Rattle.std.specs.List.{AllZip, sum_by}
-use Rattle.cq_value.specs.declared.schema.Shape.{Shape}
-use Rattle.cq_tree.specs.declared.journal.Entry.{Entry}
+use Rattle.std.specs.List.{AllZip}
 use Rattle.cq_journal.specs.Journals.{replay}
 use Rattle.cq_group.specs.declared.incoming.IncomingTable.{IncomingTable}
-use Rattle.cq_group.specs.Groups.{Outline, outlines, entries_of}
+use Rattle.cq_group.specs.Groups.{outlines, entries_of}
 use Rattle.cq_group.specs.Calls.{Rests, Lifted}
-use Rattle.cq_group.specs.Incoming.{IsLeaving, rows_in}
+use Rattle.cq_group.specs.Incoming.{IsLeaving}
 use Rattle.cq_group.proofs.GroupLaws.{quiet_along, outlines_along}
 use Rattle.cq_group.proofs.ReadLaws.{rested_none, rested_more, rested_kept, rested_blames}
 use Rattle.cq_group.proofs.StartLaws.{rested_length, outlines_length, leaving_more, due_more}

@@ -2,8 +2,7 @@ use Rattle.std.proofs.Common.{◌≡◌, ◌∙◌, ◌+◌, get_or, length, ref
 use Rattle.std.proofs.lemmas.Result.{IfOk-weaker, IfErr-weaker}
 use Rattle.cq_value.specs.Tables.{Table}
 use Rattle.cq_journal.specs.Journals.{replay}
-use Rattle.cq_group.specs.declared.group.GroupTable.{GroupTable}
-use Rattle.cq_group.specs.Groups.{Outline, IsTableQuiet, IsTableKept, entries_of, copies_of, outline}
+use Rattle.cq_group.specs.Groups.{Outline, IsTableQuiet, IsTableKept, entries_of, copies_of}
 use Rattle.cq_group.specs.Calls.{Rests, Lifted, Blames, IsRestingTable, first_rows}
 use Rattle.cq_group.specs.Incoming.{IsOutgoing, IsLeaving}
 use Rattle.cq_group.proofs.Zips.{zip_set}

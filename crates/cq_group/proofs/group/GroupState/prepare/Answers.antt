@@ -1,4 +1,4 @@
-use Rattle.std.proofs.Common.{refl, ap, rules}
+use Rattle.std.proofs.Common.{refl, ap}
 use Rattle.cq_group.proofs.WriteLaws.{goes_on_twice}
 use Rattle.cq_group.proofs.MoveEntries.{same_go_on}
 use Rattle.cq_group.proofs.ReadLaws.{rested_goes_on}

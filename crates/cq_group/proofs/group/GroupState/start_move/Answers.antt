@@ -1,10 +1,9 @@
-use Rattle.std.proofs.Common.{◌≡◌, ◌∙◌, ◌+◌, ◌<◌, ◌≤◌, [], ◌∷◌, ◌++◌, None, length, vec_capacity, refl, sym, ap, subst, rules, arith}
+use Rattle.std.proofs.Common.{◌∙◌, ◌<◌, ◌≤◌, [], ◌∷◌, ◌++◌, None, refl, sym, ap, subst, rules, arith}
 use Rattle.cq_tree.specs.declared.journal.Entry.{Entry}
 use Rattle.cq_tree.specs.declared.journal.EntryKind.TheVariants.{MoveStart}
 use Rattle.cq_journal.specs.Journals.{replay}
 use Rattle.cq_journal.proofs.Replays.{replay_more}
 use Rattle.cq_group.specs.declared.moving.Moving.{Moving}
-use Rattle.cq_group.specs.declared.incoming.IncomingTable.{IncomingTable}
 use Rattle.cq_group.specs.Groups.{Outline, outlines, entries_of}
 use Rattle.cq_group.specs.Calls.{Lifted}
 use Rattle.cq_group.specs.Incoming.{IsLeaving, Adopts, CanStart, RefusesMove}

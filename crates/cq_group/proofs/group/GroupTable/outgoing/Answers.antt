@@ -1,5 +1,4 @@
-use Rattle.std.proofs.Common.{◌≡◌, ◌∙◌, ◌+◌, ◌<◌, [], List, length, refl, sym, ap, subst, filter, rules, arith}
-use Rattle.std.specs.List.{HoldsAt}
+use Rattle.std.proofs.Common.{◌≡◌, ◌∙◌, length, sym, ap, subst, filter, arith}
 use Rattle.cq_value.specs.Tables.{Table, Pair, IsAscending}
 use Rattle.cq_store.specs.Stores.{has_values}
 use Rattle.cq_group.specs.Calls.{first_rows}

@@ -1,5 +1,5 @@
-use Rattle.std.proofs.Common.{rules, arith}
-use Rattle.std.specs.List.{AllByRecursion, AllZip}
+use Rattle.std.proofs.Common.{rules}
+use Rattle.std.specs.List.{AllByRecursion}
 use Rattle.cq_group.specs.declared.incoming.IncomingTable.{IncomingTable}
 use Rattle.cq_group.specs.Calls.{Takes}
 use Rattle.cq_group.specs.Incoming.{IsSettledTable}

@@ -1,4 +1,4 @@
-use Rattle.std.proofs.Common.{refl, rules}
+use Rattle.std.proofs.Common.{refl}
 use Rattle.cq_group.proofs.IncomingLaws.{settled_stores}
 use Rattle.cq_group.proofs.incoming.IncomingTable.settle.Goals as goal
 
