@@ -37,19 +37,19 @@ of_kind kind.Bigint (Text t) h = absurd (cc h)
 of_kind kind.Integer (Text t) h = absurd (cc h)
 of_kind kind.Text (Text t) h = (tt, refl)
 
-null_of_kind : (k : Kind) → IsOfKind k Null
+pub null_of_kind : (k : Kind) → IsOfKind k Null
 null_of_kind kind.Bigint = (tt, refl)
 null_of_kind kind.Integer = (tt, refl)
 null_of_kind kind.Text = (tt, refl)
 
-abbrev kinds_in : List schema.Column → List Kind
+abbrev pub kinds_in : List schema.Column → List Kind
 kinds_in columns = map (λ (c : schema.Column). c.kind) columns
 
 nulls_fit : (columns : List schema.Column) → AreOfKinds (kinds_in columns) (replicate (length columns) Null)
 nulls_fit [] = tt
 nulls_fit (c ∷ more) = (null_of_kind c.kind, nulls_fit more)
 
-abbrev IfSome : {A : Type 0} → (A → Type 0) → Option A → Type 0
+abbrev pub IfSome : {A : Type 0} → (A → Type 0) → Option A → Type 0
 IfSome P None = ⊤
 IfSome P (Some a) = P a
 
@@ -63,7 +63,7 @@ at_kind t [] i k is = absurd (subst IsSome (sym is) tt)
 at_kind t (c ∷ more) zero k is = subst (IfSome (λ j. c.kind ≡ j)) is refl
 at_kind t (c ∷ more) (suc i) k is = at_kind t more i k is
 
-kinds_set : (ks : List Kind) (row : Row) (n : ℕ) (v : Value) → AreOfKinds ks row → ((k : Kind) → slice_get ks n ≡ Some k → IsOfKind k v) → AreOfKinds ks (slice_set row n v)
+pub kinds_set : (ks : List Kind) (row : Row) (n : ℕ) (v : Value) → AreOfKinds ks row → ((k : Kind) → slice_get ks n ≡ Some k → IsOfKind k v) → AreOfKinds ks (slice_set row n v)
 kinds_set [] [] n v h s = tt
 kinds_set [] (w ∷ ws) n v h s = absurd h
 kinds_set (k ∷ ks) [] n v h s = absurd h
@@ -126,14 +126,14 @@ rows_fit cx t is rows = yields_through (AllByRecursion (AreOfKinds (kinds_in t.c
 
 -- ---- the table
 
-abbrev IsThere : List TableInfo → st.Target → Type 0
+abbrev pub IsThere : List TableInfo → st.Target → Type 0
 IsThere tables p = slice_get tables p.0 ≡ Some p.1
 
 target_in_there : (tables : List TableInfo) (name : Name) (i : ℕ) (t : Option TableInfo) → slice_get tables i ≡ t → Yields (IsThere tables) (st.target_in name i t)
 target_in_there tables name i None is = yields_refuse (IsThere tables) (error.UnknownTable name.text)
 target_in_there tables name i (Some t) is = yields_provided (IsThere tables) (not (is_local t.place)) (error.LocalTable name.at) (give (i, t)) (λ may. yields_give (IsThere tables) (i, t) is)
 
-target_at_there : (tables : List TableInfo) (name : Name) (i : Option ℕ) → Yields (IsThere tables) (st.target_at tables name i)
+pub target_at_there : (tables : List TableInfo) (name : Name) (i : Option ℕ) → Yields (IsThere tables) (st.target_at tables name i)
 target_at_there tables name None = yields_refuse (IsThere tables) (error.UnknownTable name.text)
 target_at_there tables name (Some i) = target_in_there tables name i (slice_get tables i) refl
 

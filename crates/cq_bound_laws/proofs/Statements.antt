@@ -1,5 +1,5 @@
--- What a statement that is read is: an INSERT is one of rows that fit, and a setting has a number that fits.
-use Rattle.std.proofs.Common.{◌≡◌, ℕ, ◌≤◌, Bool, true, false, not, ◌&&◌, List, [], Option, Ok, arith}
+-- What a statement that is read is: an INSERT is one of rows that fit, a COPY is into a table that there is, and a setting has a number that fits.
+use Rattle.std.proofs.Common.{◌≡◌, ℕ, zero, suc, ◌≤◌, ◌<◌, Bool, true, false, not, ◌&&◌, List, [], ◌∷◌, Option, Some, Ok, arith}
 use Rattle.std.specs.Prelude.{⊤, nat_le, nat_lt, length, slice_get, bytes_eq, codes}
 use Rattle.std.specs.List.{AllByRecursion, list_any}
 use Rattle.cq_value.specs.declared.schema.Column as schema
@@ -32,14 +32,15 @@ use Rattle.cq_reading.specs.Widths.{is_some}
 use Rattle.cq_reading.specs.Scopes.{table_sources}
 use Rattle.cq_reading.specs.Steps.{give, through}
 use Rattle.cq_reading.specs.Statements as st
-use Rattle.cq_bound_laws.specs.Laws.{RowsFit, SettingsFit}
+use Rattle.cq_bound_laws.specs.Laws.{CopiesAreThere, RowsFit, SettingsFit}
 use Rattle.cq_bound_laws.proofs.Yields.{Yields, yields_give, yields_refuse, yields_then, yields_behind, yields_provided, yields_if, yields_outcome}
-use Rattle.cq_bound_laws.proofs.Rows.{insertion_fits}
+use Rattle.cq_bound_laws.proofs.Rows.{IsThere, target_at_there, insertion_fits}
 
 -- what is known of what a syntax tree is read as
 unfoldable Known : List TableInfo → Statement → Type 0
 Known tables (statement.Write (Insert table rows)) = AllByRecursion (Fits (shape_of (slice_get tables table))) rows
 Known tables (statement.Setting which n) = n ≤ 128
+Known tables (statement.Copy table columns csv header) = table < length tables
 Known tables _ = ⊤
 
 both_true : (a b : Bool) → (a && b) ≡ true → b ≡ true
@@ -48,6 +49,11 @@ both_true false b h = cc
 
 at_most : (m n : ℕ) → nat_le m n ≡ true → m ≤ n
 at_most m n h = grind (arith, h)
+
+there_below : (tables : List TableInfo) (i : ℕ) (t : TableInfo) → slice_get tables i ≡ Some t → i < length tables
+there_below [] i t is = absurd (cc is)
+there_below (u ∷ more) zero t is = omega arith
+there_below (u ∷ more) (suc i) t is = let below = there_below more i t is in omega (arith, below)
 
 module _ (tables : List TableInfo) where
   abbrev K : Statement → Type 0
@@ -67,9 +73,9 @@ module _ (tables : List TableInfo) where
   unfolding Known
   known_explanation q = yields_give K (statement.Explain q) tt
 
-  known_copy : (table : ℕ) (columns : List ℕ) (csv header : Bool) → Yields K (give (statement.Copy table columns csv header))
+  known_copy : (table : ℕ) (columns : List ℕ) (csv header : Bool) → table < length tables → Yields K (give (statement.Copy table columns csv header))
   unfolding Known
-  known_copy table columns csv header = yields_give K (statement.Copy table columns csv header) tt
+  known_copy table columns csv header h = yields_give K (statement.Copy table columns csv header) h
 
   known_update : (table : ℕ) (filter : Cond) (sets : List Set) → Yields K (give (statement.Write (Update table filter sets)))
   unfolding Known
@@ -144,7 +150,8 @@ module _ (tables : List TableInfo) where
 
   copies : (table : Name) (columns : List Name) (opts : List CopyOption) → Yields K (st.copying tables table columns opts)
   copies table columns opts =
-      yields_behind K (st.target_of tables table) _ (λ p. yields_behind K (st.columns_of p.1.columns columns) _ (λ is. known_copy p.0 is (list_any st.is_csv opts) (list_any st.is_header opts)))
+      yields_then (IsThere tables) K (st.target_of tables table) _ (target_at_there tables table (number_of tables table.text)) (λ p there.
+      yields_behind K (st.columns_of p.1.columns columns) _ (λ is. known_copy p.0 is (list_any st.is_csv opts) (list_any st.is_header opts) (there_below tables p.0 p.1 there)))
 
   switches : (which : ℕ) (v : SettingValue) → Yields K (st.switch_setting which v)
   switches which (settings.Number n at) = yields_refuse K _
@@ -209,6 +216,10 @@ statement_known tables a s is = yields_outcome (Known tables) (st.statement_of t
 pub rows_of_insertions_fit : RowsFit
 unfolding Known
 rows_of_insertions_fit tables a table rows is = statement_known tables a (statement.Write (Insert table rows)) is
+
+pub copies_are_there : CopiesAreThere
+unfolding Known
+copies_are_there tables a table columns csv header is = statement_known tables a (statement.Copy table columns csv header) is
 
 pub settings_fit : SettingsFit
 unfolding Known

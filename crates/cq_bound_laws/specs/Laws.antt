@@ -1,5 +1,5 @@
 -- What a text that is read makes sure of, so that its statement can be computed and planned.
-use Rattle.std.specs.Prelude.{◌≡◌, ◌≤◌, ℕ, List, length, slice_get, Ok}
+use Rattle.std.specs.Prelude.{◌≡◌, ◌≤◌, ◌<◌, ℕ, Bool, List, length, slice_get, Some, Ok}
 use Rattle.std.specs.List.{AllByRecursion}
 use Rattle.cq_catalog.specs.declared.info.TableInfo.{TableInfo}
 use Rattle.cq_catalog.specs.Contents.{Contents, shape_of}
@@ -22,10 +22,20 @@ use Rattle.cq_written_laws.specs.TextLaws.{Spells}
 use Rattle.cq_history.specs.Run.{Run, Rules, Environment}
 use Rattle.cq_history.specs.Log.{IsConsistent}
 use Rattle.cq_history.specs.Computable.{IsComputable}
+use Rattle.cq_copy.specs.Data.{rows_of}
 
 -- the rows of an INSERT fit their table
 abbrev pub RowsFit : Type 0
 RowsFit = (tables : List TableInfo) (a : Ast) (table : ℕ) (rows : List Row) → reading tables a ≡ Ok (statement.Write (Insert table rows)) →
+    AllByRecursion (Fits (shape_of (slice_get tables table))) rows
+
+-- a COPY names a table that there is
+abbrev pub CopiesAreThere : Type 0
+CopiesAreThere = (tables : List TableInfo) (a : Ast) (table : ℕ) (columns : List ℕ) (csv header : Bool) → reading tables a ≡ Ok (statement.Copy table columns csv header) → table < length tables
+
+-- the rows of a COPY's data fit their table
+abbrev pub CopiesFit : Type 0
+CopiesFit = (tables : List TableInfo) (table : ℕ) (t : TableInfo) (bytes columns : List ℕ) (csv header : Bool) (rows : List Row) → slice_get tables table ≡ Some t → rows_of bytes t columns csv header ≡ Ok rows →
     AllByRecursion (Fits (shape_of (slice_get tables table))) rows
 
 -- a setting has a number that fits
@@ -44,6 +54,10 @@ HasColumns c = (table : ℕ) → IsColumnOf (length (shape_in c table).kinds) (p
 -- what a text is read as can be computed and planned over the catalogue
 abbrev pub TextsCompute : Type 0
 TextsCompute = (c : Contents) (text : List ℕ) (a : Ast) (s : Statement) → IsWhole c → HasColumns c → Spells text a → reading c.tables a ≡ Ok s → IsComputable c s
+
+-- so can the INSERT of rows that fit their table
+abbrev pub InsertsCompute : Type 0
+InsertsCompute = (c : Contents) (table : ℕ) (rows : List Row) → IsWhole c → AllByRecursion (Fits (shape_in c table)) rows → IsComputable c (statement.Write (Insert table rows))
 
 -- between two statements of a serial script each distribution column is a column of its table
 abbrev pub ColumnsStand : Type 0

@@ -2,3 +2,4 @@ pub mod Texts
 pub mod Values
 pub mod Rows
 pub mod Records
+pub mod Data

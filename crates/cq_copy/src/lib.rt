@@ -2,6 +2,7 @@
 #![tactic(auto)]
 
 mod columns;
+mod data;
 mod error;
 mod fields;
 mod format;
@@ -11,6 +12,7 @@ mod text_rows;
 mod texts;
 mod values;
 
+pub use data::rows_of;
 pub use error::CopyError;
 pub use format::Format;
 pub use records::rows_of_csv;

@@ -1,18 +1,15 @@
 -- The answers of COPY, which are those of the INSERT of its rows.
 use Rattle.std.proofs.Common.{◌≡◌, inl, inr, ℕ, List, refl, ap, ◌∙◌, Some, None, Option}
-use Rattle.cq_tree.specs.declared.journal.Who.{Who}
 use Rattle.cq_tree.specs.declared.write.ShardOp.{ShardOp}
 use Rattle.cq_tree.specs.declared.statement.Statement.TheVariants as statement
-use Rattle.cq_journal.specs.Records.{Journal}
 use Rattle.cq_answer.specs.declared.answer.Answer.{Answer}
 use Rattle.cq_answer.specs.declared.answer.Answer.TheVariants as answer
 use Rattle.cq_answer.specs.declared.answer.Tag.{Tag}
 use Rattle.cq_answer.specs.declared.answer.Tag.TheVariants as tag
 use Rattle.cq_answer.specs.declared.fault.Fault.{Fault}
-use Rattle.cq_history.specs.Run.{Run, Rules, Environment, after}
-use Rattle.cq_history.specs.Standing.{View, tag_of, copied, IsTagOf, copied_answer, RunsUnless, StandsIn}
+use Rattle.cq_history.specs.Run.{Run, Environment, after}
+use Rattle.cq_history.specs.Standing.{View, tag_of, copied, IsTagOf, copied_answer, RunsUnless}
 use Rattle.cq_history.specs.Deeds.{in_deed}
-use Rattle.cq_history.specs.Log.{IsAnswered}
 use Rattle.cq_history.specs.Laws.{CopyIsAnswered}
 
 copied_twice : (t : Tag) → copied (copied t) ≡ copied t

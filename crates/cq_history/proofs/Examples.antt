@@ -1,5 +1,5 @@
 -- The definitions can be met, and say what they should: an INSERT of two rows in two groups.
-use Rattle.std.proofs.Common.{suc, zero, ◌≡◌, ◌+◌, ◌<◌, ◌≤◌, ◌⊎◌, inl, inr, ℕ, Bool, true, false, cond, List, [], ◌∷◌, length, refl, sym, ◌∙◌, ap, subst, arith, Some, None, Option}
+use Rattle.std.proofs.Common.{suc, zero, ◌≡◌, ◌+◌, ◌<◌, ◌≤◌, ◌⊎◌, inl, inr, ℕ, Bool, true, false, cond, List, [], ◌∷◌, length, refl, sym, ap, subst, arith, Some, None, Option}
 use Rattle.std.specs.Prelude.{pos}
 use Rattle.std.proofs.lemmas.Bool.Decides.{eqb_tells}
 use Rattle.cq_value.specs.Tables.{empty_table}
@@ -26,7 +26,7 @@ use Rattle.cq_journal.specs.Records.{Journal}
 use Rattle.cq_history.specs.Journals.{journal_in, with_entries, in_each, before}
 use Rattle.cq_planning.specs.Parts.{part}
 use Rattle.cq_planning.specs.Touched.{among}
-use Rattle.cq_history.specs.Standing.{Stands, RunsUnless, in_journals, HasIds}
+use Rattle.cq_history.specs.Standing.{Stands, RunsUnless, IsTagOf, in_journals, HasIds}
 use Rattle.cq_history.specs.Deeds.{IsFresh, Grows}
 use Rattle.cq_history.specs.Log.{IsAnswered}
 use Rattle.cq_history.specs.Laws.{IsWriting, reply_over}
@@ -42,11 +42,11 @@ insert_counts_by true m n h = cc
 insert_counts_by false m n h = cc
 
 pub insert_counts : (rules : Rules) (run : Run) (e : Environment) (journals : List Journal) (who : Who) (table : ℕ) (rows : List Row) (t : Tag) → rules.refusal e (statement.Write (Insert table rows)) ≡ None →
-    Stands rules run e journals who (Some (statement.Write (Insert table rows))) (answer.Tag t) → t ≡ tag.Insert (length rows)
+    Stands rules run e journals who (Some (statement.Write (Insert table rows))) (answer.Tag t) → IsTagOf (Insert table rows) (length rows) t
 insert_counts rules run e journals who table rows t runs stands =
     let s = statement.Write (Insert table rows) in
     let made = subst (λ (o : Option Fault). RunsUnless o (rules.touched e.catalog s) run e (in_journals run e.catalog journals who) s (answer.Tag t)) runs stands in
-    made.1 ∙ ap tag.Insert (insert_counts_by _ _ _ (made.2.replied (λ g. length (before who (journal_in journals g).entries)) (λ g h. refl)))
+    subst (λ n. IsTagOf (Insert table rows) n t) (insert_counts_by _ _ _ (made.2.replied (λ g. length (before who (journal_in journals g).entries)) (λ g h. refl))) made.1
 
 -- ---- two rows in two groups
 

@@ -1,6 +1,6 @@
 -- The answers of EXPLAIN.
 use Rattle.std.proofs.Common.{◌≡◌, ◌+◌, ◌<◌, ◌≤◌, inl, inr, ℕ, zero, suc, true, List, [], ◌∷◌, length, refl, sym, subst, arith, Some, None, Option}
-use Rattle.std.specs.Prelude.{nat_eq, codes}
+use Rattle.std.specs.Prelude.{codes}
 use Rattle.std.proofs.lemmas.Bool.Decides.{eqb_tells}
 use Rattle.cq_tree.specs.declared.journal.Who.{Who}
 use Rattle.cq_tree.specs.declared.query.Query.{Query}

@@ -1,168 +1,164 @@
--- The pieces of a script that comes in parts.
-use Rattle.std.proofs.Common.{◌≡◌, ℕ, Bool, true, false, cond, List, [], ◌∷◌, ◌++◌, length, map, refl, sym, ◌∙◌, ap, subst, arith, append_assoc, append-nil, length-append}
-use Rattle.std.specs.Prelude.{filter}
-use Rattle.std.specs.List.{onto_first}
+-- A script that comes in parts: what bytes end, and then what more bytes end.
+use Rattle.std.specs.Prelude.{◌&&◌, ◌||◌, ◌==◌, codes, if◌then◌else◌}
+use Rattle.std.proofs.Common.{Bool, true, false, cond, ◌≡◌, ◌≤◌, ◌+◌, ℕ, Some, None, List, [], ◌∷◌, ◌++◌, length, refl, sym, ◌∙◌, ap, subst, arith, append_assoc, length-append}
+use Rattle.cq_token.specs.Bytes.{is_blank}
 use Rattle.cq_script.specs.declared.scan.Scan.{Scan}
-use Rattle.cq_script.specs.declared.scan.Scan.TheVariants.{Code}
-use Rattle.cq_script.specs.Scripts.{next, scan, ends, pieces_from, pieces, ended, begun, statement_of, is_text, texts, statements, whole_statements, rest_of, if_any, NoEnd, Parted, Cut, Cutting, Gives}
+use Rattle.cq_script.specs.declared.scan.Scan.TheVariants.{Code, Dash}
+use Rattle.cq_script.specs.declared.cutter.Item.{Item}
+use Rattle.cq_script.specs.declared.cutter.Line.{Line}
+use Rattle.cq_script.specs.declared.cutter.Line.TheVariants.{Start, Slash, End, Within}
+use Rattle.cq_script.specs.declared.cutter.Place.{Place}
+use Rattle.cq_script.specs.declared.cutter.Place.TheVariants.{Gap, GapDash, GapComment, Text, Rest, Data, Directive, Out}
+use Rattle.cq_script.specs.declared.cutter.Cutter.{Cutter}
+use Rattle.cq_script.specs.Scripts.{next, ends, is_copy, Cut, Stepped, first, goes, in_text, in_gap, keeps, in_data, step_at, line_behind, step, one, cut, items_in, items, last_at, last, misplaced_of, misplaced, Gives}
 
--- ---- texts without an end
+-- items, and then the items of another cut
+abbrev pub behind : List Item → Cut → Cut
+behind before c = record { items = before ++ c.items; begun = c.begun }
 
-pub no_end_append : (at : Scan) (xs ys : List ℕ) → NoEnd at xs → NoEnd (scan at xs) ys → NoEnd at (xs ++ ys)
-no_end_append at [] ys h k = k
-no_end_append at (b ∷ xs) ys h k = (h.0, no_end_append (next at b) xs ys h.1 k)
+behind_both : (before more : List Item) (c : Cut) → behind before (behind more c) ≡ behind (before ++ more) c
+behind_both before more c = ap (λ (items : List Item). let both : Cut = record { items = items; begun = c.begun } in both) (sym (append_assoc before more c.items))
 
-pub scan_append : (at : Scan) (xs ys : List ℕ) → scan at (xs ++ ys) ≡ scan (scan at xs) ys
-scan_append at [] ys = refl
-scan_append at (b ∷ xs) ys = scan_append (next at b) xs ys
+-- ---- bytes in parts
 
-abbrev Pieces : Type 0
-Pieces = List (List ℕ)
+pub cut_append : (c : Cutter) (xs ys : List ℕ) → cut c (xs ++ ys) ≡ behind (cut c xs).items (cut (cut c xs).begun ys)
+cut_append c [] ys = refl
+cut_append c (b ∷ xs) ys =
+    let s = step c b in
+    let more = cut s.1 xs in
+    ap (behind (one s.0)) (cut_append s.1 xs ys) ∙ behind_both (one s.0) more.items (cut more.begun ys)
 
-on_no : (b : Bool) (x y : Pieces) → b ≡ false → cond b x y ≡ y
-on_no true x y e = absurd (let h : true ≡ false = e in cc)
-on_no false x y e = refl
+pub items_in_append : (xs ys : List ℕ) → items_in (xs ++ ys) ≡ items_in xs ++ (cut (cut first xs).begun ys).items
+unfolding items_in
+items_in_append xs ys = ap (λ (c : Cut). c.items) (cut_append first xs ys)
 
-on_yes : (b : Bool) (x y : Pieces) → b ≡ true → cond b x y ≡ x
-on_yes true x y e = refl
-on_yes false x y e = absurd (let h : false ≡ true = e in cc)
+-- ---- one byte
 
--- one piece
-pub one_piece : (at : Scan) (xs : List ℕ) → NoEnd at xs → pieces_from at xs ≡ xs ∷ []
-one_piece at [] h = refl
-one_piece at (b ∷ xs) h = on_no (ends at b) _ _ h.0 ∙ ap (onto_first b) (one_piece (next at b) xs h.1)
+pub cut_none : (c new : Cutter) (b : ℕ) (bs : List ℕ) → (None, new) ≡ step c b → cut c (b ∷ bs) ≡ cut new bs
+cut_none c new b bs is = ap (λ (s : Stepped). behind (one s.0) (cut s.1 bs)) (sym is)
 
--- a piece that ends
-pub first_piece : (at : Scan) (xs left : List ℕ) (end : ℕ) → NoEnd at xs → ends (scan at xs) end ≡ true → pieces_from at (xs ++ end ∷ left) ≡ xs ∷ pieces left
-first_piece at [] left end h e = on_yes (ends at end) _ _ e
-first_piece at (b ∷ xs) left end h e = on_no (ends at b) _ _ h.0 ∙ ap (onto_first b) (first_piece (next at b) xs left end h.1 e)
+pub cut_some : (c new : Cutter) (item : Item) (b : ℕ) (bs : List ℕ) → (Some item, new) ≡ step c b → cut c (b ∷ bs) ≡ behind (item ∷ []) (cut new bs)
+cut_some c new item b bs is = ap (λ (s : Stepped). behind (one s.0) (cut s.1 bs)) (sym is)
 
--- ---- pieces in parts
-
-abbrev Some : Pieces → Type 0
-Some ps = (p : List ℕ) × (qs : Pieces) × (ps ≡ p ∷ qs)
-
-some_onto : (b : ℕ) (ps : Pieces) → Some ps → Some (onto_first b ps)
-some_onto b [] h = absurd (let e : [] ≡ h.0 ∷ h.1 = h.2 in cc)
-some_onto b (p ∷ ps) h = (b ∷ p, ps, refl)
-
-some_by : (b : Bool) (x y : Pieces) → Some x → Some y → Some (cond b x y)
-some_by true x y h k = h
-some_by false x y h k = k
-
-some_piece : (at : Scan) (xs : List ℕ) → Some (pieces_from at xs)
-some_piece at [] = ([], [], refl)
-some_piece at (b ∷ xs) = some_by (ends at b) _ _ ([], pieces_from Code xs, refl) (some_onto b (pieces_from (next at b) xs) (some_piece (next at b) xs))
-
-ended_more : (p : List ℕ) (ps : Pieces) → Some ps → ended (p ∷ ps) ≡ p ∷ ended ps
-ended_more p [] h = absurd (let e : [] ≡ h.0 ∷ h.1 = h.2 in cc)
-ended_more p (q ∷ ps) h = refl
-
-begun_more : (p : List ℕ) (ps : Pieces) → Some ps → begun (p ∷ ps) ≡ begun ps
-begun_more p [] h = absurd (let e : [] ≡ h.0 ∷ h.1 = h.2 in cc)
-begun_more p (q ∷ ps) h = refl
-
--- more bytes after those taken: what follows is cut from the piece begun and them
-record More (taken more : List ℕ) : Type 0 where
-  ended : ended (pieces (taken ++ more)) ≡ ended (pieces taken) ++ ended (pieces (begun (pieces taken) ++ more))
-  begun : begun (pieces (taken ++ more)) ≡ begun (pieces (begun (pieces taken) ++ more))
-
-more_none : (text more : List ℕ) → NoEnd Code text → More text more
-more_none text more none =
-    let one = one_piece Code text none in
-    record {
-      ended = sym (ap (λ ps. ended ps ++ ended (pieces (begun ps ++ more))) one);
-      begun = sym (ap (λ ps. begun (pieces (begun ps ++ more))) one);
-    }
-
-more_end : (text bytes more : List ℕ) (end : ℕ) → NoEnd Code text → ends (scan Code text) end ≡ true → More bytes more → More (text ++ end ∷ bytes) more
-more_end text bytes more end none e h =
-    let first = first_piece Code text bytes end none e in
-    let both = ap pieces (append_assoc text (end ∷ bytes) more) ∙ first_piece Code text (bytes ++ more) end none e in
-    let begun_first : begun (pieces (text ++ end ∷ bytes)) ≡ begun (pieces bytes) = ap begun first ∙ begun_more text (pieces bytes) (some_piece Code bytes) in
-    record {
-      ended = ap ended both ∙ ended_more text (pieces (bytes ++ more)) (some_piece Code (bytes ++ more)) ∙ ap (λ v. text ∷ v) h.ended
-          ∙ sym (ap (λ v. v ++ ended (pieces (begun (pieces (text ++ end ∷ bytes)) ++ more))) (ap ended first ∙ ended_more text (pieces bytes) (some_piece Code bytes))
-          ∙ ap (λ r. (text ∷ ended (pieces bytes)) ++ ended (pieces (r ++ more))) begun_first);
-      begun = ap begun both ∙ begun_more text (pieces (bytes ++ more)) (some_piece Code (bytes ++ more)) ∙ h.begun ∙ sym (ap (λ r. begun (pieces (r ++ more))) begun_first);
-    }
-
-more_from : (bytes text more : List ℕ) → NoEnd Code text → More (text ++ bytes) more
-more_from [] text more none = subst (λ (t : List ℕ). More t more) (sym (append-nil text)) (more_none text more none)
-more_from (b ∷ bs) text more none = by_end (ends (scan Code text) b) refl (more_from bs [] more tt) (λ t. more_from bs t more)
-  where
-    by_end : (t : Bool) → ends (scan Code text) b ≡ t → More bs more → ((text : List ℕ) → NoEnd Code text → More (text ++ bs) more) → More (text ++ b ∷ bs) more
-    by_end true e after f = more_end text bs more b none e after
-    by_end false e after f = subst (λ (t : List ℕ). More t more) (append_assoc text (b ∷ []) bs) (f (text ++ b ∷ []) (no_end_append Code text (b ∷ []) none (e, tt)))
-
-more_taken : (taken more : List ℕ) → More taken more
-more_taken taken more = more_from taken [] more tt
-
--- ---- their statements
-
-one_more : (s : List ℕ) (ss : Pieces) → filter is_text (s ∷ ss) ≡ if_any s ++ filter is_text ss
-one_more [] ss = refl
-one_more (b ∷ bs) ss = refl
-
-texts_append : (ps qs : Pieces) → texts (ps ++ qs) ≡ texts ps ++ texts qs
-texts_append [] qs = refl
-texts_append (p ∷ ps) qs = one_more (statement_of p) (map statement_of (ps ++ qs)) ∙ ap (λ v. if_any (statement_of p) ++ v) (texts_append ps qs)
-    ∙ sym (append_assoc (if_any (statement_of p)) (texts ps) (texts qs)) ∙ ap (λ v. v ++ texts qs) (sym (one_more (statement_of p) (map statement_of ps)))
-
--- before the first byte
-pub cut_first : Cut [] [] []
-unfolding whole_statements rest_of
-cut_first = record { whole = refl; rest = refl }
-
--- more bytes come
-pub cutting_more : (taken more : List ℕ) (given : List (List ℕ)) (text : List ℕ) → Cut taken given text → Cutting (taken ++ more) given text more
-unfolding whole_statements rest_of
-cutting_more taken more given text c = let m = more_taken taken more in record {
-  whole = ap (λ v. v ++ texts (ended (pieces (text ++ more)))) c.whole ∙ ap (λ t. texts (ended (pieces taken)) ++ texts (ended (pieces (t ++ more)))) c.rest
-      ∙ sym (texts_append (ended (pieces taken)) (ended (pieces (begun (pieces taken) ++ more)))) ∙ ap texts (sym m.ended);
-  rest = ap (λ t. begun (pieces (t ++ more))) c.rest ∙ sym m.begun;
+-- an item is found behind bytes that end none
+pub gives_at : (c now new : Cutter) (item : Item) (b : ℕ) (bytes left : List ℕ) → cut c bytes ≡ cut now (b ∷ left) → length (b ∷ left) ≤ length bytes → (Some item, new) ≡ step now b
+    → Gives c bytes item new left
+gives_at c now new item b bytes left same within is = record {
+  first = same ∙ cut_some now new item b left is;
+  shorter = omega (arith, within);
 }
 
--- a piece is given, and none is begun then
-pub cutting_gives : (bytes : List ℕ) (given : List (List ℕ)) (text left piece after : List ℕ) → Cutting bytes given text left → Gives text left piece after
-    → Cutting bytes (given ++ if_any (statement_of piece)) [] after
-unfolding whole_statements rest_of
-cutting_gives bytes given text left piece after c g = record {
-  whole = append_assoc given (if_any (statement_of piece)) (texts (ended (pieces after)))
-      ∙ ap (λ v. given ++ v) (sym (ap texts (ap ended g.pieces ∙ ended_more piece (pieces after) (some_piece Code after)) ∙ one_more (statement_of piece) (map statement_of (ended (pieces after))))) ∙ c.whole;
-  rest = sym (ap begun g.pieces ∙ begun_more piece (pieces after) (some_piece Code after)) ∙ c.rest;
-}
+-- ---- how many items there are
 
--- the bytes left end no piece
-pub cutting_done : (bytes : List ℕ) (given : List (List ℕ)) (text left after : List ℕ) → Cutting bytes given text left → pieces (text ++ left) ≡ after ∷ [] → Cut bytes given after
-unfolding whole_statements rest_of
-cutting_done bytes given text left after c d = record {
-  whole = sym (append-nil given) ∙ ap (λ v. given ++ v) (sym (ap (λ ps. texts (ended ps)) d)) ∙ c.whole;
-  rest = sym (ap begun d) ∙ c.rest;
-}
+-- 1 where an item is begun that the end of the script makes whole
+abbrev pub begun_count : Place → ℕ
+begun_count (Gap fresh) = 0
+begun_count GapDash = 1
+begun_count GapComment = 0
+begun_count (Text scan) = 1
+begun_count Rest = 1
+begun_count (Data line) = 1
+begun_count Directive = 0
+begun_count Out = 0
 
--- at the end
-all_pieces : (ps : Pieces) → Some ps → texts ps ≡ texts (ended ps) ++ if_any (statement_of (begun ps))
-all_pieces [] h = absurd (let e : [] ≡ h.0 ∷ h.1 = h.2 in cc)
-all_pieces (p ∷ []) h = one_more (statement_of p) [] ∙ append-nil (if_any (statement_of p))
-all_pieces (p ∷ q ∷ qs) h = one_more (statement_of p) (map statement_of (q ∷ qs)) ∙ ap (λ v. if_any (statement_of p) ++ v) (all_pieces (q ∷ qs) (q, qs, refl))
-    ∙ sym (append_assoc (if_any (statement_of p)) (texts (ended (q ∷ qs))) (if_any (statement_of (begun (q ∷ qs)))))
-    ∙ ap (λ v. v ++ if_any (statement_of (begun (q ∷ qs)))) (sym (one_more (statement_of p) (map statement_of (ended (q ∷ qs)))))
+-- a byte ends an item or begins one
+abbrev Counts : Stepped → Type 0
+Counts s = length (one s.0) + begun_count s.1.at ≤ 1
 
-pub cut_last : (bytes : List ℕ) (given : List (List ℕ)) (text : List ℕ) → Cut bytes given text → given ++ if_any (statement_of text) ≡ statements bytes
-unfolding statements whole_statements rest_of
-cut_last bytes given text c = ap (λ v. v ++ if_any (statement_of text)) c.whole ∙ ap (λ t. texts (ended (pieces bytes)) ++ if_any (statement_of t)) c.rest ∙ sym (all_pieces (pieces bytes) (some_piece Code bytes))
+begun_most : (at : Place) → begun_count at ≤ 1
+begun_most (Gap fresh) = omega arith
+begun_most GapDash = omega arith
+begun_most GapComment = omega arith
+begun_most (Text scan) = omega arith
+begun_most Rest = omega arith
+begun_most (Data line) = omega arith
+begun_most Directive = omega arith
+begun_most Out = omega arith
 
--- ---- what a cutter does
+goes_counts : (at : Place) (c : Cutter) → Counts (goes at c)
+goes_counts at c = omega (arith, begun_most at)
 
--- an end is found: a piece ends there
-pub gives_at : (text piece left bytes : List ℕ) → NoEnd Code text → Parted (scan Code text) bytes piece left → Gives text bytes (text ++ piece) left
-gives_at text piece left bytes none p = record {
-  pieces = ap (λ b. pieces (text ++ b)) p.whole ∙ ap pieces (sym (append_assoc text piece (p.end ∷ left)))
-      ∙ first_piece Code (text ++ piece) left p.end (no_end_append Code text piece none p.inside) (ap (λ s. ends s p.end) (scan_append Code text piece) ∙ p.ends_there);
-  shorter = omega (arith, ap length p.whole, length-append piece (p.end ∷ left));
-}
+counts_by : (t : Bool) (x y : Stepped) → Counts x → Counts y → Counts (cond t x y)
+counts_by true x y h k = h
+counts_by false x y h k = k
 
--- no end is left
-pub none_at : (text bytes : List ℕ) → NoEnd Code text → NoEnd (scan Code text) bytes → pieces (text ++ bytes) ≡ (text ++ bytes) ∷ []
-none_at text bytes none more = one_piece Code (text ++ bytes) (no_end_append Code text bytes none more)
+text_counts : (scan : Scan) (c : Cutter) (b : ℕ) → Counts (in_text scan c b)
+text_counts scan c b =
+    counts_by (ends scan b) _ _ (counts_by (is_copy c.text) _ _ (goes_counts Rest c) (omega arith)) (goes_counts (Text (next scan b)) (record c { text = c.text ++ b ∷ [] }))
+
+gap_counts : (fresh : Bool) (c : Cutter) (b : ℕ) → Counts (in_gap fresh c b)
+gap_counts fresh c b =
+    counts_by (b == 10) _ _ (goes_counts (Gap true) c) (counts_by (is_blank b || b == 59) _ _ (goes_counts (Gap false) c) (counts_by (b == 45) _ _ (goes_counts GapDash c)
+    (counts_by (b == 92 && fresh) _ _ (goes_counts Directive c) (text_counts Code c b))))
+
+keeps_counts : (held : List ℕ) (c : Cutter) (b : ℕ) → Counts (keeps held c b)
+keeps_counts held c b = goes_counts (Data (if b == 10 then Start else Within)) (record c { copied = c.copied ++ held ++ b ∷ [] })
+
+data_counts : (line : Line) (c : Cutter) (b : ℕ) → Counts (in_data line c b)
+data_counts Start c b = counts_by (b == 92) _ _ (goes_counts (Data Slash) c) (keeps_counts [] c b)
+data_counts Slash c b = counts_by (b == 46) _ _ (goes_counts (Data End) c) (keeps_counts (codes "\\") c b)
+data_counts End c b = counts_by (b == 10) _ _ (omega arith) (keeps_counts (codes "\\.") c b)
+data_counts Within c b = keeps_counts [] c b
+
+place_counts : (at : Place) (c : Cutter) (b : ℕ) → Counts (step_at at c b)
+place_counts (Gap fresh) c b = gap_counts fresh c b
+place_counts GapDash c b = counts_by (b == 45) _ _ (goes_counts GapComment c) (text_counts Dash (record c { text = c.text ++ 45 ∷ [] }) b)
+place_counts GapComment c b = counts_by (b == 10) _ _ (goes_counts (Gap true) c) (goes_counts GapComment c)
+place_counts (Text scan) c b = text_counts scan c b
+place_counts Rest c b = counts_by (b == 10) _ _ (goes_counts (Data Start) c) (counts_by (is_blank b) _ _ (goes_counts Rest c) (goes_counts Out c))
+place_counts (Data line) c b = data_counts line c b
+place_counts Directive c b = counts_by (b == 10) _ _ (goes_counts Out c) (goes_counts Directive c)
+place_counts Out c b = goes_counts Out c
+
+step_counts : (c : Cutter) (b : ℕ) → Counts (step c b)
+unfolding step
+step_counts c b = place_counts c.at (record c { line = line_behind c.at c.line b }) b
+
+-- each item takes a byte, also the one that is begun
+pub items_within : (c : Cutter) (bytes : List ℕ) → length (cut c bytes).items + begun_count (cut c bytes).begun.at ≤ begun_count c.at + length bytes
+items_within c [] = omega arith
+items_within c (b ∷ bs) =
+    let s = step c b in
+    omega (arith, step_counts c b, items_within s.1 bs, length-append (one s.0) (cut s.1 bs).items)
+
+last_counts : (at : Place) (c : Cutter) → length (one (last_at at c)) ≤ begun_count at
+last_counts (Gap fresh) c = omega arith
+last_counts GapDash c = omega arith
+last_counts GapComment c = omega arith
+last_counts (Text scan) c = omega arith
+last_counts Rest c = omega arith
+last_counts (Data Start) c = omega arith
+last_counts (Data Slash) c = omega arith
+last_counts (Data End) c = omega arith
+last_counts (Data Within) c = omega arith
+last_counts Directive c = omega arith
+last_counts Out c = omega arith
+
+-- a script has no more items than bytes
+pub items_most : (bytes : List ℕ) → length (items bytes) ≤ length bytes
+unfolding items items_in last
+items_most bytes =
+    let c = cut first bytes in
+    omega (arith, items_within first bytes, last_counts c.begun.at c.begun, length-append c.items (one (last_at c.begun.at c.begun)))
+
+-- ---- behind a line that is out of its place
+
+cut_out : (c : Cutter) (bytes : List ℕ) → cut (record c { at = Out }) bytes ≡ record { items = []; begun = record c { at = Out } }
+unfolding step
+cut_out c [] = refl
+cut_out c (b ∷ bs) = cut_out c bs
+
+is_out : (at : Place) (line number : ℕ) → misplaced_of at line ≡ Some number → at ≡ Out
+is_out Out line number is = refl
+is_out (Gap fresh) line number is = absurd (let h : None ≡ Some number = is in cc)
+is_out GapDash line number is = absurd (let h : None ≡ Some number = is in cc)
+is_out GapComment line number is = absurd (let h : None ≡ Some number = is in cc)
+is_out (Text scan) line number is = absurd (let h : None ≡ Some number = is in cc)
+is_out Rest line number is = absurd (let h : None ≡ Some number = is in cc)
+is_out (Data of) line number is = absurd (let h : None ≡ Some number = is in cc)
+is_out Directive line number is = absurd (let h : None ≡ Some number = is in cc)
+
+-- nothing follows
+pub cut_misplaced : (c : Cutter) (number : ℕ) (bytes : List ℕ) → misplaced c ≡ Some number → cut c bytes ≡ record { items = []; begun = c }
+unfolding misplaced
+cut_misplaced c number bytes is = subst (λ (at : Place). cut (record c { at = at }) bytes ≡ record { items = []; begun = record c { at = at } }) (sym (is_out c.at c.line number is)) (cut_out c bytes)

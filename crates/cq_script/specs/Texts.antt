@@ -7,7 +7,7 @@ use Rattle.cq_value.specs.declared.value.Value.TheVariants as values
 use Rattle.cq_answer.specs.declared.answer.Answer.{Answer}
 use Rattle.cq_answer.specs.declared.answer.Answer.TheVariants.{Tag, Table, Failed}
 use Rattle.cq_answer.specs.declared.answer.Tag.{Tag as Done}
-use Rattle.cq_answer.specs.declared.answer.Tag.TheVariants.{CreateTable, Insert, Update, Delete, Setting}
+use Rattle.cq_answer.specs.declared.answer.Tag.TheVariants.{CreateTable, Insert, Update, Delete, Copy, Setting}
 use Rattle.cq_answer.specs.declared.fault.Fault.{Fault}
 use Rattle.cq_answer.specs.declared.fault.Fault.TheVariants as faults
 use Rattle.cq_answer.specs.declared.fault.What.{What}
@@ -86,7 +86,9 @@ fault_text (faults.GroupedJoin at) = codes "19 grouped join at " ++ decimal at
 fault_text (faults.Worker node shard before after) = codes "20 worker " ++ decimal node ++ codes " shard " ++ decimal shard ++ codes " faults " ++ decimal before ++ codes " to " ++ decimal after
 fault_text faults.Memory = codes "24 out of memory"
 fault_text (faults.NoRoom node free needed) = codes "26 no room on node " ++ decimal node ++ codes ": " ++ decimal free ++ codes " free, " ++ decimal needed ++ codes " needed"
+fault_text (faults.Columns row found) = codes "27 columns in row " ++ decimal row ++ codes ": " ++ decimal found
 fault_text (faults.Value row column) = codes "28 value in row " ++ decimal row ++ codes " column " ++ decimal column
+fault_text (faults.Encoding row) = codes "29 encoding in row " ++ decimal row
 fault_text faults.Duplicate = codes "30 duplicate key"
 fault_text faults.ValueOutOfRange = codes "31 value out of range"
 fault_text (faults.Limit what number) = codes "33 limit " ++ what_text what ++ codes " " ++ decimal number
@@ -98,6 +100,7 @@ tag_text CreateTable = codes "CREATE TABLE"
 tag_text (Insert n) = codes "INSERT 0 " ++ decimal n
 tag_text (Update n) = codes "UPDATE " ++ decimal n
 tag_text (Delete n) = codes "DELETE " ++ decimal n
+tag_text (Copy n) = codes "COPY " ++ decimal n
 tag_text Setting = codes "SET"
 
 unfoldable pub text_of : Answer → List ℕ
@@ -110,3 +113,5 @@ unfoldable pub fatal_line : Fatal → List ℕ
 fatal_line ends.Usage = codes "FATAL usage\n"
 fatal_line ends.Read = codes "FATAL read\n"
 fatal_line ends.LimitBytes = codes "FATAL limit bytes 16777216\n"
+fatal_line ends.LimitStatements = codes "FATAL limit statements 20000\n"
+fatal_line (ends.Line line) = codes "FATAL directive at line " ++ decimal line ++ codes "\n"

@@ -1,90 +1,286 @@
-ghost use Rattle.std.specs.Prelude.{◌≡◌, [], ◌∷◌, ◌++◌, IfOk, OnOk, OnErr, MatchOption};
-ghost use Rattle.cq_script.specs.Scripts.{pieces, scan, NoEnd, Gives};
-ghost use Rattle.cq_script.specs.declared.scan.Scan.TheVariants.{Code};
+ghost use Rattle.std.specs.Prelude.{◌≡◌, ◌++◌, [], ◌∷◌, None, IfOk, OnOk, MatchOption};
+ghost use Rattle.cq_script.specs.Scripts.{first, goes, gives, in_text, in_gap, in_dash, in_rest, keeps, in_data, line_behind as line_at, step, cut, last, misplaced, misplaced_at_end, Gives};
+ghost use Rattle.cq_token.specs.Bytes.{is_blank as is_blank_byte};
 
-use crate::scan::{Scan, split_at_end};
-use cq_value::NoMemory;
+use crate::copying::is_copy;
+use crate::scan::Scan;
+use cq_value::{Items, NoMemory};
 use std::alloc::Global;
-use std::marker::Model;
 
-/// A piece of a script that a semicolon ended, and the bytes after the semicolon.
+/// Bytes, which contracts see as their list.
+pub type Bytes = Items<u8>;
+
+/// A statement's text, from its first token on, and the data behind a COPY, which are empty for all others.
+#[derive(Debug, Drop)]
+pub struct Item {
+    pub text: Bytes,
+    pub copied: Bytes,
+}
+
+/// Where a line of a COPY's data stands: at its start, behind a backslash there, behind `\.` there, or farther on.
+#[derive(Clone, Copy, Debug, PartialEq, Eq)]
+pub enum Line {
+    Start,
+    Slash,
+    End,
+    Within,
+}
+
+/// Where a script stands.
+#[derive(Clone, Copy, Debug, PartialEq, Eq)]
+pub enum Place {
+    /// Between statements; `fresh`: a line begins.
+    Gap { fresh: bool },
+    /// Between statements, behind one dash.
+    GapDash,
+    /// In a comment between statements.
+    GapComment,
+    /// In a statement.
+    Text(Scan),
+    /// In the rest of a COPY's line, behind its semicolon.
+    Rest,
+    /// In a COPY's data.
+    Data(Line),
+    /// In a line that begins with a backslash where no statement has begun.
+    Directive,
+    /// Behind a line that is out of its place: nothing follows.
+    Out,
+}
+
+/// An item that bytes ended, and the bytes behind it.
 #[derive(Debug, Drop)]
 pub struct Step<'a> {
-    pub piece: Vec<u8>,
+    pub item: Item,
     pub left: &'a [u8],
 }
 
-/// Cuts a script that comes in parts into pieces, of a statement each. Contracts see it as the piece that was begun, so far.
+/// Cuts a script that comes in parts into items. It holds where the script stands, the number of the line, from 1, and
+/// what was begun.
 #[derive(Debug, Drop)]
 pub struct Cutter {
-    alloc: Global,
-    text: Vec<u8>,
-    at: Scan,
+    at: Place,
+    line: u64,
+    text: Bytes,
+    copied: Bytes,
 }
 
-impl Model for Cutter {
-    ghost use Rattle.std.specs.Prelude.{◌≡◌, List, ℕ};
-    ghost use Rattle.cq_script.specs.Scripts.{scan, NoEnd};
-    ghost use Rattle.cq_script.specs.declared.scan.Scan.TheVariants.{Code};
-
-    ghost Value = { List ℕ };
-
-    ghost view = { λ c. c.text.items };
-
-    ghost invariant = { λ c. NoEnd Code c.text.items × (c.at ≡ scan Code c.text.items) };
-}
-
-/// Puts the bytes last.
-fn extend(text: &mut Vec<u8>, bytes: &[u8]) -> Result<(), NoMemory>
-    ensures ok { OnOk result (text.new.items ≡ text.old.items ++ bytes.now) }
-    ensures err { OnErr result (text.new.items ≡ text.old.items) }
+fn is_blank(b: u8) -> bool
+    ensures { result ≡ is_blank_byte b }
 {
-    match text.extend_from_slice(bytes) {
-        Ok(()) => Ok(()),
-        Err(_) => Err(NoMemory),
+    matches!(b, b' ' | b'\t' | b'\r' | b'\n')
+}
+
+/// The number of the line of the byte behind this one.
+fn line_behind(at: Place, line: u64, b: u8) -> u64
+    ensures { result ≡ line_at at line b }
+{
+    match at {
+        Place::Directive | Place::Out => line,
+        _ => {
+            if b == b'\n' {
+                line.saturating_add(1)
+            } else {
+                line
+            }
+        }
     }
+}
+
+fn put_all(list: &mut Bytes, bytes: &[u8]) -> Result<(), NoMemory>
+    ensures { OnOk result (list.new ≡ list.old ++ bytes.now) }
+{
+    for byte in bytes {
+        list.put(*byte)?;
+    }
+    Ok(())
 }
 
 impl Cutter {
     /// At the front of a script.
     pub fn new(alloc: Global) -> Cutter
-        ensures { result ≡ [] }
+        ensures { result ≡ first }
     {
         Cutter {
-            alloc,
-            text: Vec::new(alloc),
-            at: Scan::Code,
+            at: Place::Gap { fresh: true },
+            line: 1,
+            text: Items::new(alloc),
+            copied: Items::new(alloc),
         }
     }
 
-    /// Takes bytes up to the first semicolon that ends a piece, and gives the piece and the bytes left; or takes all of
-    /// them, if they end none.
+    fn goes(&mut self, place: Place) -> Option<Item>
+        ensures { (result, self.new) ≡ goes place self.old }
+    {
+        self.at = place;
+        None
+    }
+
+    fn gives(&mut self, alloc: Global, place: Place) -> Option<Item>
+        ensures { (result, self.new) ≡ gives place self.old }
+    {
+        self.at = place;
+        let text = std::mem::replace(&mut self.text, Items::new(alloc));
+        let copied = std::mem::replace(&mut self.copied, Items::new(alloc));
+        Some(Item { text, copied })
+    }
+
+    fn in_text(&mut self, alloc: Global, scan: Scan, b: u8) -> Result<Option<Item>, NoMemory>
+        ensures { IfOk result (λ item. (item, self.new) ≡ in_text scan self.old b) }
+    {
+        if scan.ends(b) {
+            if is_copy(self.text.as_slice()) {
+                return Ok(self.goes(Place::Rest));
+            }
+            return Ok(self.gives(alloc, Place::Gap { fresh: false }));
+        }
+        self.text.put(b)?;
+        Ok(self.goes(Place::Text(scan.next(b))))
+    }
+
+    fn in_gap(&mut self, alloc: Global, fresh: bool, b: u8) -> Result<Option<Item>, NoMemory>
+        ensures { IfOk result (λ item. (item, self.new) ≡ in_gap fresh self.old b) }
+    {
+        match b {
+            b'\n' => Ok(self.goes(Place::Gap { fresh: true })),
+            b' ' | b'\t' | b'\r' | b';' => Ok(self.goes(Place::Gap { fresh: false })),
+            b'-' => Ok(self.goes(Place::GapDash)),
+            b'\\' if fresh => Ok(self.goes(Place::Directive)),
+            _ => self.in_text(alloc, Scan::Code, b),
+        }
+    }
+
+    fn in_dash(&mut self, alloc: Global, b: u8) -> Result<Option<Item>, NoMemory>
+        ensures { IfOk result (λ item. (item, self.new) ≡ in_dash self.old b) }
+    {
+        if b == b'-' {
+            return Ok(self.goes(Place::GapComment));
+        }
+        self.text.put(b'-')?;
+        self.in_text(alloc, Scan::Dash, b)
+    }
+
+    fn in_rest(&mut self, b: u8) -> Option<Item>
+        ensures { (result, self.new) ≡ in_rest self.old b }
+    {
+        if b == b'\n' {
+            return self.goes(Place::Data(Line::Start));
+        }
+        if is_blank(b) {
+            return self.goes(Place::Rest);
+        }
+        self.goes(Place::Out)
+    }
+
+    fn keeps(&mut self, held: &[u8], b: u8) -> Result<Option<Item>, NoMemory>
+        ensures { IfOk result (λ item. (item, self.new) ≡ keeps held.now self.old b) }
+    {
+        put_all(&mut self.copied, held)?;
+        self.copied.put(b)?;
+        let line = if b == b'\n' {
+            Line::Start
+        } else {
+            Line::Within
+        };
+        Ok(self.goes(Place::Data(line)))
+    }
+
+    fn in_data(&mut self, alloc: Global, line: Line, b: u8) -> Result<Option<Item>, NoMemory>
+        ensures { IfOk result (λ item. (item, self.new) ≡ in_data line self.old b) }
+    {
+        match line {
+            Line::Start if b == b'\\' => Ok(self.goes(Place::Data(Line::Slash))),
+            Line::Slash if b == b'.' => Ok(self.goes(Place::Data(Line::End))),
+            Line::End if b == b'\n' => Ok(self.gives(alloc, Place::Gap { fresh: true })),
+            Line::Start | Line::Within => self.keeps(b"", b),
+            Line::Slash => self.keeps(b"\\", b),
+            Line::End => self.keeps(b"\\.", b),
+        }
+    }
+
+    /// What a byte ends; the cutter goes on behind it.
+    #[tactic(auto, unfolding(crate::specs::Scripts::step))]
+    fn step(&mut self, alloc: Global, b: u8) -> Result<Option<Item>, NoMemory>
+        ensures { IfOk result (λ item. (item, self.new) ≡ step self.old b) }
+    {
+        self.line = line_behind(self.at, self.line, b);
+        match self.at {
+            Place::Gap { fresh } => self.in_gap(alloc, fresh, b),
+            Place::GapDash => self.in_dash(alloc, b),
+            Place::GapComment if b == b'\n' => Ok(self.goes(Place::Gap { fresh: true })),
+            Place::Text(scan) => self.in_text(alloc, scan, b),
+            Place::Rest => Ok(self.in_rest(b)),
+            Place::Data(line) => self.in_data(alloc, line, b),
+            Place::Directive if b == b'\n' => Ok(self.goes(Place::Out)),
+            at => Ok(self.goes(at)),
+        }
+    }
+
+    /// Takes bytes up to the first that ends an item, and gives the item and the bytes left; or takes all of them, if
+    /// they end none.
     ///
-    /// Errors: for want of memory; the cutter stays as it was.
-    pub fn next_in<'a>(&mut self, bytes: &'a [u8]) -> Result<Option<Step<'a>>, NoMemory>
-        ensures step { IfOk result (λ step. MatchOption step (pieces (self.old ++ bytes.now) ≡ self.new ∷ []) (λ s. Gives self.old bytes.now s.piece.items s.left.now × (self.new ≡ []))) }
-        ensures err { OnErr result (self.new ≡ self.old) }
+    /// Errors: for want of memory; nothing is said of the cutter then.
+    #[tactic(auto, using(crate::proofs::CuttingLaws::cut_none, crate::proofs::CuttingLaws::gives_at))]
+    pub fn next_in<'a>(
+        &mut self,
+        alloc: Global,
+        bytes: &'a [u8],
+    ) -> Result<Option<Step<'a>>, NoMemory>
+        ensures { IfOk result (λ step. MatchOption step (cut self.old bytes.now ≡ record { items = []; begun = self.new }) (λ s. Gives self.old bytes.now s.item self.new s.left.now)) }
     {
-        match split_at_end(self.at, bytes) {
-            Ok((front, left)) => {
-                extend(&mut self.text, front)?;
-                let piece = std::mem::replace(&mut self.text, Vec::new(self.alloc));
-                self.at = Scan::Code;
-                Ok(Some(Step { piece, left }))
+        let mut left = bytes;
+        'bytes: while let [b, rest @ ..] = left {
+            left = rest;
+            if let Some(item) = self.step(alloc, *b)? {
+                return Ok(Some(Step { item, left }));
             }
-            Err(end) => {
-                extend(&mut self.text, bytes)?;
-                self.at = end;
-                Ok(None)
+        }
+        Ok(None)
+    }
+
+    /// What the end of the script makes an item.
+    ///
+    /// Errors: for want of memory.
+    #[tactic(auto, unfolding(crate::specs::Scripts::last))]
+    pub fn finish(self) -> Result<Option<Item>, NoMemory>
+        ensures { IfOk result (λ item. item ≡ last self) }
+    {
+        let Cutter {
+            at,
+            mut text,
+            mut copied,
+            ..
+        } = self;
+        match at {
+            Place::Gap { .. } | Place::GapComment | Place::Directive | Place::Out => {
+                return Ok(None);
             }
+            Place::GapDash => text.put(b'-')?,
+            Place::Data(Line::Slash) => copied.put(b'\\')?,
+            Place::Text(_) | Place::Rest | Place::Data(_) => {}
+        }
+        Ok(Some(Item { text, copied }))
+    }
+
+    /// The number of the line that is out of its place, if there was one: a directive, or the line of a COPY whose
+    /// statement is followed there by more than blanks.
+    #[tactic(auto, unfolding(crate::specs::Scripts::misplaced))]
+    pub fn misplaced(&self) -> Option<u64>
+        ensures { result ≡ misplaced self.now }
+    {
+        match self.at {
+            Place::Out => Some(self.line),
+            _ => None,
         }
     }
 
-    /// At the end of the script, the piece that was begun.
-    pub fn finish(self) -> Vec<u8>
-        ensures { result.items ≡ self }
+    /// As `misplaced`, where the script ends here: a directive in its last line needs no newline.
+    #[tactic(auto, unfolding(crate::specs::Scripts::misplaced_at_end))]
+    pub fn misplaced_at_end(&self) -> Option<u64>
+        ensures { result ≡ misplaced_at_end self.now }
     {
-        let Cutter { text, .. } = self;
-        text
+        match self.at {
+            Place::Directive | Place::Out => Some(self.line),
+            _ => None,
+        }
     }
 }

@@ -69,6 +69,13 @@ fn push_limit(out: &mut Vec<u8>, what: What, number: u64) -> Result<(), AllocErr
     push_with(out, b" ", number)
 }
 
+fn push_columns(out: &mut Vec<u8>, row: u64, found: u64) -> Result<(), AllocError>
+    ensures { OnOk result (out.new.items ≡ out.old.items ++ fault_text (faults.Columns row found)) }
+{
+    push_with(out, b"27 columns in row ", row)?;
+    push_with(out, b": ", found)
+}
+
 fn push_place(out: &mut Vec<u8>, row: u64, column: u32) -> Result<(), AllocError>
     ensures { OnOk result (out.new.items ≡ out.old.items ++ fault_text (faults.Value row column)) }
 {
@@ -135,7 +142,9 @@ pub(crate) fn push_fault(out: &mut Vec<u8>, fault: &Fault) -> Result<(), AllocEr
         } => push_worker(out, *node, *shard, *before, *after),
         Fault::Memory => push_words(out, b"24 out of memory"),
         Fault::NoRoom { node, free, needed } => push_room(out, *node, *free, *needed),
+        Fault::Columns { row, found } => push_columns(out, *row, *found),
         Fault::Value { row, column } => push_place(out, *row, *column),
+        Fault::Encoding { row } => push_with(out, b"29 encoding in row ", *row),
         Fault::Duplicate => push_words(out, b"30 duplicate key"),
         Fault::ValueOutOfRange => push_words(out, b"31 value out of range"),
         Fault::Limit { what, number } => push_limit(out, *what, *number),

@@ -1,7 +1,8 @@
-//! What a script is: where its bytes come from and where the answers' bytes go, how it is cut into statements, and the
-//! text of each answer.
+//! What a script is: where its bytes come from and where the answers' bytes go, how it is cut into items, which are a
+//! statement and the data of a COPY, and the text of each answer.
 #![tactic(auto)]
 
+mod copying;
 mod cutter;
 mod fatal;
 mod fault;
@@ -14,11 +15,11 @@ mod source;
 mod standard;
 mod words;
 
-pub use cutter::{Cutter, Step};
-pub use fatal::{Fatal, MOST_BYTES};
+pub use cutter::{Bytes, Cutter, Item, Line, Place, Step};
+pub use fatal::{Fatal, MOST_BYTES, MOST_STATEMENTS};
 pub use memory::{MemSink, MemSource};
 pub use rendering::render;
-pub use scan::statement_in;
+pub use scan::Scan;
 pub use sink::{Sink, SinkError, emit};
 pub use source::{Failed, Source};
 pub use standard::{ReadSource, WriteSink};

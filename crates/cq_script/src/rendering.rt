@@ -117,6 +117,7 @@ fn push_tag(out: &mut Vec<u8>, tag: Tag) -> Result<(), AllocError>
         Tag::Insert(n) => push_with(out, b"INSERT 0 ", n),
         Tag::Update(n) => push_with(out, b"UPDATE ", n),
         Tag::Delete(n) => push_with(out, b"DELETE ", n),
+        Tag::Copy(n) => push_with(out, b"COPY ", n),
         Tag::Setting => push_words(out, b"SET"),
     }
 }
