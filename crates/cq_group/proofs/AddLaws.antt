@@ -15,11 +15,14 @@ use Rattle.cq_journal.proofs.Replays.{from_others}
 use Rattle.cq_store.specs.Stores.{StoreState}
 use Rattle.cq_group.specs.declared.group.GroupTable.{GroupTable}
 use Rattle.cq_group.specs.declared.group.GroupState.{GroupState}
-use Rattle.cq_group.specs.Groups.{entries_of, stores_of, Outline, outline, outlines, shape_at, or_no_shape, copies_of, IsNamed, AreReplicasFrom, IsTableKept, IsKept, AreDistinct, IsTableQuiet, IsQuiet}
+use Rattle.cq_group.specs.Groups.{entries_of, journal_of, shapes, stores_of, Outline, outline, outlines, shape_at, or_no_shape, copies_of, IsNamed, AreReplicasFrom, IsTableKept, IsKept, AreDistinct, IsTableQuiet, IsQuiet}
 use Rattle.cq_group.specs.Opening.{AreFreshFrom, AreFresh, first_shard}
 use Rattle.cq_group.proofs.Zips.{all_weaker, all_push}
 use Rattle.cq_group.proofs.PlaceLaws.{not_same}
-use Rattle.cq_group.proofs.GroupLaws.{copies_same}
+use Rattle.cq_journal.specs.declared.journal.Journal.{Journal}
+use Rattle.cq_group.specs.Moves.{IsSameMove, upto_move}
+use Rattle.cq_group.proofs.MoveLaws.{all_upto, same_move, move_along, move_shapes}
+use Rattle.cq_group.proofs.GroupLaws.{shapes_in, copies_same}
 
 -- a table that is found is found beside one more, and its shape is the same
 pub found_more : (os : List Outline) (o : Outline) (table : ℕ) → IsSome (shape_at os table) → shape_at (os ++ o ∷ []) table ≡ shape_at os table
@@ -57,6 +60,15 @@ unnamed os table MoveStop none h = tt
 replay_unnamed : (os : List Outline) (table : ℕ) (shape : Shape) (es : List Entry) → shape_at os table ≡ None → AllByRecursion (λ (e : Entry). IsNamed os e.kind) es → replay table shape es ≡ empty_table
 replay_unnamed os table shape es none h =
     from_others table shape empty_table es (all_weaker (λ (e : Entry). IsNamed os e.kind) (λ (e : Entry). IsNoWriteOf table e.kind) (λ e. unnamed os table e.kind none) es h)
+
+-- one more table leaves what the entries leave of each
+pub replay_beside : (os : List Outline) (o : Outline) (table : ℕ) (es : List Entry) → AllByRecursion (λ (e : Entry). IsNamed os e.kind) es →
+    replay table (or_no_shape (shape_at (os ++ o ∷ []) table)) es ≡ replay table (or_no_shape (shape_at os table)) es
+replay_beside os o table es named = by (shape_at os table) refl
+  where
+    by : (s : Option Shape) → shape_at os table ≡ s → replay table (or_no_shape (shape_at (os ++ o ∷ []) table)) es ≡ replay table (or_no_shape (shape_at os table)) es
+    by None e = replay_unnamed os table (or_no_shape (shape_at (os ++ o ∷ []) table)) es e named ∙ sym (replay_unnamed os table (or_no_shape (shape_at os table)) es e named)
+    by (Some s) e = ap (λ x. replay table (or_no_shape x) es) (found_more os o table (subst (λ x. IsSome x) (sym e) refl))
 
 named_more : (os : List Outline) (o : Outline) (kind : EntryKind) → IsNamed os kind → IsNamed (os ++ o ∷ []) kind
 named_more os o Read h = tt
@@ -132,9 +144,10 @@ module _ {X : Type 0} (state : X → StoreState) where
 
   -- a group with one more table keeps what it did
   pub added : (g h : GroupState X) (v : GroupTable X) → IsKept state g → shape_at (outlines g) v.table ≡ None → AreFresh state g.node (copies_of g) v.stores.items →
-      v.shard ≡ first_shard state v.stores.items → v.next ≡ 0 → h.node ≡ g.node → h.nodes ≡ g.nodes → entries_of h ≡ entries_of g → h.tables.items ≡ g.tables.items ++ v ∷ [] →
+      v.shard ≡ first_shard state v.stores.items → v.next ≡ 0 → h.node ≡ g.node → h.nodes ≡ g.nodes → h.journal ≡ g.journal → h.moving ≡ g.moving → h.tables.items ≡ g.tables.items ++ v ∷ [] →
       length (stores_of g) + length v.stores.items ≤ vec_capacity h.room → h.room.items ≡ [] → IsKept state h
-  added g h v k none fresh shard next node nodes entries tables room unused =
+  added g h v k none fresh shard next node nodes journal moving tables room unused =
+      let entries : entries_of h ≡ entries_of g = ap (λ x. x.entries.list) journal in
       let os : outlines h ≡ outlines g ++ outline v ∷ [] = ap (λ ts. map outline ts) tables ∙ map-append outline g.tables.items (v ∷ []) in
       let more = outlines g ++ outline v ∷ [] in
       let items : GroupTable X → List X = λ t. t.stores.items in
@@ -158,6 +171,14 @@ module _ {X : Type 0} (state : X → StoreState) where
         distinct = subst AreDistinct (sym os) (distinct_more (outlines g) (outline v) k.distinct none);
         room = subst (λ n. n ≤ vec_capacity h.room) (sym long) room;
         unused = unused;
+        move =
+            move_along (λ table. or_no_shape (shape_at more table)) (shapes h) (journal_of g) (journal_of h) g.node h.node g.journal.entries.room h.journal.entries.room g.moving h.moving
+            (ap shapes_in os) (ap (λ x. x.opening) journal) entries node (subst (λ (x : Journal). g.journal.entries.room ≤ x.entries.room) (sym journal) (omega arith))
+            (subst (λ m. IsSameMove g.moving m) (sym moving) (same_move g.moving))
+            (move_shapes (shapes g) (λ table. or_no_shape (shape_at more table)) (journal_of g) g.node g.journal.entries.room g.moving
+            (λ table. replay_beside (outlines g) (outline v) table (entries_of g) k.named)
+            (λ table. replay_beside (outlines g) (outline v) table (upto_move (entries_of g)) (all_upto (λ (x : Entry). IsNamed (outlines g) x.kind) (entries_of g) k.named))
+            k.move);
       }
 
   pub quiet_added : (g : GroupState X) (us : List (GroupTable X)) (v : GroupTable X) → AreFresh state g.node (copies_of g) v.stores.items → us ≡ g.tables.items ++ v ∷ [] → IsQuiet state g →

@@ -18,13 +18,15 @@ use Rattle.cq_journal.specs.Journals.{replay}
 use Rattle.cq_store.specs.Stores.{StoreState}
 use Rattle.cq_group.specs.declared.group.GroupTable.{GroupTable}
 use Rattle.cq_group.specs.declared.group.GroupState.{GroupState}
-use Rattle.cq_group.specs.Groups.{entries_of, stores_of, or_no_shape, shapes, copies_of, AreReplicasFrom, IsTableKept, IsKept, IsTableQuiet, IsStagedIn, IsTableStaged, IsReady}
+use Rattle.cq_group.specs.Groups.{entries_of, journal_of, stores_of, or_no_shape, shapes, copies_of, AreReplicasFrom, IsTableKept, IsKept, IsTableQuiet, IsStagedIn, IsTableStaged, IsReady}
 use Rattle.cq_group.specs.Calls.{Commits, GoesOn, Lifted, IsSameTable, GroupGoesOn, ids_taken}
 use Rattle.cq_group.proofs.Zips.{zip_refl, zip_set, zip_weaker}
 use Rattle.cq_group.proofs.Turns.{keeps, keeps_go_on, commits_go_on}
 use Rattle.cq_journal.proofs.Replays.{replay_more}
 use Rattle.cq_group.proofs.PlaceLaws.{all_at, set_where, not_same}
-use Rattle.cq_group.proofs.GroupLaws.{outlines_same, stores_zip, table_unmoved, kept_more, group_goes_on}
+use Rattle.cq_group.specs.Moves.{Logs, rows_counted}
+use Rattle.cq_group.proofs.MoveLaws.{same_move, move_along, move_write, changes_counted}
+use Rattle.cq_group.proofs.GroupLaws.{shapes_in, outlines_same, stores_zip, table_unmoved, kept_more, group_goes_on}
 use Rattle.cq_group.proofs.WriteLaws.{kept_at, shape_found, replay_found, next_found}
 
 -- the rows that a reply counts are those that the write adds
@@ -151,8 +153,9 @@ module _ {X : Type 0} (state : X → StoreState) (op : ShardOp) (reply : Reply) 
       pub made_goes_on : h.journal.group ≡ g.journal.group → h.journal.opening ≡ g.journal.opening → GroupGoesOn state g h
       made_goes_on number opening = group_goes_on state g h node nodes went_on number opening
 
-      pub made_kept : h.room ≡ g.room → entries_of h ≡ entries_of g ++ entry ∷ [] → IsKept state h
-      made_kept room entries =
+      pub made_kept : h.room ≡ g.room → entries_of h ≡ entries_of g ++ entry ∷ [] → h.journal.opening ≡ g.journal.opening → 0 < h.journal.entries.room →
+          Logs (table_of op) r.logged.changes g.moving h.moving → IsKept state h
+      made_kept room entries opening slot logs =
           kept_more state g h entry k node nodes room (outlines_same (Lifted state GoesOn) g.tables.items h.tables.items went_on)
           (sym (length_all_zip (Lifted state GoesOn) (stores_of g) (stores_of h) (stores_zip (Lifted state GoesOn) g.tables.items h.tables.items went_on)))
           entries r.replied r.there
@@ -161,3 +164,8 @@ module _ {X : Type 0} (state : X → StoreState) (op : ShardOp) (reply : Reply) 
           (λ v other kept. table_unmoved state g.node (copies_of g) (entries_of g) (entries_of g ++ entry ∷ []) v (replay_there (entries_of g) v other) kept)
           g.tables.items place t u k.distinct within is named k.tables
           (table_made g.node (copies_of g) (entries_of g) t u (kept_at state g k place (table_of op) t within is named) named replied_here ids_here staged_here same next)))
+          (move_along (shapes g) (shapes h) (record (journal_of g) { entries = entries_of g ++ entry ∷ [] }) (journal_of h) g.node h.node h.journal.entries.room h.journal.entries.room h.moving h.moving
+          (ap shapes_in (outlines_same (Lifted state GoesOn) g.tables.items h.tables.items went_on)) opening entries node (omega arith) (same_move h.moving)
+          (move_write (shapes g) (journal_of g) g.node g.journal.entries.room h.journal.entries.room g.moving h.moving (entries_of g) who op reply r.logged.changes refl slot
+          r.logged.fitting r.logged.changed
+          (ap length r.logged.listed ∙ changes_counted op (replay (table_of op) (shapes g (table_of op)) (entries_of g)) (shapes g (table_of op)) ∙ ap rows_counted (sym r.replied)) logs k.move))

@@ -14,12 +14,15 @@ use Rattle.cq_journal.proofs.Replays.{told_apart}
 use Rattle.cq_store.specs.Stores.{StoreState}
 use Rattle.cq_group.specs.declared.group.GroupTable.{GroupTable}
 use Rattle.cq_group.specs.declared.group.GroupState.{GroupState}
-use Rattle.cq_group.specs.Groups.{entries_of, stores_of, Outline, outline, outlines, shape_at, or_no_shape, copies_of, IsNamed, AreReplicasFrom, IsTableKept, IsKept, AreDistinct, IsSteady}
+use Rattle.cq_group.specs.Groups.{entries_of, journal_of, shapes, stores_of, Outline, outline, outlines, shape_at, or_no_shape, copies_of, IsNamed, AreReplicasFrom, IsTableKept, IsKept, AreDistinct, IsSteady}
 use Rattle.cq_group.specs.Calls.{Lifted, Releases}
 use Rattle.cq_group.specs.Opening.{EndsUnwritten, AreSpareFrom}
 use Rattle.cq_group.proofs.Zips.{all_along}
-use Rattle.cq_group.proofs.AddLaws.{found_more, all_got, none_first}
-use Rattle.cq_group.proofs.GroupLaws.{copies_same}
+use Rattle.cq_group.proofs.AddLaws.{found_more, all_got, none_first, replay_beside}
+use Rattle.cq_journal.specs.declared.journal.Journal.{Journal}
+use Rattle.cq_group.specs.Moves.{IsMoveKept, IsSameMove, upto_move}
+use Rattle.cq_group.proofs.MoveLaws.{all_upto, same_move, move_along, move_shapes}
+use Rattle.cq_group.proofs.GroupLaws.{shapes_in, copies_same}
 
 -- lists with the same last element
 pub last_split : {X : Type 0} (xs ys : List X) (x y : X) → xs ++ x ∷ [] ≡ ys ++ y ∷ [] → (xs ≡ ys) × (x ≡ y)
@@ -121,8 +124,9 @@ module _ {X : Type 0} (state : X → StoreState) where
 
   -- a group without its last table keeps what it did
   pub dropped_kept : (g h : GroupState X) (t : GroupTable X) → g.tables.items ≡ h.tables.items ++ t ∷ [] → IsKept state g → EndsUnwritten g → h.node ≡ g.node → h.nodes ≡ g.nodes → h.room ≡ g.room →
-      entries_of h ≡ entries_of g → IsKept state h
-  dropped_kept g h t tables k u node nodes room entries =
+      h.journal ≡ g.journal → h.moving ≡ g.moving → IsKept state h
+  dropped_kept g h t tables k u node nodes room journal moving =
+      let entries : entries_of h ≡ entries_of g = ap (λ x. x.entries.list) journal in
       let os = outlines h in
       let o = outline t in
       let split : outlines g ≡ os ++ o ∷ [] = ap (λ ts. map outline ts) tables ∙ map-append outline h.tables.items (t ∷ []) in
@@ -150,4 +154,12 @@ module _ {X : Type 0} (state : X → StoreState) where
         distinct = distinct_less os o (subst AreDistinct split k.distinct);
         room = omega (arith, fits, long);
         unused = ap (λ v. v.items) room ∙ k.unused;
+        move =
+            move_along (λ table. or_no_shape (shape_at os table)) (shapes h) (journal_of g) (journal_of h) g.node h.node g.journal.entries.room h.journal.entries.room g.moving h.moving
+            refl (ap (λ x. x.opening) journal) entries node (subst (λ (x : Journal). g.journal.entries.room ≤ x.entries.room) (sym journal) (omega arith))
+            (subst (λ m. IsSameMove g.moving m) (sym moving) (same_move g.moving))
+            (move_shapes (λ table. or_no_shape (shape_at (os ++ o ∷ []) table)) (λ table. or_no_shape (shape_at os table)) (journal_of g) g.node g.journal.entries.room g.moving
+            (λ table. sym (replay_beside os o table (entries_of g) named))
+            (λ table. sym (replay_beside os o table (upto_move (entries_of g)) (all_upto (λ (x : Entry). IsNamed os x.kind) (entries_of g) named)))
+            (subst (λ f. IsMoveKept f (journal_of g) g.node g.journal.entries.room g.moving) (ap shapes_in split) k.move));
       }

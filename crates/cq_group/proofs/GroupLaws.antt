@@ -1,5 +1,5 @@
 -- A group, call after call.
-use Rattle.std.proofs.Common.{◌≡◌, ◌∙◌, ◌+◌, ℕ, ◌<◌, ◌≤◌, IsTrue, List, [], ◌∷◌, ◌++◌, length, map, refl, sym, ap, subst, vec_capacity, cond, nat_eq}
+use Rattle.std.proofs.Common.{◌≡◌, ◌∙◌, ◌+◌, ℕ, ◌<◌, ◌≤◌, IsTrue, List, [], ◌∷◌, ◌++◌, length, map, refl, sym, ap, subst, vec_capacity, cond, nat_eq, arith}
 use Rattle.std.specs.List.{AllZip, AllByRecursion, flat_map}
 use Rattle.std.proofs.lemmas.List.Elements.{length_all_zip}
 use Rattle.cq_value.specs.declared.schema.Shape.{Shape}
@@ -13,7 +13,9 @@ use Rattle.cq_group.specs.declared.group.GroupError.{GroupError}
 use Rattle.cq_group.specs.declared.group.GroupError.TheVariants.{Worker, Memory}
 use Rattle.cq_group.specs.declared.group.GroupTable.{GroupTable}
 use Rattle.cq_group.specs.declared.group.GroupState.{GroupState}
-use Rattle.cq_group.specs.Groups.{entries_of, stores_of, outline, outlines, shape_at, or_no_shape, shapes, copies_of, IsNamed, AreReplicasFrom, IsTableKept, IsKept, AreDistinct, IsTableQuiet, IsQuiet, IsSteady}
+use Rattle.cq_group.specs.Moves.{IsMoveKept, IsSameMove}
+use Rattle.cq_group.proofs.MoveLaws.{same_move, same_more, move_along, move_read}
+use Rattle.cq_group.specs.Groups.{entries_of, journal_of, Outline, stores_of, outline, outlines, shape_at, or_no_shape, shapes, copies_of, IsNamed, AreReplicasFrom, IsTableKept, IsKept, AreDistinct, IsTableQuiet, IsQuiet, IsSteady}
 use Rattle.cq_group.specs.Calls.{Rests, KeepsRows, GoesOn, Failed, Lifted, Blames, IsSameTable, IsRestingTable, IsSameBut, GroupGoesOn, captured}
 use Rattle.cq_group.proofs.Zips.{zip_trans, zip_weaker, zip_flat, all_along, some_not, all_weaker, all_push, all_append}
 use Rattle.cq_group.proofs.TableLaws.{table_trans, table_weaker, quiet_rested}
@@ -37,6 +39,7 @@ group_trans R S T k f g h a b = record {
   node = b.node ∙ a.node;
   nodes = b.nodes ∙ a.nodes;
   room = b.room ∙ a.room;
+  moving = same_more f.moving g.moving h.moving a.moving b.moving;
   tables = zip_trans (IsRestingTable R) (IsRestingTable S) (IsRestingTable T) (λ t u v. table_trans R S T k t u v) f.tables.items g.tables.items h.tables.items a.tables b.tables;
 }
 
@@ -45,6 +48,7 @@ group_weaker R S k g h a = record {
   node = a.node;
   nodes = a.nodes;
   room = a.room;
+  moving = a.moving;
   tables = zip_weaker (IsRestingTable R) (IsRestingTable S) (λ t u. table_weaker R S k t u) g.tables.items h.tables.items a.tables;
 }
 
@@ -52,6 +56,10 @@ group_weaker R S k g h a = record {
 pub stores_zip : {X : Type 0} (R : X → X → Type 0) (ts us : List (GroupTable X)) → AllZip (IsSameTable R) ts us →
     AllZip R (flat_map (λ (t : GroupTable X). t.stores.items) ts) (flat_map (λ (t : GroupTable X). t.stores.items) us)
 stores_zip R ts us h = zip_flat R (λ t. t.stores.items) ts us (zip_weaker (IsSameTable R) (λ t u. AllZip R t.stores.items u.stores.items) (λ t u k. k.stores) ts us h)
+
+-- the shapes of tables by their outlines
+abbrev pub shapes_in : List Outline → ℕ → Shape
+shapes_in os table = or_no_shape (shape_at os table)
 
 module _ {X : Type 0} (state : X → StoreState) where
   replicas_along : (place node : ℕ) (es : List Entry) (table : ℕ) (shape : Shape) (shard : ℕ) (xs ys : List X) → AllZip (Lifted state KeepsRows) xs ys →
@@ -86,8 +94,9 @@ module _ {X : Type 0} (state : X → StoreState) where
   copies_same g h a b = λ i. cond (nat_eq (a i) 0) (b i) 1
 
   -- a group whose stores keep their rows, and whose entries leave of each table what they left
-  pub kept_along : (g h : GroupState X) → IsKept state g → IsSameBut (Lifted state KeepsRows) g h → entries_of h ≡ entries_of g → IsKept state h
-  kept_along g h k s e =
+  pub kept_along : (g h : GroupState X) → IsKept state g → IsSameBut (Lifted state KeepsRows) g h → entries_of h ≡ entries_of g → h.journal.opening ≡ g.journal.opening →
+      g.journal.entries.room ≤ h.journal.entries.room → IsKept state h
+  kept_along g h k s e opening slot =
       let same : outlines h ≡ outlines g = outlines_same (Lifted state KeepsRows) g.tables.items h.tables.items (resting_same (Lifted state KeepsRows) g.tables.items h.tables.items s.tables) in
       record {
         replied = subst (λ os. EachReplied (λ table. or_no_shape (shape_at os table)) (entries_of h)) (sym same)
@@ -105,6 +114,8 @@ module _ {X : Type 0} (state : X → StoreState) where
             (stores_zip (Lifted state KeepsRows) g.tables.items h.tables.items (resting_same (Lifted state KeepsRows) g.tables.items h.tables.items s.tables)))
             (subst (λ v. length (stores_of g) ≤ vec_capacity v) (sym s.room) k.room);
         unused = ap (λ v. v.items) s.room ∙ k.unused;
+        move = move_along (shapes g) (shapes h) (journal_of g) (journal_of h) g.node h.node g.journal.entries.room h.journal.entries.room g.moving h.moving
+            (ap shapes_in same) opening e s.node slot s.moving k.move;
       }
 
   -- entries that leave the table as it was
@@ -127,8 +138,9 @@ module _ {X : Type 0} (state : X → StoreState) where
   -- a group with one more entry, which its tables hold
   pub kept_more : (g h : GroupState X) (e : Entry) → IsKept state g → h.node ≡ g.node → h.nodes ≡ g.nodes → h.room ≡ g.room → outlines h ≡ outlines g → length (stores_of h) ≡ length (stores_of g) →
       entries_of h ≡ entries_of g ++ e ∷ [] → IsReplied (shapes g) (entries_of g) e.kind → IsNamed (outlines g) e.kind →
-      AllByRecursion (IsTableKept state g.node (copies_of g) (entries_of g ++ e ∷ [])) h.tables.items → IsKept state h
-  kept_more g h e k a b r same long es replied named tables = record {
+      AllByRecursion (IsTableKept state g.node (copies_of g) (entries_of g ++ e ∷ [])) h.tables.items →
+      IsMoveKept (shapes h) (journal_of h) h.node h.journal.entries.room h.moving → IsKept state h
+  kept_more g h e k a b r same long es replied named tables move = record {
     replied = subst (λ os. EachReplied (λ table. or_no_shape (shape_at os table)) (entries_of h)) (sym same)
         (subst (λ xs. EachReplied (shapes g) xs) (sym es) (replied_more (shapes g) (entries_of g) e k.replied replied));
     named = subst (λ os. AllByRecursion (λ (x : Entry). IsNamed os x.kind) (entries_of h)) (sym same)
@@ -141,17 +153,21 @@ module _ {X : Type 0} (state : X → StoreState) where
     distinct = subst AreDistinct (sym same) k.distinct;
     room = subst (λ n. n ≤ vec_capacity h.room) (sym long) (subst (λ v. length (stores_of g) ≤ vec_capacity v) (sym r) k.room);
     unused = ap (λ v. v.items) r ∙ k.unused;
+    move = move;
   }
 
   -- a Read
   pub kept_read : (g h : GroupState X) (who : Who) → IsKept state g → h.node ≡ g.node → h.nodes ≡ g.nodes → h.room ≡ g.room → h.tables ≡ g.tables →
-      entries_of h ≡ entries_of g ++ record { who = who; kind = Read } ∷ [] → IsKept state h
-  kept_read g h who k a b r t es =
+      entries_of h ≡ entries_of g ++ record { who = who; kind = Read } ∷ [] → h.journal.opening ≡ g.journal.opening → h.moving ≡ g.moving → 0 < h.journal.entries.room → IsKept state h
+  kept_read g h who k a b r t es opening moving slot =
       let e : Entry = record { who = who; kind = Read } in
       kept_more g h e k a b r (ap (λ v. map outline v.items) t) (ap (λ v. length (flat_map (λ (u : GroupTable X). u.stores.items) v.items)) t) es tt tt
       (subst (λ v. AllByRecursion (IsTableKept state g.node (copies_of g) (entries_of g ++ e ∷ [])) v.items) (sym t)
       (all_weaker (IsTableKept state g.node (copies_of g) (entries_of g)) (IsTableKept state g.node (copies_of g) (entries_of g ++ e ∷ []))
       (λ u. table_unmoved g.node (copies_of g) (entries_of g) (entries_of g ++ e ∷ []) u (replay_more u.table u.shape (entries_of g) e)) g.tables.items k.tables))
+      (move_along (shapes g) (shapes h) (record (journal_of g) { entries = entries_of g ++ e ∷ [] }) (journal_of h) g.node h.node h.journal.entries.room h.journal.entries.room g.moving h.moving
+      (ap shapes_in (ap (λ v. map outline v.items) t)) opening es a (omega arith) (subst (λ m. IsSameMove g.moving m) (sym moving) (same_move g.moving))
+      (move_read (shapes g) (journal_of g) g.node g.journal.entries.room h.journal.entries.room g.moving (entries_of g) who refl slot k.move))
 
   pub outlines_along : (R : X → X → Type 0) (g h : GroupState X) → IsSameBut R g h → outlines h ≡ outlines g
   outlines_along R g h s = outlines_same R g.tables.items h.tables.items (resting_same R g.tables.items h.tables.items s.tables)
@@ -165,6 +181,7 @@ module _ {X : Type 0} (state : X → StoreState) where
     node = ap (λ (x : GroupState X). x.node) e ∙ s.node;
     nodes = ap (λ (x : GroupState X). x.nodes) e ∙ s.nodes;
     room = ap (λ (x : GroupState X). x.room) e ∙ s.room;
+    moving = subst (λ m. IsSameMove f.moving m) (sym (ap (λ (x : GroupState X). x.moving) e)) s.moving;
     tables = subst (λ v. AllZip (IsRestingTable R) f.tables.items v.items) (sym (ap (λ (x : GroupState X). x.tables) e)) s.tables;
   }
 

@@ -1,6 +1,12 @@
 pub mod Through
 pub mod Zips
 pub mod Turns
+pub mod MoveLaws
+pub mod IncomingLaws
+pub mod SnapshotLaws
+pub mod MoveEntries
+pub mod StartLaws
+pub mod CutoverLaws
 pub mod Staging
 pub mod TableLaws
 pub mod GroupLaws

@@ -1,5 +1,5 @@
 -- Reads of a group's tables, one after another.
-use Rattle.std.proofs.Common.{◌≡◌, ◌∙◌, ℕ, ◌+◌, ◌<◌, IsSome, List, [], ◌∷◌, ◌++◌, map, take, get_or, length, ap, subst, sym, refl, zero-add}
+use Rattle.std.proofs.Common.{◌≡◌, ◌∙◌, ℕ, ◌+◌, ◌<◌, IsSome, List, [], ◌∷◌, ◌++◌, map, take, get_or, length, ap, subst, sym, refl, zero-add, ◌≤◌, arith}
 use Rattle.std.proofs.lemmas.List.{map_more}
 use Rattle.std.specs.List.{HoldsAt}
 use Rattle.cq_value.specs.declared.value.Value.{Value}
@@ -9,12 +9,14 @@ use Rattle.cq_demands.specs.Demands.{rows_with}
 use Rattle.cq_demands.specs.JoinDemands.{Wants, wants_at, narrow}
 use Rattle.cq_demands.proofs.Narrowed.{narrow_append}
 use Rattle.cq_journal.specs.Journals.{replay}
+use Rattle.cq_journal.specs.declared.journal.Journal.{Journal}
 use Rattle.cq_store.specs.Stores.{StoreState}
 use Rattle.cq_group.specs.declared.group.GroupError.{GroupError}
 use Rattle.cq_group.specs.declared.group.GroupState.{GroupState}
 use Rattle.cq_group.specs.declared.group.GroupTable.{GroupTable}
 use Rattle.cq_group.specs.Groups.{stores_of, entries_of, copies_of, shapes, shape_at, or_no_shape, node_at, HasTable, IsKept, IsTableKept, IsQuiet}
 use Rattle.cq_group.specs.Calls.{Rests, KeepsRows, Lifted, Blames, IsOn, IsSameBut, IsRestingTable, GroupGoesOn, captured}
+use Rattle.cq_group.proofs.MoveLaws.{same_move}
 use Rattle.cq_group.proofs.Zips.{zip_refl}
 use Rattle.cq_group.proofs.Turns.{rests, rests_keep, rests_more, rests_go_on}
 use Rattle.cq_group.proofs.TableLaws.{blames_later, rested_go_on}
@@ -52,6 +54,7 @@ module _ {X : Type 0} (state : X → StoreState) where
     node = refl;
     nodes = refl;
     room = refl;
+    moving = same_move g.moving;
     tables = zip_refl (IsRestingTable (Lifted state Rests)) (λ t. table_refl (Lifted state Rests) (λ x. rests (state x)) t) g.tables.items;
   }
 
@@ -59,7 +62,8 @@ module _ {X : Type 0} (state : X → StoreState) where
   rested_more f g h a b = group_trans (Lifted state Rests) (Lifted state Rests) (Lifted state Rests) (λ x y z. rests_more (state x) (state y) (state z)) f g h a b
 
   pub rested_kept : (g h : GroupState X) → IsKept state g → h.journal ≡ g.journal → IsSameBut (Lifted state Rests) g h → IsKept state h
-  rested_kept g h k j s = kept_along state g h k (group_weaker (Lifted state Rests) (Lifted state KeepsRows) (λ x y. rests_keep (state x) (state y)) g h s) (ap (λ x. x.entries.list) j)
+  rested_kept g h k j s = kept_along state g h k (group_weaker (Lifted state Rests) (Lifted state KeepsRows) (λ x y. rests_keep (state x) (state y)) g h s) (ap (λ x. x.entries.list) j) (ap (λ x. x.opening) j)
+      (subst (λ (x : Journal). g.journal.entries.room ≤ x.entries.room) (sym j) (omega arith))
 
   pub rested_has : (g h : GroupState X) (table : ℕ) → IsSameBut (Lifted state Rests) g h → HasTable g table → HasTable h table
   rested_has g h table s k = subst (λ os. IsSome (shape_at os table)) (sym (outlines_along state (Lifted state Rests) g h s)) k

@@ -12,6 +12,7 @@ use Rattle.cq_journal.specs.Journals.{replay}
 use Rattle.cq_store.specs.Stores.{StoreState}
 use Rattle.cq_group.specs.declared.group.GroupTable.{GroupTable}
 use Rattle.cq_group.specs.declared.group.GroupState.{GroupState}
+use Rattle.cq_group.specs.Moves.{IsSameMove, KeepsChanges}
 use Rattle.cq_group.specs.Groups.{entries_of, stores_of, outlines, shape_at, or_no_shape, shapes, copies_of, HasTable, AreReplicasFrom, IsTableKept, IsKept, IsTableQuiet, IsQuiet, IsStagedIn, IsTableStaged, IsReady}
 use Rattle.cq_group.specs.Calls.{KeepsRows, Discards, GoesOn, Lifted, IsRestingTable, IsSameBut, AreAlike, first_rows, next_id, GroupGoesOn}
 use Rattle.cq_group.proofs.Zips.{zip_set, zip_refl, zip_trans}
@@ -66,11 +67,12 @@ module _ {X : Type 0} (state : X → StoreState) where
       }
 
   -- a group whose tables are the same
-  pub keeps_none : (g h : GroupState X) → h.node ≡ g.node → h.nodes ≡ g.nodes → h.room ≡ g.room → h.tables ≡ g.tables → IsSameBut (Lifted state KeepsRows) g h
-  keeps_none g h node nodes room tables = record {
+  pub keeps_none : (g h : GroupState X) → h.node ≡ g.node → h.nodes ≡ g.nodes → h.room ≡ g.room → IsSameMove g.moving h.moving → h.tables ≡ g.tables → IsSameBut (Lifted state KeepsRows) g h
+  keeps_none g h node nodes room moving tables = record {
     node = node;
     nodes = nodes;
     room = room;
+    moving = moving;
     tables = subst (λ v. AllZip (IsRestingTable (Lifted state KeepsRows)) g.tables.items v.items) (sym tables)
         (zip_refl (IsRestingTable (Lifted state KeepsRows)) (λ t. table_refl (Lifted state KeepsRows) (λ x. keeps (state x)) t) g.tables.items);
   }
@@ -118,9 +120,9 @@ module _ {X : Type 0} (state : X → StoreState) where
     -- the staged write is ready
     pub ready : (h : GroupState X) (op : ShardOp) (u : GroupTable X) (reply : Reply) → table_of op ≡ number → IsQuiet state g → IsRestingTable (Lifted state KeepsRows) t u →
         AllByRecursion (λ (x : X). IsStagedIn true op t.shape (state x)) u.stores.items → reply ≡ reply_of op (first_rows state t.stores.items) t.shape →
-        next_id g number + length (inserts op) ≤ 4294967296 → IsSameBut (Lifted state KeepsRows) g h → h.tables.items ≡ set g.tables.items place u → entries_of h ≡ entries_of g → 0 < h.journal.entries.room →
-        IsReady state h op reply
-    ready h op u reply e q r s replied ids same tables entries room =
+        next_id g number + length (inserts op) ≤ 4294967296 → IsSameBut (Lifted state KeepsRows) g h → h.tables.items ≡ set g.tables.items place u → entries_of h ≡ entries_of g → 1 < h.journal.entries.room →
+        KeepsChanges op (first_rows state t.stores.items) t.shape h.moving → IsReady state h op reply
+    ready h op u reply e q r s replied ids same tables entries room logged =
         let os : outlines h ≡ outlines g = outlines_along state (Lifted state KeepsRows) g h same in
         let held : replay (table_of op) (shapes h (table_of op)) (entries_of h) ≡ replay number (shapes g number) (entries_of g) = λ i. replay (e i) (or_no_shape (shape_at (os i) (e i))) (entries i) in
         let moved : shape_at (outlines h) (table_of op) ≡ shape_at (outlines g) number = λ i. shape_at (os i) (e i) in
@@ -135,6 +137,7 @@ module _ {X : Type 0} (state : X → StoreState) where
           replied = replied ∙ expected;
           ids = subst (λ (v : Table). v.next + length (inserts op) ≤ 4294967296) (sym held) ids;
           staged = subst (λ ts. AllByRecursion (IsTableStaged state op) ts) (sym tables) (staged_set op u e q r s);
+          logged = subst (λ v. KeepsChanges op v (shapes h (table_of op)) h.moving) rows (subst (λ v. KeepsChanges op (first_rows state t.stores.items) v h.moving) (sym shape) logged);
         }
 
   pub goes_on_twice : (f g h : GroupState X) → GroupGoesOn state f g → GroupGoesOn state g h → GroupGoesOn state f h

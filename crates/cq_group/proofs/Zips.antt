@@ -108,6 +108,10 @@ pub if_ok_both : {T E : Type 0} (r : Result T E) (P : T → Type 0) (Q : Type 0)
 if_ok_both (Ok x) P Q R f h k = f x h k
 if_ok_both (Err e) P Q R f h k = tt
 
+pub if_ok_three : {T E : Type 0} (r : Result T E) (P : T → Type 0) (Q U : Type 0) (R : T → Type 0) → ((x : T) → P x → Q → U → R x) → IfOk r P → OnOk r Q → OnOk r U → IfOk r R
+if_ok_three (Ok x) P Q U R f h k l = f x h k l
+if_ok_three (Err e) P Q U R f h k l = tt
+
 pub map_same : {X : Type 0} (xs : List X) → xs ≡ map (λ (x : X). x) xs
 map_same [] = refl
 map_same (x ∷ xs) = ap (λ ys. x ∷ ys) (map_same xs)

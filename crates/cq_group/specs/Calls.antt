@@ -14,6 +14,7 @@ use Rattle.cq_store.specs.declared.store.StoreError.{StoreError}
 use Rattle.cq_store.specs.declared.store.StoreError.TheVariants as call
 use Rattle.cq_tree.specs.declared.write.Reply.{Reply}
 use Rattle.cq_tree.specs.declared.write.Reply.TheVariants.{Count, Duplicate, OutOfRange}
+use Rattle.cq_group.specs.Moves.{IsSameMove}
 use Rattle.cq_group.specs.Groups.{stores_of, IsTableQuiet, IsQuiet, IsReady, IsSameGroup, IsSteady, shapes, entries_of}
 use Rattle.cq_group.specs.declared.group.GroupError.{GroupError}
 use Rattle.cq_group.specs.declared.group.GroupError.TheVariants.{Worker, Memory}
@@ -66,11 +67,12 @@ pub record IsRestingTable {X : Type 0} (R : X → X → Type 0) (old new : Group
   pub same : IsSameTable R old new
   pub next : new.next ≡ old.next
 
--- a group as it was, but for its journal and its stores, which are related one by one
+-- a group as it was, with its move, but for its journal and its stores, which are related one by one
 pub record IsSameBut {X : Type 0} (R : X → X → Type 0) (old new : GroupState X) : Type 0 where
   pub node : new.node ≡ old.node
   pub nodes : new.nodes ≡ old.nodes
   pub room : new.room ≡ old.room
+  pub moving : IsSameMove old.moving new.moving
   pub tables : AllZip (IsRestingTable R) old.tables.items new.tables.items
 
 -- a call leaves the group as it is, but for its entries: each of its stores goes on, and so a steady group stays steady

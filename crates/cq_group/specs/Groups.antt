@@ -13,6 +13,7 @@ use Rattle.cq_meaning.specs.Effects.{effect, reply_of, table_of, inserts}
 use Rattle.cq_journal.specs.Journals.{most_ids, replay, EachReplied}
 use Rattle.cq_journal.specs.Records.{Journal}
 use Rattle.cq_store.specs.Stores.{StoreState}
+use Rattle.cq_group.specs.Moves.{IsMoveKept, KeepsChanges}
 use Rattle.cq_group.specs.declared.group.GroupTable.{GroupTable}
 use Rattle.cq_group.specs.declared.group.GroupState.{GroupState}
 
@@ -98,7 +99,8 @@ abbrev pub stores_of : {X : Type 0} → GroupState X → List X
 stores_of {X} g = flat_map (λ (t : GroupTable X). t.stores.items) g.tables.items
 
 -- what a group keeps, whatever is staged: each reply in its journal is that of the write's effect on a table that is there,
--- each table has its stores, which hold the journal's replay, and there is room to hand the stores back
+-- each table has its stores, which hold the journal's replay, there is room to hand the stores back, and a move is in flight
+-- where the journal says so
 pub record IsKept {X : Type 0} (state : X → StoreState) (g : GroupState X) : Type 0 where
   pub replied : EachReplied (shapes g) (entries_of g)
   pub named : AllByRecursion (λ (e : Entry). IsNamed (outlines g) e.kind) (entries_of g)
@@ -106,6 +108,7 @@ pub record IsKept {X : Type 0} (state : X → StoreState) (g : GroupState X) : T
   pub distinct : AreDistinct (outlines g)
   pub room : length (stores_of g) ≤ vec_capacity g.room
   pub unused : g.room.items ≡ []
+  pub move : IsMoveKept (shapes g) (journal_of g) g.node g.journal.entries.room g.moving
 
 -- nothing is staged in a table's stores
 abbrev pub IsTableQuiet : {X : Type 0} → (X → StoreState) → GroupTable X → Type 0
@@ -122,14 +125,15 @@ IsStagedIn false op shape s = s.staged ≡ []
 abbrev pub IsTableStaged : {X : Type 0} → (X → StoreState) → ShardOp → GroupTable X → Type 0
 IsTableStaged {X} state op t = AllByRecursion (λ (x : X). IsStagedIn (nat_eq t.table (table_of op)) op t.shape (state x)) t.stores.items
 
--- a write is ready to be committed with this reply: there is room for its entry, the reply is that of its effect, its ids
--- suffice, and it is staged
+-- a write is ready to be committed with this reply: there is room for its entry and one more, the reply is that of its effect,
+-- its ids suffice, it is staged, and a move in flight has its row changes
 pub record IsReady {X : Type 0} (state : X → StoreState) (g : GroupState X) (op : ShardOp) (reply : Reply) : Type 0 where
-  pub room : 0 < g.journal.entries.room
+  pub room : 1 < g.journal.entries.room
   pub there : HasTable g (table_of op)
   pub replied : reply ≡ reply_of op (replay (table_of op) (shapes g (table_of op)) (entries_of g)) (shapes g (table_of op))
   pub ids : (replay (table_of op) (shapes g (table_of op)) (entries_of g)).next + length (inserts op) ≤ most_ids
   pub staged : AllByRecursion (IsTableStaged state op) g.tables.items
+  pub logged : KeepsChanges op (replay (table_of op) (shapes g (table_of op)) (entries_of g)) (shapes g (table_of op)) g.moving
 
 -- every store is steady
 abbrev pub IsSteady : {X : Type 0} → (X → StoreState) → GroupState X → Type 0

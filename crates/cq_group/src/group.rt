@@ -1,3 +1,4 @@
+use crate::moving::Moving;
 use cq_journal::Journal;
 use cq_tree::Reply;
 use cq_value::{Items, Rows, Shape};
@@ -13,8 +14,8 @@ pub struct GroupTable<S> {
     pub stores: Vec<S>,
 }
 
-/// A shard group: its journal, its node (0 for a reference group, which is on every node), the number of nodes, and its
-/// tables.
+/// A shard group: its journal, its node (0 for a reference group, which is on every node), the number of nodes, its
+/// tables, and its move where one is in flight.
 #[derive(Drop)]
 pub struct GroupState<S> {
     pub journal: Journal,
@@ -23,6 +24,7 @@ pub struct GroupState<S> {
     pub tables: Vec<GroupTable<S>>,
     /// Room in which `close` hands the stores back.
     pub room: Vec<S>,
+    pub moving: Option<Moving>,
 }
 
 /// Rows by table number.

@@ -76,7 +76,7 @@ impl<S: Store> GroupState<S> {
         ensures rest { self.new ≡ record self.old { journal = self.new.journal } }
         ensures kept { IsKept S.state self.new }
     {
-        if self.journal.entries.reserve(1).is_err() {
+        if self.journal.entries.reserve(2).is_err() {
             return Err(GroupError::Memory);
         }
         let place = self.journal.entries.len();

@@ -9,9 +9,11 @@ ghost use Rattle.cq_engine.specs.Keys.{meets as meet_keys};
 ghost use Rattle.cq_engine.specs.WriteEffects.{IsEffect};
 ghost use Rattle.cq_store.specs.Stores.{has_values};
 ghost use Rattle.cq_group.specs.Groups.{IsStagedIn, IsTableQuiet};
+ghost use Rattle.cq_group.specs.Moves.{IsSameMove, KeepsChanges};
 ghost use Rattle.cq_group.specs.Calls.{Rests, Discards, Commits, Stages, KeepsRows, Lifted, Blames, IsOn, Takes, IsSameTable, IsRestingTable, AreAlike, first_rows, ids_taken};
 
 use crate::group::{GroupError, GroupTable};
+use crate::moving::{Moving, keep_staged, reserve_log};
 use crate::stores::{commit_stores, discard_stores, meet_store, pick_store, stage_stores};
 use cq_demands::wanted_by;
 use cq_engine::Effect;
@@ -57,7 +59,11 @@ fn rows_alone(pairs: Pairs) -> Result<Rows, NoMemory>
 
 impl<S: Store> GroupTable<S> {
     /// The rows with these values that the store in a place of the list holds, with their ids.
-    fn pick_pairs(&mut self, place: usize, wanted: &ColumnValues) -> Result<Pairs, GroupError>
+    pub(crate) fn pick_pairs(
+        &mut self,
+        place: usize,
+        wanted: &ColumnValues,
+    ) -> Result<Pairs, GroupError>
         requires { place < length self.old.stores.items }
         ensures pairs { IfOk result (λ pairs. HoldsAt (λ x. pairs ≡ filter (λ p. has_values wanted.now p.1) (S.state x).rows.pairs) self.old.stores.items place) }
         ensures same { IsRestingTable (Lifted S.state Rests) self.old self.new }
@@ -155,11 +161,17 @@ impl<S: Store> GroupTable<S> {
         }
     }
 
-    /// Stages a write in each store, and gives its reply. A write that is refused stages nothing.
+    /// Stages a write in each store, and gives its reply; where a move is in flight, its changes are kept for the move's log.
+    /// A write that is refused stages nothing.
     ///
     /// Conditions: its ids suffice, and it can be computed over each row of the stores, which hold the same rows.
     /// Errors: a store failed, or want of memory; nothing is staged.
-    pub(crate) fn stage(&mut self, alloc: Global, op: &ShardOp) -> Result<Reply, GroupError>
+    pub(crate) fn stage(
+        &mut self,
+        alloc: Global,
+        op: &ShardOp,
+        moving: &mut Option<Moving>,
+    ) -> Result<Reply, GroupError>
         requires alike { AreAlike S.state self.old }
         requires ids { self.old.next + length (inserts op.now) ≤ 2 ^ 32 }
         requires safe { IsSafeWrite op.now (first_rows S.state self.old.stores.items).pairs }
@@ -169,10 +181,17 @@ impl<S: Store> GroupTable<S> {
         ensures same { IsRestingTable (Lifted S.state KeepsRows) self.old self.new }
         ensures err { OnErr result (IsRestingTable (Lifted S.state Rests) self.old self.new) }
         ensures blame { IfErr result (λ e. Blames S.state e self.old.stores.items self.new.stores.items) }
+        ensures moving { IsSameMove moving.old moving.new }
+        ensures logged { OnOk result (KeepsChanges op.now (first_rows S.state self.old.stores.items) self.old.shape moving.new) }
     {
         let effect = self.effect_of(alloc, op)?;
+        if reserve_log(moving, effect.changes.len()).is_err() {
+            return Err(GroupError::Memory);
+        }
         self.stage_effect(&effect)?;
-        Ok(effect.reply)
+        let Effect { reply, changes, .. } = effect;
+        keep_staged(moving, changes);
+        Ok(reply)
     }
 
     /// Drops what is staged.

@@ -10,7 +10,7 @@ returns-clause-spare g c =
 pub returns-clause-kept : goal.returns-clause-kept
 returns-clause-kept g c =
     let tables = c.pop.ensures.items ∙ ap (λ o. c.pop.new.self.items ++ option_to_list o) c.in-Some.is in
-    dropped_kept g.S.Store.state c.args.self.now _ c.in-Some.table tables c.requires.kept c.requires.unwritten refl refl refl refl
+    dropped_kept g.S.Store.state c.args.self.now _ c.in-Some.table tables c.requires.kept c.requires.unwritten refl refl refl refl refl
 
 pub returns-clause-stores : goal.returns-clause-stores
 returns-clause-stores g c =

@@ -7,6 +7,7 @@ use Rattle.cq_value.specs.Tables.{Table, rows_of}
 use Rattle.cq_store.specs.Stores.{has_values}
 use Rattle.cq_group.specs.Calls.{Rests, Lifted, Blames, IsOn, IsRestingTable}
 use Rattle.cq_group.proofs.Zips.{zip_set}
+use Rattle.cq_group.proofs.MoveLaws.{same_move}
 use Rattle.cq_group.proofs.Turns.{rests}
 use Rattle.cq_group.proofs.TableLaws.{rested_go_on}
 use Rattle.cq_group.proofs.PlaceLaws.{table_refl, blames_group}
@@ -34,6 +35,7 @@ returns-clause-same g c =
       node = refl;
       nodes = refl;
       room = refl;
+      moving = same_move c.args.self.now.moving;
       tables = zip_set (IsRestingTable (Lifted state Rests)) (λ a. table_refl (Lifted state Rests) (λ x. rests (state x)) a) c.args.self.now.tables.items c.place_of-place.result t c.pick.new.self
           c.place_of-place.ensures.within (search rules) c.pick.ensures.same;
     }

@@ -5,7 +5,9 @@ use Rattle.std.specs.List.{AllByRecursion}
 use Rattle.cq_value.specs.Tables.{Table}
 use Rattle.cq_group.specs.Groups.{IsTableQuiet, IsStagedIn, entries_of, copies_of}
 use Rattle.cq_group.specs.Calls.{Rests, KeepsRows, GoesOn, Lifted, Blames, IsRestingTable, first_rows}
-use Rattle.cq_group.proofs.Zips.{zip_weaker, all_set, on_err, if_ok_both}
+use Rattle.cq_group.specs.Moves.{KeepsChanges}
+use Rattle.cq_group.proofs.MoveLaws.{same_move}
+use Rattle.cq_group.proofs.Zips.{zip_weaker, all_set, on_err, if_ok_three}
 use Rattle.cq_group.proofs.Turns.{keeps_go_on}
 use Rattle.cq_group.proofs.TableLaws.{quiet_rested}
 use Rattle.cq_group.proofs.PlaceLaws.{all_at, blames_group}
@@ -14,10 +16,10 @@ use Rattle.cq_group.proofs.WriteLaws.{keeps_none, alike, kept_at, next_found, ro
 use Rattle.cq_group.proofs.group.GroupState.stage_at.Goals as goal
 
 pub returns-then-is_err-clause-kept : goal.returns-then-is_err-clause-kept
-returns-then-is_err-clause-kept g c = kept_along g.S.Store.state c.args.self.now _ c.requires.kept (keeps_none g.S.Store.state c.args.self.now _ refl refl refl refl) c.reserve.ensures.list
+returns-then-is_err-clause-kept g c = kept_along g.S.Store.state c.args.self.now _ c.requires.kept (keeps_none g.S.Store.state c.args.self.now _ refl refl refl (same_move c.args.self.now.moving) refl) c.reserve.ensures.list refl c.reserve.ensures.kept
 
 pub returns-then-is_err-clause-goes_on : goal.returns-then-is_err-clause-goes_on
-returns-then-is_err-clause-goes_on g c = goes_on_but g.S.Store.state KeepsRows (λ s t. keeps_go_on s t) c.args.self.now _ (keeps_none g.S.Store.state c.args.self.now _ refl refl refl refl) refl refl
+returns-then-is_err-clause-goes_on g c = goes_on_but g.S.Store.state KeepsRows (λ s t. keeps_go_on s t) c.args.self.now _ (keeps_none g.S.Store.state c.args.self.now _ refl refl refl (same_move c.args.self.now.moving) refl) refl refl
 
 pub stage-requires-clause-alike : goal.stage-requires-clause-alike
 stage-requires-clause-alike g c =
@@ -58,14 +60,15 @@ returns-clause-ready g c =
     let is : t ≡ get_or group.tables.items c.args.place t = search rules in
     let named : t.table ≡ table_of c.args.op.now = ap (λ x. x.table) is ∙ c.requires.found t in
     let keeps = keeps_set state group c.requires.kept c.args.place (table_of c.args.op.now) t c.requires.within is named c.stage.new.self c.stage.ensures.same in
-    let one : 1 ≤ c.reserve.new.self.room = search rules in
-    let room : 0 < c.reserve.new.self.room = omega (arith, one) in
-    if_ok_both c.stage.result (λ reply. reply ≡ reply_of c.args.op.now (first_rows state t.stores.items) t.shape)
-    (AllByRecursion (λ x. IsStagedIn true c.args.op.now t.shape (state x)) c.stage.new.self.stores.items) _
-    (λ reply replied staged.
+    let two : 2 ≤ c.reserve.new.self.room = search rules in
+    let room : 1 < c.reserve.new.self.room = omega (arith, two) in
+    if_ok_three c.stage.result (λ reply. reply ≡ reply_of c.args.op.now (first_rows state t.stores.items) t.shape)
+    (AllByRecursion (λ x. IsStagedIn true c.args.op.now t.shape (state x)) c.stage.new.self.stores.items)
+    (KeepsChanges c.args.op.now (first_rows state t.stores.items) t.shape c.stage.new.moving) _
+    (λ reply replied staged logged.
     ready state group c.requires.kept c.args.place (table_of c.args.op.now) t c.requires.within is named _ c.args.op.now c.stage.new.self reply refl c.requires.quiet c.stage.ensures.same staged replied
-    c.requires.ids (record { node = refl; nodes = refl; room = refl; tables = keeps }) refl c.reserve.ensures.list room)
-    c.stage.ensures.reply c.stage.ensures.staged
+    c.requires.ids (record { node = refl; nodes = refl; room = refl; moving = c.stage.ensures.moving; tables = keeps }) refl c.reserve.ensures.list room logged)
+    c.stage.ensures.reply c.stage.ensures.staged c.stage.ensures.logged
 
 pub returns-clause-err : goal.returns-clause-err
 returns-clause-err g c =
@@ -87,7 +90,7 @@ returns-clause-kept g c =
     let is : t ≡ get_or group.tables.items c.args.place t = search rules in
     let named : t.table ≡ table_of c.args.op.now = ap (λ x. x.table) is ∙ c.requires.found t in
     let keeps = keeps_set state group c.requires.kept c.args.place (table_of c.args.op.now) t c.requires.within is named c.stage.new.self c.stage.ensures.same in
-    kept_along state group _ c.requires.kept (record { node = refl; nodes = refl; room = refl; tables = keeps }) c.reserve.ensures.list
+    kept_along state group _ c.requires.kept (record { node = refl; nodes = refl; room = refl; moving = c.stage.ensures.moving; tables = keeps }) c.reserve.ensures.list refl c.reserve.ensures.kept
 
 pub returns-clause-goes_on : goal.returns-clause-goes_on
 returns-clause-goes_on g c =
@@ -97,7 +100,7 @@ returns-clause-goes_on g c =
     let is : t ≡ get_or group.tables.items c.args.place t = search rules in
     let named : t.table ≡ table_of c.args.op.now = ap (λ x. x.table) is ∙ c.requires.found t in
     let keeps = keeps_set state group c.requires.kept c.args.place (table_of c.args.op.now) t c.requires.within is named c.stage.new.self c.stage.ensures.same in
-    goes_on_but state KeepsRows (λ s t. keeps_go_on s t) group _ (record { node = refl; nodes = refl; room = refl; tables = keeps }) refl refl
+    goes_on_but state KeepsRows (λ s t. keeps_go_on s t) group _ (record { node = refl; nodes = refl; room = refl; moving = c.stage.ensures.moving; tables = keeps }) refl refl
 
 pub returns-clause-blame : goal.returns-clause-blame
 returns-clause-blame g c =

@@ -2,7 +2,28 @@ use Rattle.std.proofs.Common.{rules}
 use Rattle.cq_group.specs.Calls.{Rests, Stages, KeepsRows, Lifted, IsRestingTable}
 use Rattle.cq_group.proofs.TableLaws.{table_trans, table_weaker, takes_all, staged_all, quiet_staged, refused_changes, blames_later, rested_go_on}
 use Rattle.cq_group.proofs.Turns.{rests_keep, stages_keep, rests_more, stages_after}
+use Rattle.cq_group.proofs.MoveLaws.{same_move, same_more}
 use Rattle.cq_group.proofs.group.GroupTable.stage.Goals as goal
+
+pub returns-in_err-effect-clause-moving : goal.returns-in_err-effect-clause-moving
+returns-in_err-effect-clause-moving g c = same_move c.args.moving.now
+
+pub returns-then-is_err-clause-same : goal.returns-then-is_err-clause-same
+returns-then-is_err-clause-same g c =
+    let state = g.S.Store.state in
+    table_weaker (Lifted state Rests) (Lifted state KeepsRows) (λ a b. rests_keep (state a) (state b)) c.args.self.now c.effect_of.new.self c.effect_of.ensures.same
+
+pub returns-clause-moving : goal.returns-clause-moving
+returns-clause-moving g c = same_more c.args.moving.now c.reserve_log.new.moving c.keep_staged.new.moving c.reserve_log.ensures.same c.keep_staged.ensures.same
+
+pub returns-clause-logged : goal.returns-clause-logged
+returns-clause-logged g c = record {
+  changes = c.in_ok-effect.effect.changes;
+  listed = c.in_ok-effect.ensures.effect.listed;
+  fitting = c.in_ok-effect.ensures.effect.fitting;
+  changed = c.in_ok-effect.ensures.effect.changed;
+  kept = c.keep_staged.ensures.kept;
+}
 
 pub returns-in_err-effect-clause-same : goal.returns-in_err-effect-clause-same
 returns-in_err-effect-clause-same g c =
