@@ -1,6 +1,6 @@
 -- Answers, one after another, to the items of a script.
 use Rattle.std.proofs.Common.{suc, zero, ◌≡◌, ◌+◌, ◌-◌, ◌<◌, ◌≤◌, ◌⊎◌, inl, inr, ℕ, Bool, true, false, List, [], ◌∷◌, ◌++◌, length, take, drop, refl, sym, ◌∙◌, ap, subst, arith, Some, None, Option, append-nil, append_assoc}
-use Rattle.std.specs.Prelude.{fold, min, ◌↔◌}
+use Rattle.std.specs.Prelude.{◌&&◌, fold, min, ◌↔◌}
 use Rattle.std.proofs.Math.ListN.{set}
 use Rattle.std.proofs.lemmas.Grind.{common_steps}
 use Rattle.cq_answer.specs.declared.answered.Answered.{Answered}
@@ -8,16 +8,19 @@ use Rattle.cq_history.specs.Run.{Environment, after}
 use Rattle.cq_session.specs.Responses.{ReadsAs}
 use Rattle.cq_script.specs.declared.cutter.Cutter.{Cutter}
 use Rattle.cq_script.specs.declared.cutter.Item.{Item}
+use Rattle.cq_script.specs.Generating.{generated}
 use Rattle.cq_script.specs.Scripts.{Cut, Gives, first, cut, items, items_in, one, last, misplaced, misplaced_at_end}
+use Rattle.cq_script.specs.declared.sink.SinkError.{SinkError}
+use Rattle.cq_script.specs.declared.sink.SinkError.TheVariants as errors
 use Rattle.cq_script.specs.Streams.{SourceState, SinkState, Took, Moved}
 use Rattle.cq_script.proofs.CuttingLaws.{cut_append}
 use Rattle.cq_words.specs.declared.settled.Settled.{Settled}
 use Rattle.cq_top.specs.declared.ending.Ending.{Ending}
-use Rattle.cq_top.specs.declared.ending.Ending.TheVariants.{Done, Line}
+use Rattle.cq_top.specs.declared.ending.Ending.TheVariants.{Done, Usage, Memory, Bytes, Line}
 use Rattle.cq_top.specs.declared.stop.Stop.{Stop}
 use Rattle.cq_top.specs.declared.stop.Stop.TheVariants as stops
-use Rattle.cq_top.specs.Outputs.{ending_of}
-use Rattle.cq_top.specs.Scripts.{start, AnswersFrom, AnswersTo, AnswersFirst, begun_in, most_bytes, most_statements, read_of, IsAll, IsReached, IsAnswered, fails, AllSucceed, FailsLast, MayFailLast, IsHalted}
+use Rattle.cq_top.specs.Outputs.{ending_of, stop_by}
+use Rattle.cq_top.specs.Scripts.{start, AnswersFrom, AnswersTo, AnswersFirst, begun_in, most_bytes, most_statements, read_of, IsAll, IsReached, IsAnswered, script_of, IsTakenOf, Serves, fails, AllSucceed, FailsLast, MayFailLast, IsHalted}
 use Rattle.cq_top.specs.Serving.{AnswersNext, Reaches, IsReaching, StopsAt, StopsAmong, IsCalm, HaltsBy, IsTaken, IsShown, IsShownBy, ShowsBy}
 
 -- the last item is exchanged
@@ -155,9 +158,9 @@ ended_stops s stop bytes begun i old new few r some at =
     (stops_among s stop (items_in bytes) [] (items bytes) i old new (ap (λ o. items_in bytes ++ one o) (sym some ∙ ap last r.begun) ∙ unfolded_items bytes) r.answered at)
 
 -- or there was no memory to look for it
-pub ended_first : (s : Settled) (ending : Ending) (bytes : List ℕ) (begun : Cutter) (answers : List Answered) → length bytes ≤ most_bytes → Reaches s bytes begun answers →
+pub ended_first : (s : Settled) (bytes : List ℕ) (begun : Cutter) (answers : List Answered) → length bytes ≤ most_bytes → Reaches s bytes begun answers →
     (found : List Item) × IsReached bytes (length bytes) found × AnswersFirst s found answers
-ended_first s ending bytes begun answers few r = (items bytes, inr ((few, refl), refl), items_in bytes, one (last (begun_in bytes)), sym (unfolded_items bytes), r.answered)
+ended_first s bytes begun answers few r = (items bytes, inr ((few, refl), refl), (items_in bytes, one (last (begun_in bytes)), sym (unfolded_items bytes), r.answered))
 
 -- all bytes count
 take_whole : (xs : List ℕ) → take (length xs) xs ≡ xs
@@ -257,6 +260,59 @@ none_misplaced s taken begun answers r none = ap misplaced (sym r.begun) ∙ non
 pub nothing_misplaced : (c : Cutter) → c ≡ first → misplaced c ≡ None
 nothing_misplaced c e = ap misplaced e ∙ misplaced_first
 
+-- ---- a script in memory
+
+pub reaches_new : (s : Settled) (begun : Cutter) (answers : List Answered) → begun ≡ first → answers ≡ [] → Reaches s [] begun answers
+reaches_new s begun answers b a = subst (λ (c : Cutter). Reaches s [] c answers) (sym b) (subst (Reaches s [] first) (sym a) (reaches_nothing s))
+
+pub bytes_stop : (s : Settled) (stop : Stop) (bytes : List ℕ) (end : ℕ) (begun : Cutter) (old new : List Answered) → end ≡ min (length bytes) most_bytes → Reaches s [] begun old →
+    ((given : List ℕ) → Reaches s given begun old → StopsAmong s stop (items_in (given ++ take end bytes)) new) → IsAnswered s (ending_of stop) bytes (length bytes) new
+bytes_stop s stop bytes end begun old new upto r f =
+    stopped_answered s stop bytes (length bytes) (items_in (read_of bytes (length bytes))) new (inl refl) (subst (λ k. StopsAmong s stop (items_in (take k bytes)) new) upto (f [] r))
+
+-- the limit of bytes
+pub too_long : (s : Settled) (bytes : List ℕ) (taken end : ℕ) (begun : Cutter) (answers : List Answered) → most_bytes < length bytes → most_bytes < taken → end ≡ most_bytes → Reaches s (take end bytes) begun answers → misplaced begun ≡ None →
+    IsAnswered s Bytes bytes taken answers
+too_long s bytes taken end begun answers long more all r none =
+    let r' = subst (λ k. Reaches s (take k bytes) begun answers) all r in
+    (long, more, none_misplaced s (take most_bytes bytes) begun answers r' none, r'.answered)
+
+pub reaches_whole : (s : Settled) (bytes : List ℕ) (end : ℕ) (begun : Cutter) (answers : List Answered) → end ≡ length bytes → Reaches s (take end bytes) begun answers → Reaches s bytes begun answers
+reaches_whole s bytes end begun answers all r = subst (λ (v : List ℕ). Reaches s v begun answers) (ap (λ k. take k bytes) all ∙ take_whole bytes) r
+
+-- ---- where nothing is answered
+
+pub nothing_answered : (s : Settled) (bytes : List ℕ) (taken : ℕ) (answers : List Answered) → answers ≡ [] → IsAnswered s Memory bytes taken answers
+nothing_answered s bytes taken answers none = (items_in (read_of bytes taken), inl refl, ([], items_in (read_of bytes taken), refl, subst (AnswersTo s []) (sym none) tt))
+
+pub serves_given : (s : Settled) (ending : Ending) (source source_end : SourceState) (answers : List Answered) → s.generate ≡ None →
+    ((bytes : List ℕ) → source.left ≡ Some bytes → (taken : ℕ) × IsTakenOf None source source_end bytes taken × IsAnswered s ending bytes taken answers) → Serves s ending source source_end answers
+serves_given s ending source source_end answers none f bytes e =
+    let r = f bytes (subst (λ (o : Option (ℕ × ℕ)). script_of o source ≡ Some bytes) none e) in
+    (r.0, subst (λ (o : Option (ℕ × ℕ)). IsTakenOf o source source_end bytes r.0) (sym none) r.1, r.2)
+
+pub serves_made : (s : Settled) (ending : Ending) (source : SourceState) (number rows : ℕ) (script : List ℕ) (answers : List Answered) → s.generate ≡ Some (number, rows) → script ≡ generated number rows →
+    IsAnswered s ending script (length script) answers → Serves s ending source source answers
+serves_made s ending source number rows script answers some is all bytes e =
+    let same : script ≡ bytes = is ∙ some_is (generated number rows) bytes (subst (λ (o : Option (ℕ × ℕ)). script_of o source ≡ Some bytes) some e) in
+    (length script, subst (λ (o : Option (ℕ × ℕ)). IsTakenOf o source source bytes (length script)) (sym some) refl, subst (λ (v : List ℕ). IsAnswered s ending v (length script) answers) same all)
+  where
+    some_is : (x y : List ℕ) → Some x ≡ Some y → x ≡ y
+    some_is x y e = cc
+
+serves_at_once : (s : Settled) (ending : Ending) (source : SourceState) (answers : List Answered) → ((bytes : List ℕ) → IsAnswered s ending bytes 0 answers) → Serves s ending source source answers
+serves_at_once s ending source answers f bytes e = (0, none_taken source bytes s.generate e, f bytes)
+  where
+    none_taken : (source : SourceState) (bytes : List ℕ) (o : Option (ℕ × ℕ)) → script_of o source ≡ Some bytes → IsTakenOf o source source bytes 0
+    none_taken source bytes None e = (e, omega arith)
+    none_taken source bytes (Some g) e = refl
+
+pub serves_nothing : (s : Settled) (source : SourceState) (answers : List Answered) → answers ≡ [] → Serves s Memory source source answers
+serves_nothing s source answers none = serves_at_once s Memory source answers (λ bytes. nothing_answered s bytes 0 answers none)
+
+pub serves_usage : (s : Settled) (source : SourceState) (answers : List Answered) → answers ≡ [] → Serves s Usage source source answers
+serves_usage s source answers none = serves_at_once s Usage source answers (λ bytes. (refl, none))
+
 -- ---- statements that fail
 
 pub calm_first : (s : Settled) (answers : List Answered) → answers ≡ [] → IsCalm s answers
@@ -277,8 +333,34 @@ may_fail_next s old new i calm next stops = subst MayFailLast (sym next.1) (by (
 pub may_fail_same : (s : Settled) (old new : List Answered) → IsCalm s old → new ≡ old → s.stop ≡ true → MayFailLast new
 may_fail_same s old new calm same stops = inl (subst AllSucceed (sym same) (calm stops))
 
-pub calm_next : (s : Settled) (old new : List Answered) (i : Item) (failed : Bool) → IsCalm s old → (next : AnswersNext s old new i) → failed ≡ fails next.0.answer → failed ≡ false → IsCalm s new
-calm_next s old new i failed calm next is not stops = subst AllSucceed (sym next.1) (succeed_more old next.0 (calm stops) (sym is ∙ not))
+both_true : (a b : Bool) → (a && b) ≡ true → (a ≡ true) × (b ≡ true)
+both_true true true h = (refl, refl)
+both_true true false h = cc
+both_true false b h = cc
 
-pub fails_next : (s : Settled) (old new : List Answered) (i : Item) (failed : Bool) → IsCalm s old → (next : AnswersNext s old new i) → failed ≡ fails next.0.answer → failed ≡ true → s.stop ≡ true → FailsLast new
-fails_next s old new i failed calm next is yes stops = (old, next.0, next.1, sym is ∙ yes, calm stops)
+not_both : (a b : Bool) → (a && b) ≡ false → a ≡ true → b ≡ false
+not_both true b h t = h
+not_both false b h t = cc
+
+pub calm_next : (s : Settled) (old new : List Answered) (i : Item) (halts : Bool) → IsCalm s old → (next : AnswersNext s old new i) → halts ≡ (s.stop && fails next.0.answer) → halts ≡ false → IsCalm s new
+calm_next s old new i halts calm next is isnt stops = subst AllSucceed (sym next.1) (succeed_more old next.0 (calm stops) (not_both s.stop (fails next.0.answer) (sym is ∙ isnt) stops))
+
+pub fails_next : (s : Settled) (old new : List Answered) (i : Item) (halts : Bool) → IsCalm s old → (next : AnswersNext s old new i) → halts ≡ (s.stop && fails next.0.answer) → halts ≡ true → (s.stop ≡ true) × FailsLast new
+fails_next s old new i halts calm next is does =
+    let both = both_true s.stop (fails next.0.answer) (sym is ∙ does) in
+    (both.0, (old, next.0, next.1, both.1, calm both.0))
+
+-- ---- an error of the sink
+
+pub stops_cut : (s : Settled) (error : SinkError) (stop : Stop) (old new : List Answered) (i : Item) → stop ≡ stop_by error → AnswersNext s old new i → StopsAt s stop old new i
+stops_cut s errors.Failed stop old new i e next = subst (λ (k : Stop). StopsAt s k old new i) (sym e) (inr next)
+stops_cut s errors.Memory stop old new i e next = subst (λ (k : Stop). StopsAt s k old new i) (sym e) (inr next)
+
+pub halts_cut : (s : Settled) (error : SinkError) (stop : Stop) (old new : List Answered) (i : Item) → stop ≡ stop_by error → IsCalm s old → AnswersNext s old new i → HaltsBy s stop new
+halts_cut s errors.Failed stop old new i e calm next = subst (λ (k : Stop). HaltsBy s k new) (sym e) (may_fail_next s old new i calm next)
+halts_cut s errors.Memory stop old new i e calm next = subst (λ (k : Stop). HaltsBy s k new) (sym e) (may_fail_next s old new i calm next)
+
+pub length-take_le : {X : Type 0} (n : ℕ) (xs : List X) → length (take n xs) ≤ n
+length-take_le zero xs = omega arith
+length-take_le (suc n) [] = omega arith
+length-take_le (suc n) (x ∷ xs) = omega (arith, length-take_le n xs)

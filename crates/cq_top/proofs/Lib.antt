@@ -2,3 +2,4 @@ pub mod Answering
 pub mod RunLaws
 pub mod Showing
 pub mod MakingLaws
+pub mod Refused

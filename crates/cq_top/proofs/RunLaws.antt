@@ -21,16 +21,23 @@ use Rattle.cq_store.specs.declared.worker.Worker.{Worker}
 use Rattle.cq_cluster.specs.Accounts.{AllAccounted}
 use Rattle.cq_cluster.specs.Cluster.{stores_in, AreIdle, IsWaiting}
 use Rattle.cq_cluster.specs.Ending.{IsFinal, record_of}
+use Rattle.cq_script.specs.declared.sink.SinkError.{SinkError}
+use Rattle.cq_script.specs.declared.sink.SinkError.TheVariants as errors
 use Rattle.cq_script.specs.Streams.{SourceState, SinkState, Rose}
 use Rattle.cq_words.specs.declared.settled.Settled.{Settled}
+use Rattle.cq_words.specs.Words.{settled}
 use Rattle.cq_top.specs.declared.log.RunLog.{RunLog}
 use Rattle.cq_top.specs.declared.status.Status.{Status}
-use Rattle.cq_top.specs.declared.status.Status.TheVariants as status
+use Rattle.cq_top.specs.declared.status.Status.TheVariants as statuses
 use Rattle.cq_top.specs.declared.ending.Ending.{Ending}
-use Rattle.cq_top.specs.declared.ending.Ending.TheVariants.{WriteFault}
+use Rattle.cq_top.specs.declared.ending.Ending.TheVariants.{Done, Usage, ReadFault, Stopped, WriteFault, Memory, Bytes, Statements, Line}
+use Rattle.cq_top.specs.declared.stop.Stop.{Stop}
+use Rattle.cq_top.specs.declared.stop.Stop.TheVariants as stops
+use Rattle.cq_top.specs.Outputs.{stop_by, ending_of, status_of}
 use Rattle.cq_top.specs.Scripts.{settings_by}
-use Rattle.cq_top.specs.Serving.{run_by, KeepsSink, BlamesSink, BlamesTail}
-use Rattle.cq_top.specs.Runs.{IsEmptyLog, IsWhole, Stand, journals_of}
+use Rattle.cq_top.specs.declared.serving.Serving.{Serving}
+use Rattle.cq_top.specs.Serving.{run_by, IsReadingEnd, KeepsServing, KeepsSink, BlamesSink, BlamesTail}
+use Rattle.cq_top.specs.Runs.{IsEmptyLog, IsWhole, Stand, IsMisused, settled_or, journals_of}
 
 -- a log of consistent answers and journals
 pub whole_of : {X Y : Type 0} (s : Settled) (log : RunLog X) (entry : List (Worker Y)) (e : Environment) (journals : List Journal) → IsConsistent rules (run_by s entry) e log.answers journals → log.catalog ≡ e.catalog →
@@ -87,6 +94,11 @@ accounts_of_waiting state node answers (x ∷ xs) all = (
 pub accounts_idle : {X : Type 0} (nodes : ℕ) (state : X → StoreState) (answers : List Answered) (workers : List (Worker X)) → AreIdle state workers → AllAccounted state nodes answers workers
 accounts_idle nodes state answers workers idle = λ place w h s. accounts_of_waiting state (place + 1) answers w.stores.items (idle place w s).stores
 
+-- ---- calls one after another
+
+pub keeps_serving_then : {X : Type 0} (state : X → StoreState) (old mid new : Serving X) → KeepsServing state old mid → KeepsServing state mid new → KeepsServing state old new
+keeps_serving_then state old mid new a b = record { settled = b.settled ∙ a.settled; over = λ entry h. b.over entry (a.over entry h) }
+
 -- ---- faults
 
 -- a count that rose, among calls that never let it fall
@@ -111,11 +123,95 @@ blames_then fault old mid new k b = record {
 }
 
 -- the fault that a status is for
-pub rose_in_all : (ending : Ending) (st : Status) (old mid new : SinkState) → KeepsSink old mid → BlamesSink (ending ≡ WriteFault) old mid → KeepsSink mid new → BlamesTail ending st mid new → st ≡ status.WriteFault → Rose old.faults new.faults
+pub rose_in_all : (ending : Ending) (st : Status) (old mid new : SinkState) → KeepsSink old mid → BlamesSink (ending ≡ WriteFault) old mid → KeepsSink mid new → BlamesTail ending st mid new → st ≡ statuses.WriteFault → Rose old.faults new.faults
 rose_in_all ending st old mid new k b l t e = elim (t.rose e) [
   | inl w ↦ rose_before old.faults mid.faults new.faults (b.rose w) l.faults
   | inr r ↦ rose_later old.faults mid.faults new.faults k.faults r
 ]
 
-pub never_in_all : (ending : Ending) (st : Status) (old mid new : SinkState) → KeepsSink old mid → BlamesSink (ending ≡ WriteFault) old mid → BlamesTail ending st mid new → IsTrue old.steady → st ≢ status.WriteFault
+pub never_in_all : (ending : Ending) (st : Status) (old mid new : SinkState) → KeepsSink old mid → BlamesSink (ending ≡ WriteFault) old mid → BlamesTail ending st mid new → IsTrue old.steady → st ≢ statuses.WriteFault
 never_in_all ending st old mid new k b t s e = b.never s (t.never (subst IsTrue (sym k.steady) s) e)
+
+stop_apart : stops.WriteFault ≡ stops.Memory → ⊥
+stop_apart e = cc
+
+-- a stop by an error of the sink, whose count rose where it failed
+pub blames_cut : (error : SinkError) (stop : Stop) (old new : SinkState) → stop ≡ stop_by error → (error ≡ errors.Failed → Rose old.faults new.faults) → (IsTrue old.steady → error ≡ errors.Memory) → BlamesSink (stop ≡ stops.WriteFault) old new
+blames_cut errors.Failed stop old new e rose never = record { rose = λ h. rose refl; never = λ s h. (let m = never s in cc) }
+blames_cut errors.Memory stop old new e rose never = record { rose = λ h. absurd (stop_apart (sym h ∙ e)); never = λ s h. stop_apart (sym h ∙ e) }
+
+-- ---- stops as endings
+
+pub stop_reads : (stop : Stop) (ending : Ending) → ending ≡ ending_of stop → IsReadingEnd ending
+stop_reads stops.WriteFault ending e = subst IsReadingEnd (sym e) tt
+stop_reads stops.Memory ending e = subst IsReadingEnd (sym e) tt
+stop_reads stops.Statements ending e = subst IsReadingEnd (sym e) tt
+stop_reads stops.Stopped ending e = subst IsReadingEnd (sym e) tt
+
+pub stop_no_read : (stop : Stop) (ending : Ending) → ending ≡ ending_of stop → ending ≢ ReadFault
+stop_no_read stops.WriteFault ending e h = cc
+stop_no_read stops.Memory ending e h = cc
+stop_no_read stops.Statements ending e h = cc
+stop_no_read stops.Stopped ending e h = cc
+
+its_fault : (stop : Stop) → ending_of stop ≡ WriteFault → stop ≡ stops.WriteFault
+its_fault stops.WriteFault h = refl
+its_fault stops.Memory h = cc
+its_fault stops.Statements h = cc
+its_fault stops.Stopped h = cc
+
+pub blames_ending : (stop : Stop) (ending : Ending) (old new : SinkState) → ending ≡ ending_of stop → BlamesSink (stop ≡ stops.WriteFault) old new → BlamesSink (ending ≡ WriteFault) old new
+blames_ending stop ending old new e b = record {
+  rose = λ h. b.rose (its_fault stop (sym e ∙ h));
+  never = λ s h. b.never s (its_fault stop (sym e ∙ h));
+}
+
+-- ---- the tail
+
+written_so : (ending : Ending) → status_of ending ≡ statuses.WriteFault → ending ≡ WriteFault
+written_so Done e = cc
+written_so Usage e = cc
+written_so ReadFault e = cc
+written_so Stopped e = cc
+written_so WriteFault e = refl
+written_so Memory e = cc
+written_so Bytes e = cc
+written_so Statements e = cc
+written_so (Line line) e = cc
+
+-- nothing went wrong in writing it
+pub blames_status : (ending : Ending) (st : Status) (old new : SinkState) → st ≡ status_of ending → BlamesTail ending st old new
+blames_status ending st old new e = record {
+  rose = λ h. inl (written_so ending (sym e ∙ h));
+  never = λ s h. written_so ending (sym e ∙ h);
+}
+
+-- there was no memory for it
+pub no_blame : (ending : Ending) (old new : SinkState) → BlamesTail ending statuses.Memory old new
+no_blame ending old new = record { rose = λ h. cc; never = λ s h. cc }
+
+-- the sink did not take all of it
+pub cut_end : (error : SinkError) (stop : Stop) (ending : Ending) (st : Status) → stop ≡ stop_by error → ending ≡ ending_of stop → st ≡ status_of ending → st ≡ status_of (ending_of (stop_by error))
+cut_end error stop ending st a b d = d ∙ ap status_of (b ∙ ap ending_of a)
+
+status_apart : statuses.WriteFault ≡ statuses.Memory → ⊥
+status_apart e = cc
+
+pub blames_part : (ending : Ending) (error : SinkError) (st : Status) (old new : SinkState) → st ≡ status_of (ending_of (stop_by error)) → (error ≡ errors.Failed → Rose old.faults new.faults) → (IsTrue old.steady → error ≡ errors.Memory) → BlamesTail ending st old new
+blames_part ending errors.Failed st old new e rose never = record { rose = λ h. inr (rose refl); never = λ s h. (let m = never s in cc) }
+blames_part ending errors.Memory st old new e rose never = record { rose = λ h. absurd (status_apart (sym h ∙ e)); never = λ s h. absurd (status_apart (sym h ∙ e)) }
+
+-- ---- the command line
+
+pub few_workers : (words : List (List ℕ)) (s : Settled) (workers : ℕ) → settled words ≡ Some s → workers < s.workers → IsMisused words workers
+few_workers words s workers e few = inr (subst (λ (v : Settled). workers < v.workers) (sym (ap settled_or e)) few)
+
+pub well_used : (words : List (List ℕ)) (s : Settled) (workers : ℕ) → settled words ≡ Some s → s.workers ≤ workers → IsMisused words workers → ⊥
+well_used words s workers e enough (inl none) = none_some s (sym none ∙ e)
+  where
+    none_some : (s : Settled) → None ≡ Some s → ⊥
+    none_some s h = cc
+well_used words s workers e enough (inr few) = (let f = subst (λ (v : Settled). workers < v.workers) (ap settled_or e) few in omega (arith, enough, f))
+
+pub reads_no_usage : (ending : Ending) → IsReadingEnd ending → ending ≡ Usage → ⊥
+reads_no_usage ending r e = subst IsReadingEnd e r

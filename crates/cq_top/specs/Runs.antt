@@ -1,5 +1,5 @@
 -- What a run promises of its log, its answers, the bytes written and the stores.
-use Rattle.std.specs.Prelude.{◌≡◌, ◌≢◌, ◌+◌, ◌<◌, ◌≤◌, ◌×◌, ◌⊎◌, ⊥, ℕ, IsTrue, Option, Some, None, List, [], ◌++◌, length, drop, map, false}
+use Rattle.std.specs.Prelude.{◌≡◌, ◌≢◌, ◌+◌, ◌<◌, ◌≤◌, ◌⊎◌, ℕ, IsTrue, Option, Some, None, List, [], ◌++◌, length, drop, map, false}
 use Rattle.cq_answer.specs.declared.answered.Answered.{Answered}
 use Rattle.cq_catalog.specs.Contents.{nothing}
 use Rattle.cq_journal.specs.Records.{Journal}
@@ -14,7 +14,7 @@ use Rattle.cq_words.specs.Words.{settled}
 use Rattle.cq_journal_text.specs.Texts.{journals_text}
 use Rattle.cq_top.specs.declared.log.RunLog.{RunLog}
 use Rattle.cq_top.specs.declared.status.Status.{Status}
-use Rattle.cq_top.specs.declared.status.Status.TheVariants as status
+use Rattle.cq_top.specs.declared.status.Status.TheVariants as statuses
 use Rattle.cq_top.specs.declared.ending.Ending.{Ending}
 use Rattle.cq_top.specs.declared.ending.Ending.TheVariants.{Usage, ReadFault, Memory}
 use Rattle.cq_top.specs.Scripts.{Serves, IsHalted}
@@ -73,5 +73,5 @@ pub record HasRun {X : Type 0} (words : List (List ℕ)) (workers : ℕ) (status
   pub writes : (before : List ℕ) → sink.written ≡ Some before → Writes (asked words) ending status (journals_text log.journals.list) log.answers before sink_end.written
   pub read_fault : ending ≡ ReadFault → Rose source.faults source_end.faults
   pub steady_source : IsTrue source.steady → ending ≢ ReadFault
-  pub write_fault : status ≡ status.WriteFault → Rose sink.faults sink_end.faults
-  pub steady_sink : IsTrue sink.steady → status ≢ status.WriteFault
+  pub write_fault : status ≡ statuses.WriteFault → Rose sink.faults sink_end.faults
+  pub steady_sink : IsTrue sink.steady → status ≢ statuses.WriteFault

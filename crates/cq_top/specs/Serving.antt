@@ -1,5 +1,5 @@
 -- How far a run is: its answers so far, what was taken of the script, and what was written.
-use Rattle.std.specs.Prelude.{◌≡◌, ◌≢◌, ◌<◌, ◌≤◌, ◌×◌, ◌⊎◌, ⊤, ⊥, ℕ, true, IsTrue, Option, Some, None, List, [], ◌∷◌, ◌++◌, length, take, drop}
+use Rattle.std.specs.Prelude.{◌≡◌, ◌≢◌, ◌<◌, ◌≤◌, ◌⊎◌, ⊤, ℕ, true, IsTrue, Option, Some, None, List, [], ◌∷◌, ◌++◌, length, take, drop}
 use Rattle.cq_answer.specs.declared.answered.Answered.{Answered}
 use Rattle.cq_history.specs.Run.{Run, environment_from}
 use Rattle.cq_history.specs.Log.{IsConsistent}
@@ -21,7 +21,7 @@ use Rattle.cq_top.specs.declared.serving.Serving.{Serving}
 use Rattle.cq_top.specs.declared.stop.Stop.{Stop}
 use Rattle.cq_top.specs.declared.stop.Stop.TheVariants as stops
 use Rattle.cq_top.specs.declared.status.Status.{Status}
-use Rattle.cq_top.specs.declared.status.Status.TheVariants as status
+use Rattle.cq_top.specs.declared.status.Status.TheVariants as statuses
 use Rattle.cq_top.specs.Outputs.{texts, IsPart, IsOutput}
 use Rattle.cq_top.specs.Scripts.{start, settings_by, begun_in, most_statements, most_bytes, IsAnswered, AnswersTo, AnswersFirst, AllSucceed, FailsLast, MayFailLast}
 
@@ -53,16 +53,16 @@ abbrev pub AnswersNext : Settled → List Answered → List Answered → Item �
 AnswersNext s old new i = (a : Answered) × (new ≡ old ++ a ∷ []) × ReadsAs a.bound a.answer i.text i.copied (environment_from (start s) old).catalog.tables
 
 -- the items that are whole in the bytes taken are answered, and this was begun
-pub record Reaches (s : Settled) (taken : List ℕ) (begun : Cutter) (answers : List Answered) : Type 0 where
+pub record Reaches (s : Settled) (taken : List ℕ) (c : Cutter) (answers : List Answered) : Type 0 where
   pub answered : AnswersTo s (items_in taken) answers
-  pub begun : begun ≡ begun_in taken
+  pub begun : c ≡ begun_in taken
 
 -- the same, while bytes of those taken are left
-pub record IsReaching (s : Settled) (taken : List ℕ) (begun : Cutter) (left : List ℕ) (answers : List Answered) : Type 0 where
+pub record IsReaching (s : Settled) (taken : List ℕ) (c : Cutter) (left : List ℕ) (answers : List Answered) : Type 0 where
   pub given : List Item
   pub answered : AnswersTo s given answers
-  pub items : given ++ (cut begun left).items ≡ items_in taken
-  pub begun : (cut begun left).begun ≡ begun_in taken
+  pub items : given ++ (cut c left).items ≡ items_in taken
+  pub begun : (cut c left).begun ≡ begun_in taken
 
 -- what a stop at an item says of the answers: there is one more to it, or there was no memory for that, or as many as there may be stood before
 abbrev pub StopsAt : Settled → Stop → List Answered → List Answered → Item → Type 0
@@ -146,8 +146,8 @@ pub record BlamesSink (fault : Type 0) (old new : SinkState) : Type 0 where
 
 -- a status for a fault comes only where the run ended so, or the sink's count rose behind that
 pub record BlamesTail (ending : Ending) (status : Status) (old new : SinkState) : Type 0 where
-  pub rose : status ≡ status.WriteFault → (ending ≡ WriteFault) ⊎ Rose old.faults new.faults
-  pub never : IsTrue old.steady → status ≡ status.WriteFault → ending ≡ WriteFault
+  pub rose : status ≡ statuses.WriteFault → (ending ≡ WriteFault) ⊎ Rose old.faults new.faults
+  pub never : IsTrue old.steady → status ≡ statuses.WriteFault → ending ≡ WriteFault
 
 -- a read fault comes only where the source's count rose, and never from a steady source
 pub record BlamesSource (ending : Ending) (old new : SourceState) : Type 0 where

@@ -1,4 +1,4 @@
-ghost use Rattle.std.specs.Prelude.{◌≡◌, ◌<◌, ◌≤◌, ◌≢◌, ℕ, List, [], length, Some, None, IsTrue, ◌×◌};
+ghost use Rattle.std.specs.Prelude.{◌≡◌, ◌<◌, ◌≤◌, ◌≢◌, ℕ, List, [], length, Some, None, IsTrue};
 ghost use Rattle.cq_script.specs.Streams.{SourceState};
 ghost use Rattle.cq_top.specs.Scripts.{IsAnswered, IsHalted, IsTakenOf, most_bytes, most_statements};
 ghost use Rattle.cq_top.specs.Serving.{IsServing, KeepsServing, Reaches, IsCalm, IsShown, IsShownBy, IsReadingEnd, KeepsSink, BlamesSink, BlamesSource};
@@ -35,8 +35,9 @@ fn finish<S: Store, K: Sink, G: Gate>(
     ensures sink { KeepsSink (K.shown sink.old) (K.shown sink.new) }
     ensures blames { BlamesSink (result ≡ Ending.WriteFault) (K.shown sink.old) (K.shown sink.new) }
 {
-    if let Some(line) = cutter.misplaced_at_end() {
-        return Ending::Line(line);
+    match cutter.misplaced_at_end() {
+        Some(line) => return Ending::Line(line),
+        None => {}
     }
     match cutter.finish() {
         Err(_) => Ending::Memory,
@@ -70,11 +71,13 @@ pub fn serve_bytes<S: Store, K: Sink, G: Gate>(
 {
     let mut cutter = Cutter::new(alloc);
     let end = bytes.len().min(MOST_BYTES);
-    if let Err(stop) = feed(alloc, gate, serving, sink, &mut cutter, &bytes[..end]) {
-        return stop.ending();
+    match feed(alloc, gate, serving, sink, &mut cutter, &bytes[..end]) {
+        Ok(()) => {}
+        Err(stop) => return stop.ending(),
     }
-    if let Some(line) = cutter.misplaced() {
-        return Ending::Line(line);
+    match cutter.misplaced() {
+        Some(line) => return Ending::Line(line),
+        None => {}
     }
     if end < bytes.len() {
         return Ending::Bytes;
@@ -119,8 +122,9 @@ pub fn serve_source<S: Store, I: Source, K: Sink, G: Gate>(
                     Ok(()) => {}
                     Err(stop) => return stop.ending(),
                 }
-                if let Some(line) = cutter.misplaced() {
-                    return Ending::Line(line);
+                match cutter.misplaced() {
+                    Some(line) => return Ending::Line(line),
+                    None => {}
                 }
                 if end < n {
                     return Ending::Bytes;

@@ -1,4 +1,4 @@
-ghost use Rattle.std.specs.Prelude.{◌≡◌, ◌<◌, ◌+◌, ◌≤◌, ◌⊎◌, ◌≢◌, ℕ, List, [], ◌∷◌, ◌++◌, length, IfOk, IfErr, OnOk, OnErr, Some, IsTrue, slice_get, true};
+ghost use Rattle.std.specs.Prelude.{◌≡◌, ◌&&◌, ◌<◌, ◌+◌, ◌≤◌, ◌⊎◌, ◌≢◌, ℕ, List, [], ◌∷◌, ◌++◌, length, IfOk, IfErr, OnOk, OnErr, Some, IsTrue, slice_get, true};
 ghost use Rattle.cq_script.specs.Scripts.{items_in};
 ghost use Rattle.cq_script.specs.Texts.{text_under};
 ghost use Rattle.cq_top.specs.Scripts.{most_statements, fails};
@@ -11,6 +11,7 @@ use cq_group::{Gate, Point};
 use cq_script::{Cutter, Item, MOST_STATEMENTS, Sink, emit, render};
 use cq_store::Store;
 use cq_value::NoMemory;
+use cq_words::Settled;
 use std::alloc::Global;
 
 /// The text of the answer at a place.
@@ -21,12 +22,12 @@ fn text_at(alloc: Global, answers: &AnsweredList, place: u64, csv: bool) -> Resu
     render(alloc, &answers.as_slice()[place as usize].answer, csv)
 }
 
-/// Whether the answer at a place is a refusal.
-fn fails_at(answers: &AnsweredList, place: u64) -> bool
+/// Whether the run is to stop at the answer at a place: it is a refusal, and the command line asks for that.
+fn halts_at(settled: &Settled, answers: &AnsweredList, place: u64) -> bool
     requires { place < length answers.now }
-    ensures { (a : _) → slice_get answers.now place ≡ Some a → result ≡ fails a.answer }
+    ensures { (a : _) → slice_get answers.now place ≡ Some a → result ≡ (settled.now.stop && fails a.answer) }
 {
-    matches!(answers.as_slice()[place as usize].answer, Answer::Failed(_))
+    settled.stop && matches!(answers.as_slice()[place as usize].answer, Answer::Failed(_))
 }
 
 /// Answers an item of the script and writes the answer.
@@ -55,6 +56,7 @@ pub fn answer_one<S: Store, K: Sink, G: Gate>(
     ensures sink { KeepsSink (K.shown sink.old) (K.shown sink.new) }
     ensures blames { IfErr result (λ stop. BlamesSink (stop ≡ Stop.WriteFault) (K.shown sink.old) (K.shown sink.new)) }
 {
+    let settled = serving.settled;
     let place = serving.answers.len();
     if place >= MOST_STATEMENTS as u64 {
         return Err(Stop::Statements);
@@ -62,7 +64,7 @@ pub fn answer_one<S: Store, K: Sink, G: Gate>(
     let Ok(()) = serving.answer(alloc, item) else {
         return Err(Stop::Memory);
     };
-    let Ok(bytes) = text_at(alloc, &serving.answers, place, serving.settled.csv) else {
+    let Ok(bytes) = text_at(alloc, &serving.answers, place, settled.csv) else {
         return Err(Stop::Memory);
     };
     match emit(sink, bytes.as_slice()) {
@@ -70,7 +72,7 @@ pub fn answer_one<S: Store, K: Sink, G: Gate>(
         Err(error) => return Err(stop_of(error)),
     }
     gate.at(0, Point::Answered);
-    if serving.settled.stop && fails_at(&serving.answers, place) {
+    if halts_at(&settled, &serving.answers, place) {
         return Err(Stop::Stopped);
     }
     Ok(())
@@ -108,8 +110,10 @@ pub fn feed<S: Store, K: Sink, G: Gate>(
             Err(NoMemory) => return Err(Stop::Memory),
             Ok(None) => return Ok(()),
             Ok(Some(step)) => {
-                answer_one(alloc, gate, serving, sink, &step.item)?;
-                left = step.left;
+                match answer_one(alloc, gate, serving, sink, &step.item) {
+                    Ok(()) => left = step.left,
+                    Err(stop) => return Err(stop),
+                }
             }
         }
     }

@@ -15,11 +15,11 @@ close-catalog-requires-clause-room g c = (let s = c.requires.serving.1.sound in 
 
 pub returns-clause-whole : goal.returns-clause-whole
 returns-clause-whole g c = λ entry s.
-    whole_of _ entry (environment c.args.serving.coordinator) (journals c.args.serving.coordinator) s.consistent c.close-catalog.ensures.catalog c.close-catalog.ensures.journals c.requires.fresh.retired c.requires.fresh.waves
+    whole_of c.args.serving.settled _ entry (environment c.args.serving.coordinator) (journals c.args.serving.coordinator) s.consistent c.close-catalog.ensures.catalog c.close-catalog.ensures.journals c.requires.fresh.retired c.requires.fresh.waves
 
 pub returns-clause-stand : goal.returns-clause-stand
 returns-clause-stand g c = λ entry s.
-    stand_of entry (environment c.args.serving.coordinator) c.args.serving.answers (journals c.args.serving.coordinator) _ s.consistent c.close-catalog.ensures.journals
+    stand_of c.args.serving.settled entry (environment c.args.serving.coordinator) c.args.serving.answers (journals c.args.serving.coordinator) _ s.consistent c.close-catalog.ensures.journals
 
 pub returns-clause-last : goal.returns-clause-last
 returns-clause-last g c = λ entry s.
