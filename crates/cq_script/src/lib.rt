@@ -20,7 +20,7 @@ mod words;
 
 pub use cutter::{Bytes, Cutter, Item, Line, Place, Step};
 pub use fatal::{Fatal, MOST_BYTES, MOST_STATEMENTS};
-pub use generator::Generator;
+pub use generator::{Generator, make_script};
 pub use memory::{MemSink, MemSource};
 pub use rendering::render;
 pub use scan::Scan;

@@ -8,7 +8,6 @@ use Rattle.cq_history.specs.Run.{Environment, after}
 use Rattle.cq_session.specs.Responses.{ReadsAs}
 use Rattle.cq_script.specs.declared.cutter.Cutter.{Cutter}
 use Rattle.cq_script.specs.declared.cutter.Item.{Item}
-use Rattle.cq_script.specs.Generating.{generated}
 use Rattle.cq_script.specs.Scripts.{Cut, Gives, first, cut, items, items_in, one, last, misplaced, misplaced_at_end}
 use Rattle.cq_script.specs.declared.sink.SinkError.{SinkError}
 use Rattle.cq_script.specs.declared.sink.SinkError.TheVariants as errors
@@ -20,7 +19,7 @@ use Rattle.cq_top.specs.declared.ending.Ending.TheVariants.{Done, Usage, Memory,
 use Rattle.cq_top.specs.declared.stop.Stop.{Stop}
 use Rattle.cq_top.specs.declared.stop.Stop.TheVariants as stops
 use Rattle.cq_top.specs.Outputs.{ending_of, stop_by}
-use Rattle.cq_top.specs.Scripts.{start, AnswersFrom, AnswersTo, AnswersFirst, begun_in, most_bytes, most_statements, read_of, IsAll, IsReached, IsAnswered, script_of, IsTakenOf, Serves, fails, AllSucceed, FailsLast, MayFailLast, IsHalted}
+use Rattle.cq_top.specs.Scripts.{start, AnswersFrom, AnswersTo, AnswersFirst, begun_in, most_bytes, most_statements, read_of, IsAll, IsReached, IsAnswered, IsTakenFrom, ServesBy, Serves, fails, AllSucceed, FailsLast, MayFailLast, IsHalted}
 use Rattle.cq_top.specs.Serving.{AnswersNext, Reaches, IsReaching, StopsAt, StopsAmong, IsCalm, HaltsBy, IsTaken, IsShown, IsShownBy, ShowsBy}
 
 -- the last item is exchanged
@@ -48,6 +47,15 @@ same_count e [] [] all = refl
 same_count e (j ∷ found) (b ∷ answers) all = ap suc (same_count (after e b.bound b.answer) found answers all.1)
 same_count e [] (b ∷ answers) all = absurd all
 same_count e (j ∷ found) [] all = absurd all
+
+-- one more answer is within the limit
+pub few_next : (s : Settled) (old new : List Answered) (i : Item) (place : ℕ) → AnswersNext s old new i → place ≡ length old → place < most_statements → length new ≤ most_statements
+few_next s old new i place next e few =
+    let n : length new ≡ length old + 1 = ap length next.1 ∙ one_more old next.0 in
+    omega (arith, n, e, few)
+  where
+    one_more : (xs : List Answered) (x : Answered) → length (xs ++ x ∷ []) ≡ length xs + 1
+    one_more xs x = grind (arith, common_steps)
 
 -- ---- bytes that are taken
 
@@ -286,32 +294,22 @@ pub nothing_answered : (s : Settled) (bytes : List ℕ) (taken : ℕ) (answers :
 nothing_answered s bytes taken answers none = (items_in (read_of bytes taken), inl refl, ([], items_in (read_of bytes taken), refl, subst (AnswersTo s []) (sym none) tt))
 
 pub serves_given : (s : Settled) (ending : Ending) (source source_end : SourceState) (answers : List Answered) → s.generate ≡ None →
-    ((bytes : List ℕ) → source.left ≡ Some bytes → (taken : ℕ) × IsTakenOf None source source_end bytes taken × IsAnswered s ending bytes taken answers) → Serves s ending source source_end answers
-serves_given s ending source source_end answers none f bytes e =
-    let r = f bytes (subst (λ (o : Option (ℕ × ℕ)). script_of o source ≡ Some bytes) none e) in
-    (r.0, subst (λ (o : Option (ℕ × ℕ)). IsTakenOf o source source_end bytes r.0) (sym none) r.1, r.2)
+    ((bytes : List ℕ) → source.left ≡ Some bytes → (taken : ℕ) × IsTakenFrom source_end bytes taken × IsAnswered s ending bytes taken answers) → Serves s ending source source_end answers
+serves_given s ending source source_end answers none f = subst (λ (o : Option (ℕ × ℕ)). ServesBy o s ending source source_end answers) (sym none) f
 
-pub serves_made : (s : Settled) (ending : Ending) (source : SourceState) (number rows : ℕ) (script : List ℕ) (answers : List Answered) → s.generate ≡ Some (number, rows) → script ≡ generated number rows →
-    IsAnswered s ending script (length script) answers → Serves s ending source source answers
-serves_made s ending source number rows script answers some is all bytes e =
-    let same : script ≡ bytes = is ∙ some_is (generated number rows) bytes (subst (λ (o : Option (ℕ × ℕ)). script_of o source ≡ Some bytes) some e) in
-    (length script, subst (λ (o : Option (ℕ × ℕ)). IsTakenOf o source source bytes (length script)) (sym some) refl, subst (λ (v : List ℕ). IsAnswered s ending v (length script) answers) same all)
-  where
-    some_is : (x y : List ℕ) → Some x ≡ Some y → x ≡ y
-    some_is x y e = cc
+pub serves_made : (s : Settled) (ending : Ending) (source : SourceState) (number rows : ℕ) (answers : List Answered) → s.generate ≡ Some (number, rows) →
+    ((script : List ℕ) × IsAnswered s ending script (length script) answers) → Serves s ending source source answers
+serves_made s ending source number rows answers some all = subst (λ (o : Option (ℕ × ℕ)). ServesBy o s ending source source answers) (sym some) (refl, all.0, all.1)
 
-serves_at_once : (s : Settled) (ending : Ending) (source : SourceState) (answers : List Answered) → ((bytes : List ℕ) → IsAnswered s ending bytes 0 answers) → Serves s ending source source answers
-serves_at_once s ending source answers f bytes e = (0, none_taken source bytes s.generate e, f bytes)
-  where
-    none_taken : (source : SourceState) (bytes : List ℕ) (o : Option (ℕ × ℕ)) → script_of o source ≡ Some bytes → IsTakenOf o source source bytes 0
-    none_taken source bytes None e = (e, omega arith)
-    none_taken source bytes (Some g) e = refl
+serves_at_once : (s : Settled) (ending : Ending) (source : SourceState) (answers : List Answered) (o : Option (ℕ × ℕ)) → ((bytes : List ℕ) → IsAnswered s ending bytes 0 answers) → ServesBy o s ending source source answers
+serves_at_once s ending source answers None f = λ bytes e. (0, (e, omega arith), f bytes)
+serves_at_once s ending source answers (Some g) f = (refl, [], f [])
 
 pub serves_nothing : (s : Settled) (source : SourceState) (answers : List Answered) → answers ≡ [] → Serves s Memory source source answers
-serves_nothing s source answers none = serves_at_once s Memory source answers (λ bytes. nothing_answered s bytes 0 answers none)
+serves_nothing s source answers none = serves_at_once s Memory source answers s.generate (λ bytes. nothing_answered s bytes 0 answers none)
 
 pub serves_usage : (s : Settled) (source : SourceState) (answers : List Answered) → answers ≡ [] → Serves s Usage source source answers
-serves_usage s source answers none = serves_at_once s Usage source answers (λ bytes. (refl, none))
+serves_usage s source answers none = serves_at_once s Usage source answers s.generate (λ bytes. (refl, none))
 
 -- ---- statements that fail
 

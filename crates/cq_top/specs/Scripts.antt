@@ -9,7 +9,6 @@ use Rattle.cq_catalog.specs.Contents.{nothing}
 use Rattle.cq_history.specs.Run.{Environment, first_settings, after}
 use Rattle.cq_script.specs.declared.cutter.Cutter.{Cutter}
 use Rattle.cq_script.specs.declared.cutter.Item.{Item}
-use Rattle.cq_script.specs.Generating.{generated}
 use Rattle.cq_script.specs.Scripts.{first, cut, items, items_in, misplaced, misplaced_at_end}
 use Rattle.cq_script.specs.Streams.{SourceState}
 use Rattle.cq_session.specs.Responses.{ReadsAs}
@@ -77,20 +76,17 @@ IsAnswered s Statements bytes taken answers = (found : List Item) × IsReached b
 IsAnswered s (Line line) bytes taken answers = IsMisplaced bytes taken line × AnswersTo s (items_in (read_of bytes taken)) answers
 IsAnswered s ending bytes taken answers = (found : List Item) × IsReached bytes taken found × AnswersFirst s found answers
 
--- the bytes of the script, where they are told: those of the source, or of the script that the command line asks for
-abbrev pub script_of : Option (ℕ × ℕ) → SourceState → Option (List ℕ)
-script_of None source = source.left
-script_of (Some g) source = Some (generated g.0 g.1)
+-- so many bytes of the script were taken, one more than the limit at most
+abbrev pub IsTakenFrom : SourceState → List ℕ → ℕ → Type 0
+IsTakenFrom source_end bytes taken = (source_end.left ≡ Some (drop taken bytes)) × (taken ≤ most_bytes + 1)
 
--- so many bytes of the script were taken, one more than the limit at most; of one that is made, nothing is taken from the source
-abbrev pub IsTakenOf : Option (ℕ × ℕ) → SourceState → SourceState → List ℕ → ℕ → Type 0
-IsTakenOf None source source_end bytes taken = (source_end.left ≡ Some (drop taken bytes)) × (taken ≤ most_bytes + 1)
-IsTakenOf (Some g) source source_end bytes taken = source_end ≡ source
+-- the statements of the script are answered, by how its run ended. Of one that is made, nothing is taken from the source; which bytes it has isn't said here
+abbrev pub ServesBy : Option (ℕ × ℕ) → Settled → Ending → SourceState → SourceState → List Answered → Type 0
+ServesBy None s ending source source_end answers = (bytes : List ℕ) → source.left ≡ Some bytes → (taken : ℕ) × IsTakenFrom source_end bytes taken × IsAnswered s ending bytes taken answers
+ServesBy (Some g) s ending source source_end answers = (source_end ≡ source) × (script : List ℕ) × IsAnswered s ending script (length script) answers
 
--- the statements of the script are answered, by how its run ended
 abbrev pub Serves : Settled → Ending → SourceState → SourceState → List Answered → Type 0
-Serves s ending source source_end answers = (bytes : List ℕ) → script_of s.generate source ≡ Some bytes →
-    (taken : ℕ) × IsTakenOf s.generate source source_end bytes taken × IsAnswered s ending bytes taken answers
+Serves s ending source source_end answers = ServesBy s.generate s ending source source_end answers
 
 -- ---- statements that fail
 

@@ -11,14 +11,14 @@ ghost use Rattle.cq_top.specs.Runs.{IsEmptyLog, IsWhole, Stand, IsMisused, HasRu
 
 use crate::ending::Ending;
 use crate::log::RunLog;
-use crate::reading::{serve_bytes, serve_source};
+use crate::reading::{serve_generated, serve_source};
 use crate::serving::Serving;
 use crate::status::Status;
 use crate::tail::end_with;
 use cq_cluster::Ended;
 use cq_coordinator::Coordinator;
 use cq_group::Gate;
-use cq_script::{Generator, Sink, Source};
+use cq_script::{Sink, Source};
 use cq_store::{Store, Worker};
 use cq_words::{Settled, WordsError, read_words};
 use std::alloc::Global;
@@ -104,10 +104,7 @@ fn serve<S: Store, I: Source, K: Sink, G: Gate>(
 {
     match serving.settled.generate {
         None => serve_source(alloc, gate, serving, source, sink),
-        Some((number, rows)) => match Generator::new(number, rows).script(alloc) {
-            Ok(script) => serve_bytes(alloc, gate, serving, sink, script.as_slice()),
-            Err(_) => Ending::Memory,
-        },
+        Some((number, rows)) => serve_generated(alloc, gate, serving, sink, number, rows),
     }
 }
 

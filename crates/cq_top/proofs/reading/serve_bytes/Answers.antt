@@ -13,7 +13,7 @@ pub feed-requires-clause-few : goal.feed-requires-clause-few
 feed-requires-clause-few g c = omega (arith, ap length c.requires.fresh)
 
 pub feed-requires-clause-calm : goal.feed-requires-clause-calm
-feed-requires-clause-calm g c = calm_first c.args.serving.now.settled c.args.serving.now.answers c.requires.fresh
+feed-requires-clause-calm g c = λ κs lives. calm_first c.args.serving.now.settled c.args.serving.now.answers c.requires.fresh
 
 pub returns-in-Err-clause-end : goal.returns-in-Err-clause-end
 returns-in-Err-clause-end g c = stop_reads c.in-Err.stop c.ending.result c.ending.ensures
@@ -50,7 +50,7 @@ pub returns-then-end-bytes-clause-shown : goal.returns-then-end-bytes-clause-sho
 returns-then-end-bytes-clause-shown g c = λ before h. c.in-Ok.ensures.shows before (shown_first c.args.serving.now.settled before (g.K.Sink.shown c.args.sink.now) c.args.serving.now.answers c.requires.fresh h)
 
 pub finish-requires-clause-calm : goal.finish-requires-clause-calm
-finish-requires-clause-calm g c = subst (λ (s : Settled). IsCalm s c.feed.new.serving.answers) (sym c.feed.ensures.keeps.settled) c.in-Ok.ensures.calm
+finish-requires-clause-calm g c = λ κs lives. subst (λ (s : Settled). IsCalm s c.feed.new.serving.answers) (sym c.feed.ensures.keeps.settled) c.in-Ok.ensures.calm
 
 pub returns-clause-keeps : goal.returns-clause-keeps
 returns-clause-keeps g c = keeps_serving_then g.S.Store.state c.args.serving.now c.feed.new.serving c.finish.new.serving c.feed.ensures.keeps c.finish.ensures.keeps

@@ -1,6 +1,7 @@
 use Rattle.std.proofs.Common.{◌≡◌, ◌∙◌, ◌+◌, ◌-◌, ◌≤◌, ◌<◌, ◌++◌, List, ℕ, [], subst, sym, ap, refl, arith, length, take, min, append-nil, Some}
 use Rattle.cq_answer.specs.declared.answered.Answered.{Answered}
 use Rattle.cq_script.specs.declared.cutter.Cutter.{Cutter}
+use Rattle.cq_script.specs.Scripts.{items_in}
 use Rattle.cq_script.specs.Streams.{Took}
 use Rattle.cq_words.specs.declared.settled.Settled.{Settled}
 use Rattle.cq_top.specs.declared.ending.Ending.{Ending}
@@ -37,7 +38,7 @@ pub returns-in-Err-clause-shown : goal.returns-in-Err-clause-shown
 returns-in-Err-clause-shown g c = λ before h. c.loop-cutter.invariant.shows before (h ∙ ap Some (sym (append-nil before)))
 
 pub finish-requires-clause-calm : goal.finish-requires-clause-calm
-finish-requires-clause-calm g c = subst (λ (s : Settled). IsCalm s c.loop-cutter.serving.answers) (sym c.loop-cutter.invariant.keeps.settled) c.loop-cutter.invariant.calm
+finish-requires-clause-calm g c = λ κs lives. subst (λ (s : Settled). IsCalm s c.loop-cutter.serving.answers) (sym c.loop-cutter.invariant.keeps.settled) c.loop-cutter.invariant.calm
 
 pub returns-then-n-eq0-clause-keeps : goal.returns-then-n-eq0-clause-keeps
 returns-then-n-eq0-clause-keeps g c = keeps_serving_then g.S.Store.state c.args.serving.now c.loop-cutter.serving c.finish.new.serving c.loop-cutter.invariant.keeps c.finish.ensures.keeps
@@ -64,7 +65,7 @@ pub returns-then-n-eq0-clause-blames : goal.returns-then-n-eq0-clause-blames
 returns-then-n-eq0-clause-blames g c = blames_then (c.finish.result ≡ WriteFault) (g.K.Sink.shown c.args.sink.now) (g.K.Sink.shown c.loop-cutter.sink) (g.K.Sink.shown c.finish.new.sink) c.loop-cutter.invariant.sink c.finish.ensures.blames
 
 pub feed-requires-clause-calm : goal.feed-requires-clause-calm
-feed-requires-clause-calm g c = subst (λ (s : Settled). IsCalm s c.loop-cutter.serving.answers) (sym c.loop-cutter.invariant.keeps.settled) c.loop-cutter.invariant.calm
+feed-requires-clause-calm g c = λ κs lives. subst (λ (s : Settled). IsCalm s c.loop-cutter.serving.answers) (sym c.loop-cutter.invariant.keeps.settled) c.loop-cutter.invariant.calm
 
 pub returns-in-Err-feed-clause-keeps : goal.returns-in-Err-feed-clause-keeps
 returns-in-Err-feed-clause-keeps g c = keeps_serving_then g.S.Store.state c.args.serving.now c.loop-cutter.serving c.feed.new.serving c.loop-cutter.invariant.keeps c.feed.ensures.keeps
@@ -74,8 +75,8 @@ returns-in-Err-feed-clause-end g c = stop_reads c.in-Err-feed.stop c.ending.resu
 
 pub returns-in-Err-feed-clause-served : goal.returns-in-Err-feed-clause-served
 returns-in-Err-feed-clause-served g c = λ bytes e.
-    let t = taken_stops c.args.serving.now.settled c.in-Err-feed.stop (g.I.Source.told c.args.source.now) (g.I.Source.told c.loop-cutter.source) (g.I.Source.told c.take.new.self) c.loop-cutter.taken c.in-Ok.n (min c.in-Ok.n (16777216 - c.loop-cutter.taken)) c.take.new.room _ bytes c.loop-cutter.cutter c.loop-cutter.serving.answers c.feed.new.serving.answers c.loop-cutter.invariant.reads c.in-Ok.ensures.ok (omega arith) (ap (λ k. take k c.take.new.room) (omega arith)) (omega (arith, c.loop-cutter.invariant.most))
-        (λ given r. subst (λ (s : Settled). StopsAmong s c.in-Err-feed.stop _ c.feed.new.serving.answers) c.loop-cutter.invariant.keeps.settled (c.in-Err-feed.ensures.stops given (subst (λ (s : Settled). Reaches s given c.loop-cutter.cutter c.loop-cutter.serving.answers) (sym c.loop-cutter.invariant.keeps.settled) r))) e in
+    let t = taken_stops c.args.serving.now.settled c.in-Err-feed.stop (g.I.Source.told c.args.source.now) (g.I.Source.told c.loop-cutter.source) (g.I.Source.told c.take.new.self) c.loop-cutter.taken c.in-Ok.n (min c.in-Ok.n (16777216 - c.loop-cutter.taken)) c.take.new.room (take c.min-end.result c.take.new.room) bytes c.loop-cutter.cutter c.loop-cutter.serving.answers c.feed.new.serving.answers c.loop-cutter.invariant.reads c.in-Ok.ensures.ok (omega arith) (ap (λ k. take k c.take.new.room) (omega (arith, c.min-end.ensures))) (omega (arith, c.loop-cutter.invariant.most))
+        (λ given r. subst (λ (s : Settled). StopsAmong s c.in-Err-feed.stop (items_in (given ++ (take c.min-end.result c.take.new.room))) c.feed.new.serving.answers) c.loop-cutter.invariant.keeps.settled (c.in-Err-feed.ensures.stops given (subst (λ (s : Settled). Reaches s given c.loop-cutter.cutter c.loop-cutter.serving.answers) (sym c.loop-cutter.invariant.keeps.settled) r))) e in
     (c.loop-cutter.taken + c.in-Ok.n, (t.0, (omega (arith, c.loop-cutter.invariant.most, c.in-Ok.ensures.within, length-take_le c.min-free.result c.loop-cutter.room))), subst (λ (v : Ending). IsAnswered c.args.serving.now.settled v bytes (c.loop-cutter.taken + c.in-Ok.n) c.feed.new.serving.answers) (sym c.ending.ensures) t.1)
 
 pub returns-in-Err-feed-clause-halted : goal.returns-in-Err-feed-clause-halted
@@ -104,7 +105,7 @@ returns-in-Some-clause-keeps g c = keeps_serving_then g.S.Store.state c.args.ser
 
 pub returns-in-Some-clause-served : goal.returns-in-Some-clause-served
 returns-in-Some-clause-served g c = λ bytes e.
-    let t = taken_piece c.args.serving.now.settled (g.I.Source.told c.args.source.now) (g.I.Source.told c.loop-cutter.source) (g.I.Source.told c.take.new.self) c.loop-cutter.taken c.in-Ok.n (min c.in-Ok.n (16777216 - c.loop-cutter.taken)) c.take.new.room _ bytes c.loop-cutter.cutter c.feed.new.cutter c.loop-cutter.serving.answers c.feed.new.serving.answers c.loop-cutter.invariant.reads c.in-Ok.ensures.ok (omega arith) (ap (λ k. take k c.take.new.room) (omega arith)) (λ given r. subst (λ (s : Settled). Reaches s (given ++ _) c.feed.new.cutter c.feed.new.serving.answers) c.loop-cutter.invariant.keeps.settled (c.in-Ok-feed.ensures.reaches given (subst (λ (s : Settled). Reaches s given c.loop-cutter.cutter c.loop-cutter.serving.answers) (sym c.loop-cutter.invariant.keeps.settled) r))) e in
+    let t = taken_piece c.args.serving.now.settled (g.I.Source.told c.args.source.now) (g.I.Source.told c.loop-cutter.source) (g.I.Source.told c.take.new.self) c.loop-cutter.taken c.in-Ok.n (min c.in-Ok.n (16777216 - c.loop-cutter.taken)) c.take.new.room (take c.min-end.result c.take.new.room) bytes c.loop-cutter.cutter c.feed.new.cutter c.loop-cutter.serving.answers c.feed.new.serving.answers c.loop-cutter.invariant.reads c.in-Ok.ensures.ok (omega arith) (ap (λ k. take k c.take.new.room) (omega (arith, c.min-end.ensures))) (λ given r. subst (λ (s : Settled). Reaches s (given ++ (take c.min-end.result c.take.new.room)) c.feed.new.cutter c.feed.new.serving.answers) c.loop-cutter.invariant.keeps.settled (c.in-Ok-feed.ensures.reaches given (subst (λ (s : Settled). Reaches s given c.loop-cutter.cutter c.loop-cutter.serving.answers) (sym c.loop-cutter.invariant.keeps.settled) r))) e in
     (c.loop-cutter.taken + c.in-Ok.n, (t.0, (omega (arith, c.loop-cutter.invariant.most, c.in-Ok.ensures.within, length-take_le c.min-free.result c.loop-cutter.room))), taken_line c.args.serving.now.settled bytes (c.loop-cutter.taken + c.in-Ok.n) (c.loop-cutter.taken + (min c.in-Ok.n (16777216 - c.loop-cutter.taken))) c.in-Some.line c.feed.new.cutter c.feed.new.serving.answers (omega (arith, c.loop-cutter.invariant.most)) t.2 (sym c.in-Some.ensures))
 
 pub returns-in-Some-clause-halted : goal.returns-in-Some-clause-halted
@@ -121,7 +122,7 @@ returns-then-end-n-clause-keeps g c = keeps_serving_then g.S.Store.state c.args.
 
 pub returns-then-end-n-clause-served : goal.returns-then-end-n-clause-served
 returns-then-end-n-clause-served g c = λ bytes e.
-    let t = taken_piece c.args.serving.now.settled (g.I.Source.told c.args.source.now) (g.I.Source.told c.loop-cutter.source) (g.I.Source.told c.take.new.self) c.loop-cutter.taken c.in-Ok.n (min c.in-Ok.n (16777216 - c.loop-cutter.taken)) c.take.new.room _ bytes c.loop-cutter.cutter c.feed.new.cutter c.loop-cutter.serving.answers c.feed.new.serving.answers c.loop-cutter.invariant.reads c.in-Ok.ensures.ok (omega arith) (ap (λ k. take k c.take.new.room) (omega arith)) (λ given r. subst (λ (s : Settled). Reaches s (given ++ _) c.feed.new.cutter c.feed.new.serving.answers) c.loop-cutter.invariant.keeps.settled (c.in-Ok-feed.ensures.reaches given (subst (λ (s : Settled). Reaches s given c.loop-cutter.cutter c.loop-cutter.serving.answers) (sym c.loop-cutter.invariant.keeps.settled) r))) e in
+    let t = taken_piece c.args.serving.now.settled (g.I.Source.told c.args.source.now) (g.I.Source.told c.loop-cutter.source) (g.I.Source.told c.take.new.self) c.loop-cutter.taken c.in-Ok.n (min c.in-Ok.n (16777216 - c.loop-cutter.taken)) c.take.new.room (take c.min-end.result c.take.new.room) bytes c.loop-cutter.cutter c.feed.new.cutter c.loop-cutter.serving.answers c.feed.new.serving.answers c.loop-cutter.invariant.reads c.in-Ok.ensures.ok (omega arith) (ap (λ k. take k c.take.new.room) (omega (arith, c.min-end.ensures))) (λ given r. subst (λ (s : Settled). Reaches s (given ++ (take c.min-end.result c.take.new.room)) c.feed.new.cutter c.feed.new.serving.answers) c.loop-cutter.invariant.keeps.settled (c.in-Ok-feed.ensures.reaches given (subst (λ (s : Settled). Reaches s given c.loop-cutter.cutter c.loop-cutter.serving.answers) (sym c.loop-cutter.invariant.keeps.settled) r))) e in
     (c.loop-cutter.taken + c.in-Ok.n, (t.0, (omega (arith, c.loop-cutter.invariant.most, c.in-Ok.ensures.within, length-take_le c.min-free.result c.loop-cutter.room))),
       too_long c.args.serving.now.settled bytes (c.loop-cutter.taken + c.in-Ok.n) (c.loop-cutter.taken + (min c.in-Ok.n (16777216 - c.loop-cutter.taken))) c.feed.new.cutter c.feed.new.serving.answers (omega (arith, c.loop-cutter.invariant.most, t.1)) (omega (arith, c.loop-cutter.invariant.most)) (omega (arith, c.loop-cutter.invariant.most)) t.2 (sym c.in-None.ensures))
 
@@ -144,7 +145,7 @@ loop-cutter-preserved g c = record {
   line = sym c.in-None.ensures;
   reads = λ bytes e.
       let whole : min c.in-Ok.n (16777216 - c.loop-cutter.taken) ≡ c.in-Ok.n = omega arith in
-      let t = taken_piece c.args.serving.now.settled (g.I.Source.told c.args.source.now) (g.I.Source.told c.loop-cutter.source) (g.I.Source.told c.take.new.self) c.loop-cutter.taken c.in-Ok.n (min c.in-Ok.n (16777216 - c.loop-cutter.taken)) c.take.new.room _ bytes c.loop-cutter.cutter c.feed.new.cutter c.loop-cutter.serving.answers c.feed.new.serving.answers c.loop-cutter.invariant.reads c.in-Ok.ensures.ok (omega arith) (ap (λ k. take k c.take.new.room) (omega arith)) (λ given r. subst (λ (s : Settled). Reaches s (given ++ _) c.feed.new.cutter c.feed.new.serving.answers) c.loop-cutter.invariant.keeps.settled (c.in-Ok-feed.ensures.reaches given (subst (λ (s : Settled). Reaches s given c.loop-cutter.cutter c.loop-cutter.serving.answers) (sym c.loop-cutter.invariant.keeps.settled) r))) e in
+      let t = taken_piece c.args.serving.now.settled (g.I.Source.told c.args.source.now) (g.I.Source.told c.loop-cutter.source) (g.I.Source.told c.take.new.self) c.loop-cutter.taken c.in-Ok.n (min c.in-Ok.n (16777216 - c.loop-cutter.taken)) c.take.new.room (take c.min-end.result c.take.new.room) bytes c.loop-cutter.cutter c.feed.new.cutter c.loop-cutter.serving.answers c.feed.new.serving.answers c.loop-cutter.invariant.reads c.in-Ok.ensures.ok (omega arith) (ap (λ k. take k c.take.new.room) (omega (arith, c.min-end.ensures))) (λ given r. subst (λ (s : Settled). Reaches s (given ++ (take c.min-end.result c.take.new.room)) c.feed.new.cutter c.feed.new.serving.answers) c.loop-cutter.invariant.keeps.settled (c.in-Ok-feed.ensures.reaches given (subst (λ (s : Settled). Reaches s given c.loop-cutter.cutter c.loop-cutter.serving.answers) (sym c.loop-cutter.invariant.keeps.settled) r))) e in
       (t.0, t.1, subst (λ k. Reaches c.args.serving.now.settled (take (c.loop-cutter.taken + k) bytes) c.feed.new.cutter c.feed.new.serving.answers) whole t.2);
   shows = shows_then c.args.serving.now.settled (g.K.Sink.shown c.args.sink.now) (g.K.Sink.shown c.loop-cutter.sink) (g.K.Sink.shown c.feed.new.sink) [] c.loop-cutter.serving.answers c.feed.new.serving.answers c.loop-cutter.invariant.shows (subst (λ (s : Settled). ShowsMore s (g.K.Sink.shown c.loop-cutter.sink) (g.K.Sink.shown c.feed.new.sink) c.loop-cutter.serving.answers c.feed.new.serving.answers) c.loop-cutter.invariant.keeps.settled c.in-Ok-feed.ensures.shows);
   source_faults = omega (arith, c.loop-cutter.invariant.source_faults, c.in-Ok.ensures.ok.counts);

@@ -1,21 +1,22 @@
-use Rattle.std.proofs.Common.{◌≡◌, ◌∙◌, sym, subst, ap, List, ℕ, map, length, arith}
+use Rattle.std.proofs.Common.{◌≡◌, ◌⊎◌, false, None, ◌∙◌, sym, subst, ap, List, ℕ, map, length, arith}
 use Rattle.std.specs.String.{string_bytes}
 use Rattle.cq_cluster.specs.Accounts.{AllAccounted}
 use Rattle.cq_cluster.specs.Ending.{IsFinal}
 use Rattle.cq_journal_text.specs.Texts.{journals_text}
 use Rattle.cq_words.specs.declared.settled.Settled.{Settled}
+use Rattle.cq_top.specs.declared.ending.Ending.TheVariants.{Usage, Memory}
 use Rattle.cq_top.specs.Scripts.{IsHalted, Serves}
 use Rattle.cq_top.specs.Serving.{Writes}
-use Rattle.cq_top.specs.Runs.{IsWhole, Stand, asked, settled_or}
+use Rattle.cq_top.specs.Runs.{IsMisused, IsWhole, Stand, asked, settled_or}
 use Rattle.cq_top.proofs.RunLaws.{final_idle, accounts_idle, empty_whole, empty_stands, reads_no_usage, well_used, rose_in_all, never_in_all}
 use Rattle.cq_top.proofs.Refused.{refused_run, shown_at_once}
 use Rattle.cq_top.proofs.running.run_over.Goals as goal
 
 pub run_script-ending-requires-clause-some : goal.run_script-ending-requires-clause-some
-run_script-ending-requires-clause-some g c = c.in-Ok.ensures.ok.2
+run_script-ending-requires-clause-some g c = λ κs lives. c.in-Ok.ensures.ok.2
 
 pub run_script-ending-requires-clause-few : goal.run_script-ending-requires-clause-few
-run_script-ending-requires-clause-few g c = c.in-Ok.ensures.ok.3
+run_script-ending-requires-clause-few g c = λ κs lives. c.in-Ok.ensures.ok.3
 
 pub returns-in-Ok-clause-stand : goal.returns-in-Ok-clause-stand
 returns-in-Ok-clause-stand g c = subst (λ (v : Settled). Stand v c.args.workers.now.items c.run_script-ending.new.log) (sym (ap settled_or c.in-Ok.ensures.ok.0)) c.run_script-ending.ensures.stand
@@ -52,8 +53,11 @@ returns-in-Err-clause-whole g c = empty_whole (asked (map string_bytes c.args.wo
 
 pub returns-in-Err-clause-ran : goal.returns-in-Err-clause-ran
 returns-in-Err-clause-ran g c =
-    refused_run (map string_bytes c.args.words.now) (length c.args.workers.now.items) _ c.in-Err.ending c.end_with-in-Err.result c.args.log.now (g.I.Source.told c.args.source.now) (g.K.Sink.shown c.args.sink.now) (g.K.Sink.shown c.end_with-in-Err.new.sink) c.requires.fresh.answers c.in-Err.ensures.err
-    (λ before h. c.end_with-in-Err.ensures.writes before c.args.log.now.answers (shown_at_once _ c.in-Err.ending before (g.K.Sink.shown c.args.sink.now) c.args.log.now.answers c.requires.fresh.answers h)) c.end_with-in-Err.ensures.sink c.end_with-in-Err.ensures.blames
+    let count : c.len.result ≡ length c.args.workers.now.items = omega (arith, c.len.ensures) in
+    let plain : Settled = record { workers = 2; repartition = false; csv = false; stop = false; journal = false; generate = None } in
+    refused_run (map string_bytes c.args.words.now) (length c.args.workers.now.items) plain c.in-Err.ending c.end_with-in-Err.result c.args.log.now (g.I.Source.told c.args.source.now) (g.K.Sink.shown c.args.sink.now) (g.K.Sink.shown c.end_with-in-Err.new.sink) c.requires.fresh.answers
+    (subst (λ (n : ℕ). ((c.in-Err.ending ≡ Usage) × IsMisused (map string_bytes c.args.words.now) n) ⊎ (c.in-Err.ending ≡ Memory)) count c.in-Err.ensures.err)
+    (λ before h. c.end_with-in-Err.ensures.writes before c.args.log.now.answers (shown_at_once plain c.in-Err.ending before (g.K.Sink.shown c.args.sink.now) c.args.log.now.answers c.requires.fresh.answers h)) c.end_with-in-Err.ensures.sink c.end_with-in-Err.ensures.blames
 
 pub returns-in-Err-clause-last : goal.returns-in-Err-clause-last
 returns-in-Err-clause-last g c = final_idle (asked (map string_bytes c.args.words.now)).workers g.S.Store.state c.args.log.now.catalog c.args.log.now.journals.list c.args.workers.now.items c.requires.idle c.requires.fresh.journals

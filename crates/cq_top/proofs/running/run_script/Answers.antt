@@ -1,4 +1,4 @@
-use Rattle.std.proofs.Common.{◌≡◌, ◌∙◌, sym, subst, inl, ap, Some, List, ℕ, [], append-nil, length}
+use Rattle.std.proofs.Common.{◌≡◌, ◌∙◌, sym, subst, inl, refl, arith, List, ℕ, length}
 use Rattle.cq_answer.specs.declared.answered.Answered.{Answered}
 use Rattle.cq_cluster.specs.Accounts.{AllAccounted}
 use Rattle.cq_cluster.specs.Ending.{IsFinal}
@@ -28,13 +28,13 @@ pub returns-then-is_err-clause-accounts : goal.returns-then-is_err-clause-accoun
 returns-then-is_err-clause-accounts g c = accounts_idle c.args.settled.workers g.S.Store.state c.args.log.now.answers c.args.workers.now.items c.requires.idle
 
 pub serve-ending-requires-clause-serving : goal.serve-ending-requires-clause-serving
-serve-ending-requires-clause-serving g c = (c.args.workers.now.items, c.new-serving.ensures.serving)
+serve-ending-requires-clause-serving g c = λ κs lives. (c.replace.result.items, c.new-serving.ensures.serving)
 
 pub returns-clause-whole : goal.returns-clause-whole
-returns-clause-whole g c = subst (λ (s : Settled). IsWhole s c.args.workers.now.items c.close.new.log) (c.serve-ending.ensures.keeps.settled ∙ c.new-serving.ensures.settled) (c.close.ensures.whole c.args.workers.now.items (c.serve-ending.ensures.keeps.over c.args.workers.now.items c.new-serving.ensures.serving))
+returns-clause-whole g c = subst (λ (s : Settled). IsWhole s c.args.workers.now.items c.close.new.log) (c.serve-ending.ensures.keeps.settled ∙ c.new-serving.ensures.settled) (c.close.ensures.whole c.args.workers.now.items (c.serve-ending.ensures.keeps.over c.args.workers.now.items (subst (λ v. IsServingOver g.S.Store.state v.items c.new-serving.result) c.replace.ensures.value c.new-serving.ensures.serving)))
 
 pub returns-clause-stand : goal.returns-clause-stand
-returns-clause-stand g c = subst (λ (s : Settled). Stand s c.args.workers.now.items c.close.new.log) (c.serve-ending.ensures.keeps.settled ∙ c.new-serving.ensures.settled) (c.close.ensures.stand c.args.workers.now.items (c.serve-ending.ensures.keeps.over c.args.workers.now.items c.new-serving.ensures.serving))
+returns-clause-stand g c = subst (λ (s : Settled). Stand s c.args.workers.now.items c.close.new.log) (c.serve-ending.ensures.keeps.settled ∙ c.new-serving.ensures.settled) (c.close.ensures.stand c.args.workers.now.items (c.serve-ending.ensures.keeps.over c.args.workers.now.items (subst (λ v. IsServingOver g.S.Store.state v.items c.new-serving.result) c.replace.ensures.value c.new-serving.ensures.serving)))
 
 pub returns-clause-serves : goal.returns-clause-serves
 returns-clause-serves g c = subst (λ (a : List Answered). Serves c.args.settled c.serve-ending.result (g.I.Source.told c.args.source.now) (g.I.Source.told c.serve-ending.new.source) a) (sym c.close.ensures.answers) (subst (λ (s : Settled). Serves s c.serve-ending.result (g.I.Source.told c.args.source.now) (g.I.Source.told c.serve-ending.new.source) c.serve-ending.new.serving.answers) c.new-serving.ensures.settled c.serve-ending.ensures.serves)
@@ -46,7 +46,46 @@ pub returns-clause-shown : goal.returns-clause-shown
 returns-clause-shown g c = λ before h. subst (λ (a : List Answered). IsShownBy c.args.settled c.serve-ending.result before (g.K.Sink.shown c.serve-ending.new.sink) a) (sym c.close.ensures.answers) (subst (λ (s : Settled). IsShownBy s c.serve-ending.result before (g.K.Sink.shown c.serve-ending.new.sink) c.serve-ending.new.serving.answers) c.new-serving.ensures.settled (c.serve-ending.ensures.shown before h))
 
 pub returns-clause-last : goal.returns-clause-last
-returns-clause-last g c = subst (λ (s : Settled). IsFinal g.S.Store.state s.workers c.args.workers.now.items c.close.new.log.catalog c.close.new.log.journals.list c.close.new.workers.items) (c.serve-ending.ensures.keeps.settled ∙ c.new-serving.ensures.settled) (c.close.ensures.last c.args.workers.now.items (c.serve-ending.ensures.keeps.over c.args.workers.now.items c.new-serving.ensures.serving))
+returns-clause-last g c = subst (λ (s : Settled). IsFinal g.S.Store.state s.workers c.args.workers.now.items c.close.new.log.catalog c.close.new.log.journals.list c.close.new.workers.items) (c.serve-ending.ensures.keeps.settled ∙ c.new-serving.ensures.settled) (c.close.ensures.last c.args.workers.now.items (c.serve-ending.ensures.keeps.over c.args.workers.now.items (subst (λ v. IsServingOver g.S.Store.state v.items c.new-serving.result) c.replace.ensures.value c.new-serving.ensures.serving)))
 
 pub returns-clause-accounts : goal.returns-clause-accounts
 returns-clause-accounts g c = subst (λ (s : Settled). AllAccounted g.S.Store.state s.workers c.close.new.log.answers c.close.new.workers.items) (c.serve-ending.ensures.keeps.settled ∙ c.new-serving.ensures.settled) c.close.ensures.accounts
+
+pub returns-then-is_err-clause-end : goal.returns-then-is_err-clause-end
+returns-then-is_err-clause-end g c = tt
+
+pub returns-then-is_err-clause-whole : goal.returns-then-is_err-clause-whole
+returns-then-is_err-clause-whole g c = empty_whole c.args.settled c.args.workers.now.items _ (record { answers = c.requires.fresh.answers; catalog = c.requires.fresh.catalog; journals = c.reserve.ensures.list ∙ c.requires.fresh.journals; retired = c.requires.fresh.retired; waves = c.requires.fresh.waves })
+
+pub returns-then-is_err-clause-stand : goal.returns-then-is_err-clause-stand
+returns-then-is_err-clause-stand g c = empty_stands c.args.settled c.args.workers.now.items (record c.args.log.now { journals = c.reserve.new.self }) (record { answers = c.requires.fresh.answers; catalog = c.requires.fresh.catalog; journals = c.reserve.ensures.list ∙ c.requires.fresh.journals; retired = c.requires.fresh.retired; waves = c.requires.fresh.waves })
+
+pub returns-then-is_err-clause-source : goal.returns-then-is_err-clause-source
+returns-then-is_err-clause-source g c = record { rose = λ h. cc; never = λ s h. cc }
+
+pub returns-then-is_err-clause-sink : goal.returns-then-is_err-clause-sink
+returns-then-is_err-clause-sink g c = record { faults = omega arith; steady = refl }
+
+pub returns-then-is_err-clause-blames : goal.returns-then-is_err-clause-blames
+returns-then-is_err-clause-blames g c = record { rose = λ h. cc; never = λ s h. cc }
+
+pub serve-ending-requires-clause-fresh : goal.serve-ending-requires-clause-fresh
+serve-ending-requires-clause-fresh g c = λ κs lives. c.new-serving.ensures.fresh
+
+pub close-requires-clause-serving : goal.close-requires-clause-serving
+close-requires-clause-serving g c = c.serve-ending.ensures.serving
+
+pub close-requires-clause-fresh : goal.close-requires-clause-fresh
+close-requires-clause-fresh g c = record { answers = c.requires.fresh.answers; catalog = c.requires.fresh.catalog; journals = c.reserve.ensures.list ∙ c.requires.fresh.journals; retired = c.requires.fresh.retired; waves = c.requires.fresh.waves }
+
+pub returns-clause-end : goal.returns-clause-end
+returns-clause-end g c = c.serve-ending.ensures.end
+
+pub returns-clause-source : goal.returns-clause-source
+returns-clause-source g c = c.serve-ending.ensures.source
+
+pub returns-clause-sink : goal.returns-clause-sink
+returns-clause-sink g c = c.serve-ending.ensures.sink
+
+pub returns-clause-blames : goal.returns-clause-blames
+returns-clause-blames g c = c.serve-ending.ensures.blames

@@ -33,7 +33,7 @@ returns-in-Ok-None-clause-reaches g c = λ taken r.
     reaching_done c.args.serving.now.settled (taken ++ c.args.bytes.now) c.loop-step.left.now c.loop-step.cutter c.next_in.new.self c.loop-step.serving.answers (c.loop-step.invariant.reaching taken r) facts
 
 pub answer_one-requires-clause-calm : goal.answer_one-requires-clause-calm
-answer_one-requires-clause-calm g c κs = subst (λ (s : Settled). IsCalm s c.loop-step.serving.answers) (sym c.loop-step.invariant.keeps.settled) c.loop-step.invariant.calm
+answer_one-requires-clause-calm g c κs = λ lives. subst (λ (s : Settled). IsCalm s c.loop-step.serving.answers) (sym c.loop-step.invariant.keeps.settled) c.loop-step.invariant.calm
 
 pub returns-in-Err-answer_one-clause-keeps : goal.returns-in-Err-answer_one-clause-keeps
 returns-in-Err-answer_one-clause-keeps g c = keeps_serving_then g.S.Store.state c.args.serving.now c.loop-step.serving c.answer_one.new.serving c.loop-step.invariant.keeps c.answer_one.ensures.keeps
