@@ -28,12 +28,18 @@ output_memory p s st journals shown o = (o.0, record { front = o.1.front; before
 
 writes_so : (p s : Settled) (ending : Ending) (st : Status) (journals before : List ℕ) (answers : List Answered) (written : Option (List ℕ)) → answers ≡ [] → ((ending ≡ Usage) ⊎ (ending ≡ Memory)) →
     Writes p ending st journals answers before written → Writes s ending st journals answers before written
-writes_so p s ending st journals before answers written none (inl u) w =
-    (w.0, w.1, subst (λ (v : Ending). IsOutput s v st journals answers w.0) (sym u) (subst (λ (a : List Answered). IsOutput s Usage st journals a w.0) (sym none)
-    (output_usage p s st journals w.0 (subst (λ (a : List Answered). IsOutput p Usage st journals a w.0) none (subst (λ (v : Ending). IsOutput p v st journals answers w.0) u w.2)))))
-writes_so p s ending st journals before answers written none (inr m) w =
-    (w.0, w.1, subst (λ (v : Ending). IsOutput s v st journals answers w.0) (sym m) (subst (λ (a : List Answered). IsOutput s Memory st journals a w.0) (sym none)
-    (output_memory p s st journals w.0 (subst (λ (a : List Answered). IsOutput p Memory st journals a w.0) none (subst (λ (v : Ending). IsOutput p v st journals answers w.0) m w.2)))))
+writes_so p s ending st journals before answers written none (inl u) w = (
+  w.0,
+  w.1,
+  subst (λ (v : Ending). IsOutput s v st journals answers w.0) (sym u) (subst (λ (a : List Answered). IsOutput s Usage st journals a w.0) (sym none)
+      (output_usage p s st journals w.0 (subst (λ (a : List Answered). IsOutput p Usage st journals a w.0) none (subst (λ (v : Ending). IsOutput p v st journals answers w.0) u w.2)))),
+)
+writes_so p s ending st journals before answers written none (inr m) w = (
+  w.0,
+  w.1,
+  subst (λ (v : Ending). IsOutput s v st journals answers w.0) (sym m) (subst (λ (a : List Answered). IsOutput s Memory st journals a w.0) (sym none)
+      (output_memory p s st journals w.0 (subst (λ (a : List Answered). IsOutput p Memory st journals a w.0) none (subst (λ (v : Ending). IsOutput p v st journals answers w.0) m w.2)))),
+)
 
 which : (words : List (List ℕ)) (workers : ℕ) (ending : Ending) → ((ending ≡ Usage) × IsMisused words workers) ⊎ (ending ≡ Memory) → (ending ≡ Usage) ⊎ (ending ≡ Memory)
 which words workers ending (inl u) = inl u.0

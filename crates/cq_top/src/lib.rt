@@ -15,8 +15,8 @@ mod tail;
 
 pub use cq_group as group;
 pub use cq_group::{Gate, IdleGate, Point};
+pub use ending::Ending;
 pub use log::{Retired, RetiredList, RunLog};
 pub use making::make_workers;
 pub use running::{run, run_over};
-pub use ending::Ending;
 pub use status::Status;

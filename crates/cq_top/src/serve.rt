@@ -15,7 +15,12 @@ use cq_words::Settled;
 use std::alloc::Global;
 
 /// The text of the answer at a place.
-fn text_at(alloc: Global, answers: &AnsweredList, place: u64, csv: bool) -> Result<Vec<u8>, NoMemory>
+fn text_at(
+    alloc: Global,
+    answers: &AnsweredList,
+    place: u64,
+    csv: bool,
+) -> Result<Vec<u8>, NoMemory>
     requires { place < length answers.now }
     ensures { IfOk result (λ text. (a : _) → slice_get answers.now place ≡ Some a → text.items ≡ text_under csv a.answer) }
 {

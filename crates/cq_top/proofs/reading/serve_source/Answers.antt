@@ -47,9 +47,11 @@ pub returns-then-n-eq0-clause-served : goal.returns-then-n-eq0-clause-served
 returns-then-n-eq0-clause-served g c = λ bytes e.
     let took = subst (λ k. Took (g.I.Source.told c.loop-cutter.source) (g.I.Source.told c.take.new.self) k c.take.new.room) c.if-n-eq0.true c.in-Ok.ensures.ok in
     let t = taken_end c.args.serving.now.settled (g.I.Source.told c.args.source.now) (g.I.Source.told c.loop-cutter.source) (g.I.Source.told c.take.new.self) c.loop-cutter.taken c.take.new.room bytes c.loop-cutter.cutter c.loop-cutter.serving.answers c.loop-cutter.invariant.reads took e in
-    let few : length bytes ≤ most_bytes = omega (arith, t.0, c.loop-cutter.invariant.most) in
-    (length bytes, (t.1, omega (arith, few)),
-      subst (λ (s : Settled). IsAnswered s c.finish.result bytes (length bytes) c.finish.new.serving.answers) c.loop-cutter.invariant.keeps.settled (c.finish.ensures.answered bytes few (subst (λ (s : Settled). Reaches s bytes c.loop-cutter.cutter c.loop-cutter.serving.answers) (sym c.loop-cutter.invariant.keeps.settled) t.2)))
+    let few : length bytes ≤ most_bytes = omega (arith, t.0, c.loop-cutter.invariant.most) in (
+      length bytes,
+      (t.1, omega (arith, few)),
+      subst (λ (s : Settled). IsAnswered s c.finish.result bytes (length bytes) c.finish.new.serving.answers) c.loop-cutter.invariant.keeps.settled (c.finish.ensures.answered bytes few (subst (λ (s : Settled). Reaches s bytes c.loop-cutter.cutter c.loop-cutter.serving.answers) (sym c.loop-cutter.invariant.keeps.settled) t.2)),
+    )
 
 pub returns-then-n-eq0-clause-halted : goal.returns-then-n-eq0-clause-halted
 returns-then-n-eq0-clause-halted g c = subst (λ (s : Settled). IsHalted s c.finish.result c.finish.new.serving.answers) c.loop-cutter.invariant.keeps.settled c.finish.ensures.halted
@@ -76,7 +78,7 @@ returns-in-Err-feed-clause-end g c = stop_reads c.in-Err-feed.stop c.ending.resu
 pub returns-in-Err-feed-clause-served : goal.returns-in-Err-feed-clause-served
 returns-in-Err-feed-clause-served g c = λ bytes e.
     let t = taken_stops c.args.serving.now.settled c.in-Err-feed.stop (g.I.Source.told c.args.source.now) (g.I.Source.told c.loop-cutter.source) (g.I.Source.told c.take.new.self) c.loop-cutter.taken c.in-Ok.n (min c.in-Ok.n (16777216 - c.loop-cutter.taken)) c.take.new.room (take c.min-end.result c.take.new.room) bytes c.loop-cutter.cutter c.loop-cutter.serving.answers c.feed.new.serving.answers c.loop-cutter.invariant.reads c.in-Ok.ensures.ok (omega arith) (ap (λ k. take k c.take.new.room) (omega (arith, c.min-end.ensures))) (omega (arith, c.loop-cutter.invariant.most))
-        (λ given r. subst (λ (s : Settled). StopsAmong s c.in-Err-feed.stop (items_in (given ++ (take c.min-end.result c.take.new.room))) c.feed.new.serving.answers) c.loop-cutter.invariant.keeps.settled (c.in-Err-feed.ensures.stops given (subst (λ (s : Settled). Reaches s given c.loop-cutter.cutter c.loop-cutter.serving.answers) (sym c.loop-cutter.invariant.keeps.settled) r))) e in
+    (λ given r. subst (λ (s : Settled). StopsAmong s c.in-Err-feed.stop (items_in (given ++ (take c.min-end.result c.take.new.room))) c.feed.new.serving.answers) c.loop-cutter.invariant.keeps.settled (c.in-Err-feed.ensures.stops given (subst (λ (s : Settled). Reaches s given c.loop-cutter.cutter c.loop-cutter.serving.answers) (sym c.loop-cutter.invariant.keeps.settled) r))) e in
     (c.loop-cutter.taken + c.in-Ok.n, (t.0, (omega (arith, c.loop-cutter.invariant.most, c.in-Ok.ensures.within, length-take_le c.min-free.result c.loop-cutter.room))), subst (λ (v : Ending). IsAnswered c.args.serving.now.settled v bytes (c.loop-cutter.taken + c.in-Ok.n) c.feed.new.serving.answers) (sym c.ending.ensures) t.1)
 
 pub returns-in-Err-feed-clause-halted : goal.returns-in-Err-feed-clause-halted
@@ -122,9 +124,11 @@ returns-then-end-n-clause-keeps g c = keeps_serving_then g.S.Store.state c.args.
 
 pub returns-then-end-n-clause-served : goal.returns-then-end-n-clause-served
 returns-then-end-n-clause-served g c = λ bytes e.
-    let t = taken_piece c.args.serving.now.settled (g.I.Source.told c.args.source.now) (g.I.Source.told c.loop-cutter.source) (g.I.Source.told c.take.new.self) c.loop-cutter.taken c.in-Ok.n (min c.in-Ok.n (16777216 - c.loop-cutter.taken)) c.take.new.room (take c.min-end.result c.take.new.room) bytes c.loop-cutter.cutter c.feed.new.cutter c.loop-cutter.serving.answers c.feed.new.serving.answers c.loop-cutter.invariant.reads c.in-Ok.ensures.ok (omega arith) (ap (λ k. take k c.take.new.room) (omega (arith, c.min-end.ensures))) (λ given r. subst (λ (s : Settled). Reaches s (given ++ (take c.min-end.result c.take.new.room)) c.feed.new.cutter c.feed.new.serving.answers) c.loop-cutter.invariant.keeps.settled (c.in-Ok-feed.ensures.reaches given (subst (λ (s : Settled). Reaches s given c.loop-cutter.cutter c.loop-cutter.serving.answers) (sym c.loop-cutter.invariant.keeps.settled) r))) e in
-    (c.loop-cutter.taken + c.in-Ok.n, (t.0, (omega (arith, c.loop-cutter.invariant.most, c.in-Ok.ensures.within, length-take_le c.min-free.result c.loop-cutter.room))),
-      too_long c.args.serving.now.settled bytes (c.loop-cutter.taken + c.in-Ok.n) (c.loop-cutter.taken + (min c.in-Ok.n (16777216 - c.loop-cutter.taken))) c.feed.new.cutter c.feed.new.serving.answers (omega (arith, c.loop-cutter.invariant.most, t.1)) (omega (arith, c.loop-cutter.invariant.most)) (omega (arith, c.loop-cutter.invariant.most)) t.2 (sym c.in-None.ensures))
+    let t = taken_piece c.args.serving.now.settled (g.I.Source.told c.args.source.now) (g.I.Source.told c.loop-cutter.source) (g.I.Source.told c.take.new.self) c.loop-cutter.taken c.in-Ok.n (min c.in-Ok.n (16777216 - c.loop-cutter.taken)) c.take.new.room (take c.min-end.result c.take.new.room) bytes c.loop-cutter.cutter c.feed.new.cutter c.loop-cutter.serving.answers c.feed.new.serving.answers c.loop-cutter.invariant.reads c.in-Ok.ensures.ok (omega arith) (ap (λ k. take k c.take.new.room) (omega (arith, c.min-end.ensures))) (λ given r. subst (λ (s : Settled). Reaches s (given ++ (take c.min-end.result c.take.new.room)) c.feed.new.cutter c.feed.new.serving.answers) c.loop-cutter.invariant.keeps.settled (c.in-Ok-feed.ensures.reaches given (subst (λ (s : Settled). Reaches s given c.loop-cutter.cutter c.loop-cutter.serving.answers) (sym c.loop-cutter.invariant.keeps.settled) r))) e in (
+      c.loop-cutter.taken + c.in-Ok.n,
+      (t.0, (omega (arith, c.loop-cutter.invariant.most, c.in-Ok.ensures.within, length-take_le c.min-free.result c.loop-cutter.room))),
+      too_long c.args.serving.now.settled bytes (c.loop-cutter.taken + c.in-Ok.n) (c.loop-cutter.taken + (min c.in-Ok.n (16777216 - c.loop-cutter.taken))) c.feed.new.cutter c.feed.new.serving.answers (omega (arith, c.loop-cutter.invariant.most, t.1)) (omega (arith, c.loop-cutter.invariant.most)) (omega (arith, c.loop-cutter.invariant.most)) t.2 (sym c.in-None.ensures),
+    )
 
 pub returns-then-end-n-clause-halted : goal.returns-then-end-n-clause-halted
 returns-then-end-n-clause-halted g c = subst (λ (s : Settled). IsCalm s c.feed.new.serving.answers) c.loop-cutter.invariant.keeps.settled c.in-Ok-feed.ensures.calm

@@ -41,7 +41,7 @@ returns-clause-keeps g c = record {
       let is : who ≡ next_who c.args.self.now.answers = ap (λ (n : ℕ). record { session = 0; statement = n }) number in
       let workers = subst (λ (n : ℕ). AreWorkers g.S.Store.state n entry old.cluster.groups.items old.cluster.workers.items) (sym s.nodes) s.workers in
       let by = subst (λ (n : ℕ). IsAnswered rules (run_of n (settings_by settled) entry) (environment old) (environment new) who (journals old) (journals new) c.respond-bound.result.bound c.respond-bound.result.answer) s.nodes
-          (c.respond-bound.ensures.answered (settings_by settled) entry workers) in
+      (c.respond-bound.ensures.answered (settings_by settled) entry workers) in
       let answered = subst (λ (w : Who). IsAnswered rules (run_by settled entry) (environment old) (environment new) w (journals old) (journals new) c.respond-bound.result.bound c.respond-bound.result.answer) is by in
       let kept = answers_go_on rules (run_by settled entry) (λ m n h. h) (environment old) (environment new) c.args.self.now.answers (journals old) (journals new) c.respond-bound.result.bound c.respond-bound.result.answer s.consistent answered in
       let its = subst (λ (w : Who). IsConsistent rules (run_by settled entry) (environment new) (c.args.self.now.answers ++ answered_by w (environment old) c.respond-bound.result.bound c.respond-bound.result.answer ∷ []) (journals new)) (sym is) kept in
@@ -67,5 +67,5 @@ returns-clause-next g c =
     let answer = c.respond-bound.result.answer in
     let tables = c.args.self.now.coordinator.cluster.catalog.tables in
     let read = subst (λ (t : List ℕ). ReadsAs bound answer t c.args.item.now.copied tables) c.as_slice.ensures
-        (subst (λ (t : List ℕ). ReadsAs bound answer c.as_slice.result.now t tables) c.as_slice-2.ensures c.respond-bound.ensures.reads) in
+    (subst (λ (t : List ℕ). ReadsAs bound answer c.as_slice.result.now t tables) c.as_slice-2.ensures c.respond-bound.ensures.reads) in
     (_, e, subst (λ (v : Environment). ReadsAs bound answer c.args.item.now.text c.args.item.now.copied v.catalog.tables) c.requires.serving.1.consistent.environment read)
