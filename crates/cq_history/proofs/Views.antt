@@ -1,5 +1,5 @@
 -- A view that says more of a statement lets more stand.
-use Rattle.std.proofs.Common.{ℕ, List, Some, None, Option}
+use Rattle.std.proofs.Common.{inl, inr, ℕ, List, Some, None, Option}
 use Rattle.cq_tree.specs.declared.write.ShardOp.{ShardOp}
 use Rattle.cq_tree.specs.declared.write.Reply.{Reply}
 use Rattle.cq_tree.specs.declared.write.Reply.TheVariants.{Duplicate, OutOfRange}
@@ -9,15 +9,17 @@ use Rattle.cq_tree.specs.declared.query.Query.{Query}
 use Rattle.cq_meaning.specs.Values.{Row, Tables}
 use Rattle.cq_meaning.specs.Results.{Answers}
 use Rattle.cq_catalog.specs.Contents.{Contents}
+use Rattle.cq_catalog.specs.Placement.{group_of_shard}
 use Rattle.cq_answer.specs.declared.answer.Answer.{Answer}
 use Rattle.cq_answer.specs.declared.answer.Answer.TheVariants as answer
 use Rattle.cq_answer.specs.declared.fault.What.TheVariants as what
 use Rattle.cq_answer.specs.declared.fault.Fault.{Fault}
 use Rattle.cq_answer.specs.declared.fault.Fault.TheVariants as fault
 use Rattle.cq_history.specs.Run.{Run, Rules, Environment}
+use Rattle.cq_history.specs.Moves.{move_fault}
 use Rattle.cq_journal.specs.Records.{Journal}
 use Rattle.cq_history.specs.Journals.{Kinds, Step, none}
-use Rattle.cq_history.specs.Standing.{View, Enters, reads, AreReady, IsMadeIn, IsRefusedIn, LacksIdsIn, IsFaultIn, IsReadFault, IsWriteFault, IsExplained, Runs, RunsUnless, StandsIn}
+use Rattle.cq_history.specs.Standing.{View, Enters, reads, AreReady, IsMadeIn, IsRefusedIn, LacksIdsIn, IsFaultIn, IsReadFault, IsWriteFault, IsExplained, EntersIn, Moves, MovesUnless, IsMovedIn, Runs, RunsUnless, StandsIn}
 
 module _ (v w : View) (made : (g : ℕ) (P : List Step → Type 0) → v.made g P → w.made g P) (wherever : (P : Tables → Type 0) → v.wherever P → w.wherever P)
     (saw : (g : ℕ) (P : Journal → Type 0) → v.saw g P → w.saw g P) where
@@ -67,10 +69,36 @@ module _ (v w : View) (made : (g : ℕ) (P : List Step → Type 0) → v.made g 
   explained_map : (c : Contents) (q : Query) (names : List (List ℕ)) (rows : List Row) → IsExplained c v q names rows → IsExplained c w q names rows
   explained_map c q names rows h = record { nodes = h.nodes; entries = enters none h.entries; on = λ g l. saw g _ (h.on g l); named = h.named; shown = h.shown }
 
+  enters_in : (group : ℕ) (P : List Step → Type 0) → EntersIn v group P → EntersIn w group P
+  enters_in group P h = (made group P h.0, λ g n. made g _ (h.1 g n))
+
+  moves_map : (c : Contents) (group from to : ℕ) (a : Answer) → Moves c v group from to a → Moves c w group from to a
+  moves_map c group from to (answer.Table names rows) h = (h.0, h.1, h.2, enters_in group _ h.3)
+  moves_map c group from to (answer.Failed (fault.Worker node shard before after)) h = (enters none h.0, h.1, h.2, h.3)
+  moves_map c group from to (answer.Failed (fault.Retired node shard before after)) h = (enters_in group _ h.0, h.1, h.2, h.3)
+  moves_map c group from to (answer.Failed fault.Memory) (inl h) = inl (enters none h)
+  moves_map c group from to (answer.Failed fault.Memory) (inr h) = inr (enters_in group _ h)
+  moves_map c group from to a h = absurd h
+
+  moves_unless_map : (f : Option Fault) (c : Contents) (group from to : ℕ) (a : Answer) → MovesUnless f c v group from to a → MovesUnless f c w group from to a
+  moves_unless_map (Some f) c group from to a h = (enters none h.0, h.1)
+  moves_unless_map None c group from to a h = moves_map c group from to a h
+
+  moved_map : (run : Run) (e : Environment) (shard from to : ℕ) (group : Option ℕ) (a : Answer) → IsMovedIn run e v shard from to group a → IsMovedIn run e w shard from to group a
+  moved_map run e shard from to None a h = (enters none h.0, h.1)
+  moved_map run e shard from to (Some group) a h = record {
+    nodes = h.nodes;
+    mover = h.mover;
+    there = h.there;
+    on = λ g l. saw g _ (h.on g l);
+    moving = saw group _ h.moving;
+    moves = moves_unless_map (move_fault run e.catalog e.retired h.nodes h.mover group from to) e.catalog group from to a h.moves;
+  }
+
   runs_map : (touched : List ℕ) (run : Run) (e : Environment) (s : Statement) (a : Answer) → Runs touched run e v s a → Runs touched run e w s a
   runs_map touched run e (statement.CreateTable name columns key) a h = (enters none h.0, h.1)
-  runs_map touched run e (statement.Distribute table column count beside) a h = (enters none h.0, h.1)
-  runs_map touched run e (statement.Reference table) a h = (enters none h.0, h.1)
+  runs_map touched run e (statement.Distribute table column count beside) a h = (enters none h.0, h.1, λ g l. saw g _ (h.2 g l), h.3)
+  runs_map touched run e (statement.Reference table) a h = (enters none h.0, h.1, λ g l. saw g _ (h.2 g l), h.3)
   runs_map touched run e (statement.Setting which value) a h = (enters none h.0, h.1)
   runs_map touched run e (statement.Select q) (answer.Table names rows) h = (h.0, enters (reads touched) h.1, wherever (λ db. Answers q db rows) h.2)
   runs_map touched run e (statement.Select q) (answer.Failed (fault.Limit what.Rows n)) h = (h.0, enters (reads touched) h.1, λ alone simple. wherever _ (h.2 alone simple))
@@ -84,6 +112,7 @@ module _ (v w : View) (made : (g : ℕ) (P : List Step → Type 0) → v.made g 
   runs_map touched run e (statement.Write op) (answer.Failed (fault.Limit what.Ids n)) h = (h.0, lacks_map e.catalog touched op h.1)
   runs_map touched run e (statement.Write op) (answer.Failed (fault.Worker node shard before after)) h = write_fault_map run e.catalog touched node shard before after h
   runs_map touched run e (statement.Write op) (answer.Failed fault.Memory) h = enters none h
+  runs_map touched run e (statement.Move shard from to) a h = moved_map run e shard from to (group_of_shard e.catalog shard) a h
   runs_map touched run e s a h = absurd h
 
   unless_map : (f : Option Fault) (touched : List ℕ) (run : Run) (e : Environment) (s : Statement) (a : Answer) → RunsUnless f touched run e v s a → RunsUnless f touched run e w s a

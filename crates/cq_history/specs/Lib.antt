@@ -1,4 +1,6 @@
 pub mod Run
+pub mod Room
+pub mod Moves
 pub mod Journals
 pub mod Whole
 pub mod Legality

@@ -1,6 +1,7 @@
 use Rattle.cq_history.proofs.Opening.{opens_laid_out, catalog_is_answered}
 use Rattle.cq_history.proofs.Faults.{read_fails, write_fails}
-use Rattle.cq_history.proofs.Explaining.{explain_is_answered}
+use Rattle.cq_history.proofs.Explaining.{explain_is_answered, sees_all}
+use Rattle.cq_history.proofs.Moving.{move_is_answered, move_is_refused}
 use Rattle.cq_history.proofs.Copying.{copy_is_answered}
 use Rattle.cq_history.proofs.Answering.{made_is_answered, refused_is_answered, lacks_is_answered, read_is_answered, large_is_answered, read_lacks_memory, write_lacks_memory, refusal_is_answered}
 use Rattle.cq_history.proofs.laws.answer_laws.Goals as goal
@@ -46,3 +47,12 @@ returns-clause-write_fails c = write_fails
 
 pub returns-clause-explain : goal.returns-clause-explain
 returns-clause-explain c = explain_is_answered
+
+pub returns-clause-sees : goal.returns-clause-sees
+returns-clause-sees c = sees_all
+
+pub returns-clause-moved : goal.returns-clause-moved
+returns-clause-moved c = move_is_answered
+
+pub returns-clause-move_refused : goal.returns-clause-move_refused
+returns-clause-move_refused c = move_is_refused
