@@ -1,29 +1,82 @@
 -- How the counts of faults of the groups' stores account for the answers that name stores.
-use Rattle.std.specs.Prelude.{◌≡◌, ◌<◌, ℕ, List, [], ◌∷◌, ◌++◌, Some, slice_get}
-use Rattle.std.specs.List.{AllByRecursion}
+use Rattle.std.specs.Prelude.{◌≡◌, ◌<◌, ℕ, Bool, true, false, nat_lt, List, [], ◌∷◌, ◌++◌, filter, fold, Some, slice_get}
+use Rattle.std.specs.List.{AllByRecursion, AllZip}
 use Rattle.cq_answer.specs.declared.answer.Answer.{Answer}
 use Rattle.cq_answer.specs.declared.answer.Answer.TheVariants as answer
 use Rattle.cq_answer.specs.declared.answered.Answered.{Answered}
 use Rattle.cq_answer.specs.declared.fault.Fault.TheVariants as fault
 use Rattle.cq_catalog.specs.Contents.{Contents}
-use Rattle.cq_history.specs.Faults.{AccountsFor, NamesBelow}
+use Rattle.cq_tree.specs.declared.journal.Who.{Who}
+use Rattle.cq_tree.specs.declared.journal.Entry.{Entry}
+use Rattle.cq_tree.specs.declared.journal.EntryKind.TheVariants.{Cutover}
+use Rattle.cq_journal.specs.Records.{Journal}
+use Rattle.cq_history.specs.Faults.{AccountsFor, NamesBelow, IsShardIn}
+use Rattle.cq_history.specs.Journals.{journal_in}
+use Rattle.cq_history.specs.Log.{who_of}
 use Rattle.cq_store.specs.Stores.{StoreState}
 use Rattle.cq_store.specs.declared.worker.Worker.{Worker}
 use Rattle.cq_group.specs.declared.group.GroupState.{GroupState}
-use Rattle.cq_group.specs.Groups.{stores_of}
+use Rattle.cq_group.specs.Groups.{stores_of, entries_of}
 use Rattle.cq_group.specs.Resting.{GoOn, HasFailed}
 use Rattle.cq_cluster.specs.declared.cluster.Cluster.{Cluster}
+use Rattle.cq_cluster.specs.declared.retired.Retired.{Retired}
 use Rattle.cq_cluster.specs.Cluster.{IsSound}
 
--- the counts of the groups' stores account for the answers, and no answer names a shard id that isn't given out
+-- the number of the statement that moved a group last, by its entries: 0 where none did
+abbrev pub mover_of : ℕ → Entry → ℕ
+mover_of n (record { who = who; kind = Cutover }) = who.statement
+mover_of n e = n
+
+abbrev pub moved_by : List Entry → ℕ
+moved_by es = fold mover_of 0 es
+
+-- the answers to statements after this one
+abbrev pub later_than : ℕ → List Answered → List Answered
+later_than n answers = filter (λ (a : Answered). nat_lt n a.statement) answers
+
+-- the counts of the groups' stores account for the answers since the group was moved last, as its stores are others before, and no answer names
+-- a shard id that isn't given out
 pub record AreAccounted {X : Type 0} (state : X → StoreState) (c : Contents) (answers : List Answered) (groups : List (GroupState X)) : Type 0 where
-  pub stores : (i : ℕ) (g : GroupState X) → slice_get groups i ≡ Some g → AllByRecursion (λ (x : X). AccountsFor answers (state x)) (stores_of g)
+  pub stores : (i : ℕ) (g : GroupState X) → slice_get groups i ≡ Some g → AllByRecursion (λ (x : X). AccountsFor (later_than (moved_by (entries_of g)) answers) (state x)) (stores_of g)
   pub below : AllByRecursion (λ (a : Answered). NamesBelow c.next_shard a.answer) answers
 
+-- the answer is that of the next statement: those so far are to statements before it, and so are the moves of the groups
+pub record IsNext {X : Type 0} (who : Who) (a : Answered) (answers : List Answered) (groups : List (GroupState X)) : Type 0 where
+  pub is : a.statement ≡ who.statement
+  pub answered : AllByRecursion (λ (b : Answered). b.statement < who.statement) answers
+  pub moved : AllByRecursion (λ (g : GroupState X). moved_by (entries_of g) < who.statement) groups
+
+-- a store's count accounts for the answers since its shard's group was moved last
+pub record IsAccounted (c : Contents) (journals : List Journal) (answers : List Answered) (s : StoreState) : Type 0 where
+  pub group : ℕ
+  pub kept : IsShardIn c group s.shard
+  pub accounts : AccountsFor (later_than (moved_by (journal_in journals group).entries) answers) s
+
 -- so does the count of each store that keeps a shard, in the lists of the first workers, so many
-abbrev pub AllAccounted : {X : Type 0} → (X → StoreState) → ℕ → List Answered → List (Worker X) → Type 0
-AllAccounted {X} state nodes answers workers =
-    (place : ℕ) (w : Worker X) → place < nodes → slice_get workers place ≡ Some w → AllByRecursion (λ (x : X). 0 < (state x).shard → AccountsFor answers (state x)) w.stores.items
+abbrev pub AllAccounted : {X : Type 0} → (X → StoreState) → ℕ → Contents → List Journal → List Answered → List (Worker X) → Type 0
+AllAccounted {X} state nodes c journals answers workers =
+    (place : ℕ) (w : Worker X) → place < nodes → slice_get workers place ≡ Some w → AllByRecursion (λ (x : X). 0 < (state x).shard → IsAccounted c journals answers (state x)) w.stores.items
+
+-- ---- retired stores
+
+-- an answer that tells of a store which is retired
+abbrev pub is_retiring : Answered → Bool
+is_retiring (record { session = session; statement = statement; settings = settings; bound = bound; answer = answer.Failed (fault.Retired node shard before after) }) = true
+is_retiring a = false
+
+-- a store that was retired stands for such an answer: of the statement that tells of it, on this node and with these counts
+abbrev pub StandsFor : {X : Type 0} → Answered → Retired X → Type 0
+StandsFor a r = (shard : ℕ) × (a.answer ≡ answer.Failed (fault.Retired r.node shard r.before r.after)) × (r.who ≡ who_of a)
+
+-- the retired stores are those that answers tell of, in their order
+abbrev pub AreRetired : {X : Type 0} → List Answered → List (Retired X) → Type 0
+AreRetired answers retired = AllZip StandsFor (filter is_retiring answers) retired
+
+-- what a statement's answer does to the retired stores: there is one more where it tells of one
+abbrev pub Retires : {X : Type 0} → Who → Answer → List (Retired X) → List (Retired X) → Type 0
+Retires who (answer.Failed (fault.Retired node shard before after)) old new =
+    (r : _) × (new ≡ old ++ r ∷ []) × (r.who ≡ who) × (r.node ≡ node) × (r.before ≡ before) × (r.after ≡ after)
+Retires who a old new = new ≡ old
 
 -- the answer names no store
 abbrev pub NamesNone : Answer → Type 0
@@ -35,11 +88,16 @@ NamesFailed state a old new = (node shard before after : ℕ) → a ≡ answer.F
 
 -- ---- laws
 
+-- no group was moved meanwhile
+abbrev pub StayMoved : {X : Type 0} → List (GroupState X) → List (GroupState X) → Type 0
+StayMoved {X} old new = (i : ℕ) (g h : GroupState X) → slice_get old i ≡ Some g → slice_get new i ≡ Some h → moved_by (entries_of h) ≡ moved_by (entries_of g)
+
 -- groups that went on account for one more answer, which names no store but one that failed
 abbrev pub AnswerIsAccounted : {X : Type 0} → (X → StoreState) → Type 0
-AnswerIsAccounted {X} state = (cl : Cluster X) (new : List (GroupState X)) (answers : List Answered) (a : Answered) → IsSound state cl → GoOn state cl.groups.items new → NamesFailed state a.answer cl.groups.items new →
+AnswerIsAccounted {X} state = (cl : Cluster X) (new : List (GroupState X)) (who : Who) (answers : List Answered) (a : Answered) → IsSound state cl → GoOn state cl.groups.items new → StayMoved cl.groups.items new →
+    NamesFailed state a.answer cl.groups.items new → IsNext who a answers cl.groups.items →
     AreAccounted state cl.catalog answers cl.groups.items → AreAccounted state cl.catalog (answers ++ a ∷ []) new
 
 -- and groups that stay account for one that names no store
 abbrev pub OtherIsAccounted : {X : Type 0} → (X → StoreState) → Type 0
-OtherIsAccounted {X} state = (c : Contents) (groups : List (GroupState X)) (answers : List Answered) (a : Answered) → NamesNone a.answer → AreAccounted state c answers groups → AreAccounted state c (answers ++ a ∷ []) groups
+OtherIsAccounted {X} state = (c : Contents) (groups : List (GroupState X)) (who : Who) (answers : List Answered) (a : Answered) → NamesNone a.answer → IsNext who a answers groups → AreAccounted state c answers groups → AreAccounted state c (answers ++ a ∷ []) groups

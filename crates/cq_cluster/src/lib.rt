@@ -11,6 +11,7 @@ mod laws;
 mod making;
 mod opening;
 mod reference;
+mod retired;
 mod shard;
 mod shards;
 mod spare;
@@ -18,3 +19,4 @@ mod worker;
 
 pub use cluster::{Cluster, Ended};
 pub use laws::account_laws;
+pub use retired::Retired;

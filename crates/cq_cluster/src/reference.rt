@@ -10,7 +10,7 @@ ghost use Rattle.cq_history.specs.Laws.{OpensGroups};
 ghost use Rattle.cq_history.specs.Standing.{reference_fault};
 ghost use Rattle.cq_store.specs.declared.worker.Worker.{Worker};
 ghost use Rattle.cq_cluster.specs.Accounts.{AreAccounted};
-ghost use Rattle.cq_cluster.specs.Cluster.{AreWorkers, journals, run_of, IsSound, KeepsStores};
+ghost use Rattle.cq_cluster.specs.Cluster.{HasStores, journals, node_in, retired_nodes, run_of, IsSound, KeepsStores};
 ghost use Rattle.cq_cluster.specs.References.{HaveLent, IsNewReference, IsReferencePlanned};
 
 use crate::cluster::Cluster;
@@ -30,7 +30,7 @@ impl<S: Store> Cluster<S> {
     fn plan_reference(&self, table: &Text) -> Result<Opened, Fault>
         requires sound { IsSound S.state self.now }
         ensures ok { IfOk result (IsReferencePlanned self.now.nodes self.now.catalog self.now.workers.items table.now) }
-        ensures err { (initial : Settings) (entry : List (Worker S)) → AreWorkers S.state self.now.nodes entry self.now.groups.items self.now.workers.items → IfErr result (λ f. (f ≡ Fault.Memory) ⊎ (reference_fault (run_of self.now.nodes initial entry) self.now.catalog table.now ≡ Some f)) }
+        ensures err { (initial : Settings) (entry : List (Worker S)) → HasStores S.state entry self.now → IfErr result (λ f. (f ≡ Fault.Memory) ⊎ (reference_fault (run_of self.now.nodes initial entry) self.now.catalog (retired_nodes self.now) (node_in self.now.groups.items) table.now ≡ Some f)) }
     {
         let opened = match self.catalog.preview_reference(table) {
             Ok(opened) => opened,
@@ -78,11 +78,12 @@ impl<S: Store> Cluster<S> {
         ensures catalog { OnOk result (self.new.catalog ≡ with_reference self.old.catalog table.now) }
         ensures grows { OnOk result ((who : Who) → Grows who none (journals self.old) (journals self.new)) }
         ensures opens { OnOk result ((initial : Settings) (entry : List (Worker S)) → OpensGroups (run_of self.old.nodes initial entry) self.old.catalog self.new.catalog (journals self.new)) }
-        ensures allowed { (initial : Settings) (entry : List (Worker S)) → AreWorkers S.state self.old.nodes entry self.old.groups.items self.old.workers.items → OnOk result (reference_fault (run_of self.old.nodes initial entry) self.old.catalog table.now ≡ None) }
-        ensures cause { (initial : Settings) (entry : List (Worker S)) → AreWorkers S.state self.old.nodes entry self.old.groups.items self.old.workers.items → IfErr result (λ f. (f ≡ Fault.Memory) ⊎ (reference_fault (run_of self.old.nodes initial entry) self.old.catalog table.now ≡ Some f)) }
+        ensures allowed { (initial : Settings) (entry : List (Worker S)) → HasStores S.state entry self.old → OnOk result (reference_fault (run_of self.old.nodes initial entry) self.old.catalog (retired_nodes self.old) (node_in self.old.groups.items) table.now ≡ None) }
+        ensures cause { (initial : Settings) (entry : List (Worker S)) → HasStores S.state entry self.old → IfErr result (λ f. (f ≡ Fault.Memory) ⊎ (reference_fault (run_of self.old.nodes initial entry) self.old.catalog (retired_nodes self.old) (node_in self.old.groups.items) table.now ≡ Some f)) }
         ensures unchanged { OnErr result (self.new.catalog ≡ self.old.catalog) }
         ensures same { OnErr result (journals self.new ≡ journals self.old) }
         ensures stores { KeepsStores S.state self.old self.new }
+        ensures retired { self.new.retired ≡ self.old.retired }
         ensures accounted { (answers : List Answered) → AreAccounted S.state self.old.catalog answers self.old.groups.items → AreAccounted S.state self.new.catalog answers self.new.groups.items }
     {
         let opened = match self.plan_reference(table) {

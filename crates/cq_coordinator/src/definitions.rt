@@ -5,9 +5,9 @@ ghost use Rattle.cq_history.specs.Run.{with_setting as settings_with};
 ghost use Rattle.cq_history.specs.Refusals.{rules};
 ghost use Rattle.cq_history.specs.Log.{IsAnswered};
 ghost use Rattle.cq_store.specs.declared.worker.Worker.{Worker};
-ghost use Rattle.cq_cluster.specs.Cluster.{IsSound, KeepsStores, AreWorkers, run_of};
+ghost use Rattle.cq_cluster.specs.Cluster.{IsSound, KeepsStores, HasStores, run_of};
 ghost use Rattle.cq_answer.specs.declared.answered.Answered.{Answered};
-ghost use Rattle.cq_cluster.specs.Accounts.{AreAccounted};
+ghost use Rattle.cq_cluster.specs.Accounts.{IsNext, AreAccounted};
 ghost use Rattle.cq_coordinator.specs.Coordination.{environment, journals, IsNoCopy};
 
 use crate::coordinator::Coordinator;
@@ -55,7 +55,7 @@ impl<S: Store> Coordinator<S> {
         ensures tag { IsNoCopy result }
         ensures sound { IsSound S.state self.new.cluster }
         ensures stores { KeepsStores S.state self.old.cluster self.new.cluster }
-        ensures accounted { (answers : List Answered) (a : Answered) → a.answer ≡ result → AreAccounted S.state self.old.cluster.catalog answers self.old.cluster.groups.items → AreAccounted S.state self.new.cluster.catalog (answers ++ a ∷ []) self.new.cluster.groups.items }
+        ensures accounted { (answers : List Answered) (a : Answered) → a.answer ≡ result → IsNext who a answers self.old.cluster.groups.items → AreAccounted S.state self.old.cluster.catalog answers self.old.cluster.groups.items → AreAccounted S.state self.new.cluster.catalog (answers ++ a ∷ []) self.new.cluster.groups.items }
     {
         let Ok(columns) = columns.copy(alloc) else {
             return Answer::Failed(Fault::Memory);
@@ -80,11 +80,11 @@ impl<S: Store> Coordinator<S> {
         with: &With,
     ) -> Answer
         requires sound { IsSound S.state self.old.cluster }
-        ensures answered { (initial : Settings) (entry : List (Worker S)) → AreWorkers S.state self.old.cluster.nodes entry self.old.cluster.groups.items self.old.cluster.workers.items → IsAnswered rules (run_of self.old.cluster.nodes initial entry) (environment self.old) (environment self.new) who (journals self.old) (journals self.new) (Some (statement.Distribute table.now column.now count with.now)) result }
+        ensures answered { (initial : Settings) (entry : List (Worker S)) → HasStores S.state entry self.old.cluster → IsAnswered rules (run_of self.old.cluster.nodes initial entry) (environment self.old) (environment self.new) who (journals self.old) (journals self.new) (Some (statement.Distribute table.now column.now count with.now)) result }
         ensures tag { IsNoCopy result }
         ensures sound { IsSound S.state self.new.cluster }
         ensures stores { KeepsStores S.state self.old.cluster self.new.cluster }
-        ensures accounted { (answers : List Answered) (a : Answered) → a.answer ≡ result → AreAccounted S.state self.old.cluster.catalog answers self.old.cluster.groups.items → AreAccounted S.state self.new.cluster.catalog (answers ++ a ∷ []) self.new.cluster.groups.items }
+        ensures accounted { (answers : List Answered) (a : Answered) → a.answer ≡ result → IsNext who a answers self.old.cluster.groups.items → AreAccounted S.state self.old.cluster.catalog answers self.old.cluster.groups.items → AreAccounted S.state self.new.cluster.catalog (answers ++ a ∷ []) self.new.cluster.groups.items }
     {
         let Ok(told) = notice_of(alloc, "create_distributed_table") else {
             return Answer::Failed(Fault::Memory);
@@ -105,11 +105,11 @@ impl<S: Store> Coordinator<S> {
     /// The answer of a `create_reference_table`: the table is a reference table, or all is as it was but for the order of spare stores.
     pub fn reference(&mut self, alloc: Global, who: Who, table: &Text) -> Answer
         requires sound { IsSound S.state self.old.cluster }
-        ensures answered { (initial : Settings) (entry : List (Worker S)) → AreWorkers S.state self.old.cluster.nodes entry self.old.cluster.groups.items self.old.cluster.workers.items → IsAnswered rules (run_of self.old.cluster.nodes initial entry) (environment self.old) (environment self.new) who (journals self.old) (journals self.new) (Some (statement.Reference table.now)) result }
+        ensures answered { (initial : Settings) (entry : List (Worker S)) → HasStores S.state entry self.old.cluster → IsAnswered rules (run_of self.old.cluster.nodes initial entry) (environment self.old) (environment self.new) who (journals self.old) (journals self.new) (Some (statement.Reference table.now)) result }
         ensures tag { IsNoCopy result }
         ensures sound { IsSound S.state self.new.cluster }
         ensures stores { KeepsStores S.state self.old.cluster self.new.cluster }
-        ensures accounted { (answers : List Answered) (a : Answered) → a.answer ≡ result → AreAccounted S.state self.old.cluster.catalog answers self.old.cluster.groups.items → AreAccounted S.state self.new.cluster.catalog (answers ++ a ∷ []) self.new.cluster.groups.items }
+        ensures accounted { (answers : List Answered) (a : Answered) → a.answer ≡ result → IsNext who a answers self.old.cluster.groups.items → AreAccounted S.state self.old.cluster.catalog answers self.old.cluster.groups.items → AreAccounted S.state self.new.cluster.catalog (answers ++ a ∷ []) self.new.cluster.groups.items }
     {
         let Ok(told) = notice_of(alloc, "create_reference_table") else {
             return Answer::Failed(Fault::Memory);
@@ -131,7 +131,7 @@ impl<S: Store> Coordinator<S> {
         ensures tag { IsNoCopy result }
         ensures sound { IsSound S.state self.new.cluster }
         ensures stores { KeepsStores S.state self.old.cluster self.new.cluster }
-        ensures accounted { (answers : List Answered) (a : Answered) → a.answer ≡ result → AreAccounted S.state self.old.cluster.catalog answers self.old.cluster.groups.items → AreAccounted S.state self.new.cluster.catalog (answers ++ a ∷ []) self.new.cluster.groups.items }
+        ensures accounted { (answers : List Answered) (a : Answered) → a.answer ≡ result → IsNext who a answers self.old.cluster.groups.items → AreAccounted S.state self.old.cluster.catalog answers self.old.cluster.groups.items → AreAccounted S.state self.new.cluster.catalog (answers ++ a ∷ []) self.new.cluster.groups.items }
     {
         self.settings = with_setting(self.settings, which, value);
         Answer::Tag(Tag::Setting)
