@@ -1,4 +1,4 @@
-ghost use Rattle.std.specs.Prelude.{◌≡◌, ◌<◌, ℕ, [], ◌∷◌, Some, None, IfOk};
+ghost use Rattle.std.specs.Prelude.{◌≡◌, ◌<◌, ℕ, List, [], ◌∷◌, Some, None, IfOk};
 ghost use Rattle.std.specs.List.{AllByRecursion};
 ghost use Rattle.cq_tree.specs.declared.query.Query.{out-Query};
 ghost use Rattle.cq_tree.specs.declared.statement.Statement.TheVariants as statement;
@@ -158,7 +158,7 @@ pub fn answer_query<S: Store>(
     requires some { 0 < nodes }
     requires legal { (g : ℕ) → IsLegal catalog.now g (journal_in (journals_of groups.old.items) g) }
     requires computable { IsReadable catalog.now query.now }
-    ensures answered { (run : Run) (settings : Settings) → run.workers ≡ nodes → refusal_in (environment_at catalog.now settings) (statement.Select query.now) ≡ None → IsAnswered rules run (environment_at catalog.now settings) (environment_at catalog.now settings) who (journals_of groups.old.items) (journals_of groups.new.items) (Some (statement.Select query.now)) result }
+    ensures answered { (run : Run) (settings : Settings) (retired : List ℕ) → run.workers ≡ nodes → refusal_in (environment_at catalog.now settings retired) (statement.Select query.now) ≡ None → IsAnswered rules run (environment_at catalog.now settings retired) (environment_at catalog.now settings retired) who (journals_of groups.old.items) (journals_of groups.new.items) (Some (statement.Select query.now)) result }
     ensures blamed { (node shard before after : ℕ) → result ≡ answer.Failed (fault.Worker node shard before after) → HasFailed S.state node shard before after groups.old.items groups.new.items }
     ensures goes_on { GoOn S.state groups.old.items groups.new.items }
 {

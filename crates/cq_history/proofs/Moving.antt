@@ -24,13 +24,15 @@ use Rattle.cq_answer.specs.declared.fault.Fault.TheVariants as fault
 use Rattle.cq_planning.specs.Touched.{among, numbers}
 use Rattle.cq_history.specs.Run.{Run, Rules, Environment, retiring, after}
 use Rattle.cq_history.specs.Room.{tables_in, free_at, short_at}
-use Rattle.cq_history.specs.Journals.{journal_in, Kinds, none, Step, with_entries, consecutive, kinds_in}
+use Rattle.cq_history.specs.Journals.{journal_in, Kinds, none, in_each, Step, with_entries, consecutive, kinds_in}
 use Rattle.cq_history.specs.Legality.{IsLegalStep}
 use Rattle.cq_history.specs.Moves.{Report, rows_written, written_between, rows_held, IsMove, IsStopped, node_fault, mover_fault, place_fault, move_fault}
-use Rattle.cq_history.specs.Standing.{View, Enters, EntersIn, Yields, Moves, MovesUnless, IsMoved, IsMovedIn, RunsUnless, StandsIn}
+use Rattle.cq_history.specs.Standing.{View, Enters, EntersIn, Yields, Moves, MovesUnless, IsMoved, IsMovedIn, Runs, RunsUnless, StandsIn}
 use Rattle.cq_history.specs.Deeds.{Deed, in_deed, first_seen, deed_over, Grows, Follows, Does}
+use Rattle.cq_history.specs.Faults.{below}
 use Rattle.cq_history.specs.Log.{IsAnswered}
-use Rattle.cq_history.specs.Laws.{look_at, idle, in_one, IsGivenUp, MovesAlone, IsFound, MoveIsAnswered, MoveIsRefused}
+use Rattle.cq_answer.specs.declared.fault.What.TheVariants as what
+use Rattle.cq_history.specs.Laws.{look_at, idle, in_one, IsGivenUp, MovesAlone, IsFound, MoveIsAnswered, MoveIsRefused, EndsNoMove, IsNoMove, OthersMoveNone, FailedKeepsCatalog}
 use Rattle.cq_history.proofs.Answering.{sees}
 use Rattle.cq_history.proofs.Explaining.{among_only, among_numbers, sees_all}
 use Rattle.cq_history.proofs.Lists.{two_ways}
@@ -50,6 +52,18 @@ written_none who k l m j =
     let all = j.entries ++ record { who = who; kind = l } ∷ [] in
     let long = length-append j.entries (record { who = who; kind = l } ∷ []) in
     ap (λ (es : List Entry). sum_by (λ (e : Entry). rows_written e.kind) es) (drop_all (length j.entries + 1) all (omega (arith, long)))
+
+-- ---- what failed
+
+retiring_catalog : (e : Environment) (f : Fault) → (retiring e f).catalog ≡ e.catalog
+retiring_catalog e (fault.Retired node shard before after) = refl
+retiring_catalog e f = refl
+
+pub failed_keeps_catalog : FailedKeepsCatalog
+failed_keeps_catalog e None f = refl
+failed_keeps_catalog e (Some (statement.Move shard from to)) f = retiring_catalog e f
+failed_keeps_catalog e (Some (statement.Rebalance by_size)) f = retiring_catalog e f
+failed_keeps_catalog e (Some s) f = refl
 
 -- ---- what nothing refused
 
@@ -213,11 +227,7 @@ module _ (rules : Rules) (run : Run) (e : Environment) (who : Who) (old : List J
   same_catalog : (a : Answer) → (after e (Some s) a).catalog ≡ e.catalog
   same_catalog (answer.Tag t) = refl
   same_catalog (answer.Table names rows) = refl
-  same_catalog (answer.Failed f) = retiring_catalog f
-    where
-      retiring_catalog : (f : Fault) → (retiring e f).catalog ≡ e.catalog
-      retiring_catalog (fault.Retired node store before after) = refl
-      retiring_catalog f = refl
+  same_catalog (answer.Failed f) = retiring_catalog e f
 
   answered : (new : List Journal) (kinds : List EntryKind) (a : Answer) → move_fault run e.catalog e.retired nodes None group from to ≡ None → MovesAlone e.catalog group from to j kinds a → Grows who (in_one group kinds) old new → length new ≡ length old →
       IsAnswered rules run e (after e (Some s) a) who old new (Some s) a
@@ -308,3 +318,46 @@ move_is_refused rules run e who journals shard from to runs = (
     refused rules run e who journals shard from to runs nodes group f found why (answer.Failed fault.Memory) refl tt,
   ),
 )
+
+-- ---- other statements
+
+ends_each : (groups : List ℕ) (kind : ℕ → EntryKind) → ((g : ℕ) → EndsNoMove (kind g)) → (g : ℕ) → AllByRecursion EndsNoMove (in_each groups kind g)
+ends_each groups kind h g = elim (two_ways (among g groups)) [ inl y ↦ rw y (h g, tt) | inr n ↦ rw n tt ]
+
+entered_each : (d : Deed) (c : Contents) (groups : List ℕ) (kind : ℕ → EntryKind) → ((g : ℕ) → EndsNoMove (kind g)) → Enters (in_deed c d) (in_each groups kind) → (g : ℕ) → AllByRecursion EndsNoMove (kinds_in (d.made g))
+entered_each d c groups kind h enters g = subst (AllByRecursion EndsNoMove) (sym (enters g)) (ends_each groups kind h g)
+
+entered_none : (d : Deed) (c : Contents) → Enters (in_deed c d) none → (g : ℕ) → AllByRecursion EndsNoMove (kinds_in (d.made g))
+entered_none d c enters g = subst (AllByRecursion EndsNoMove) (sym (enters g)) tt
+
+module _ (touched : List ℕ) (run : Run) (e : Environment) (d : Deed) where
+  abbrev Moves_none : Type 0
+  Moves_none = (g : ℕ) → AllByRecursion EndsNoMove (kinds_in (d.made g))
+
+  runs_move_none : (s : Statement) (a : Answer) → IsNoMove s → Runs touched run e (in_deed e.catalog d) s a → Moves_none
+  runs_move_none (statement.CreateTable name columns key) a n h = entered_none d e.catalog h.0
+  runs_move_none (statement.Distribute table column count beside) a n h = entered_none d e.catalog h.0
+  runs_move_none (statement.Reference table) a n h = entered_none d e.catalog h.0
+  runs_move_none (statement.Setting which value) a n h = entered_none d e.catalog h.0
+  runs_move_none (statement.Select q) (answer.Table names rows) n h = entered_each d e.catalog touched (λ g. entry.Read) (λ g. tt) h.1
+  runs_move_none (statement.Select q) (answer.Failed (fault.Limit what.Rows m)) n h = entered_each d e.catalog touched (λ g. entry.Read) (λ g. tt) h.1
+  runs_move_none (statement.Select q) (answer.Failed (fault.Worker node shard before after)) n h = entered_each d e.catalog (below h.group touched) (λ g. entry.Read) (λ g. tt) h.entries
+  runs_move_none (statement.Select q) (answer.Failed fault.Memory) n h = entered_each d e.catalog h.0 (λ g. entry.Read) (λ g. tt) h.2
+  runs_move_none (statement.Explain q) (answer.Table names rows) n h = entered_none d e.catalog h.entries
+  runs_move_none (statement.Explain q) (answer.Failed fault.Memory) n h = entered_none d e.catalog h
+  runs_move_none (statement.Write op) (answer.Tag t) n h = entered_each d e.catalog touched _ (λ g. tt) h.2.entries
+  runs_move_none (statement.Write op) (answer.Failed fault.Duplicate) n h = entered_each d e.catalog (h.group ∷ []) _ (λ g. tt) h.entries
+  runs_move_none (statement.Write op) (answer.Failed fault.ValueOutOfRange) n h = entered_each d e.catalog (h.group ∷ []) _ (λ g. tt) h.entries
+  runs_move_none (statement.Write op) (answer.Failed (fault.Limit what.Ids m)) n h = entered_none d e.catalog h.1.entries
+  runs_move_none (statement.Write op) (answer.Failed (fault.Worker node shard before after)) n h = entered_none d e.catalog h.entries
+  runs_move_none (statement.Write op) (answer.Failed fault.Memory) n h = entered_none d e.catalog h
+  runs_move_none (statement.Move shard from to) a n h = absurd n
+  runs_move_none (statement.Rebalance by_size) a n h = absurd n
+  runs_move_none s a n h = absurd h
+
+  unless_move_none : (o : Option Fault) (s : Statement) (a : Answer) → IsNoMove s → RunsUnless o touched run e (in_deed e.catalog d) s a → Moves_none
+  unless_move_none (Some f) s a n h = entered_none d e.catalog h.0
+  unless_move_none None s a n h = runs_move_none s a n h
+
+pub others_move_none : OthersMoveNone
+others_move_none rules run e who d s a n does = unless_move_none (rules.touched e.catalog s) run e d (rules.refusal e s) s a n does.stands

@@ -43,7 +43,7 @@ use Rattle.cq_planning.specs.Simple.{GivesSimply}
 use Rattle.cq_planning.specs.Reaching.{RowsReach, IsTouchedBy}
 use Rattle.cq_planning.specs.Touched.{among, numbers}
 use Rattle.cq_journal.specs.Records.{Journal}
-use Rattle.cq_history.specs.Journals.{none, Kinds, journal_in, held_in, in_each, with_entries}
+use Rattle.cq_history.specs.Journals.{none, Kinds, journal_in, held_in, in_each, kinds_in, with_entries}
 use Rattle.cq_history.specs.Legality.{LeavesColumn, IsLegal, IsKeyed}
 use Rattle.cq_history.specs.Refusals.{is_alone}
 use Rattle.cq_demands.specs.Demands.{demands, rows_with}
@@ -433,6 +433,25 @@ MoveIsRefused = (rules : Rules) (run : Run) (e : Environment) (who : Who) (journ
     × ((nodes : ℕ → ℕ) (group : ℕ) (f : Fault) → IsFound rules e journals nodes shard from to group → move_fault run e.catalog e.retired nodes None group from to ≡ Some f →
     IsAnswered rules run e e who journals journals (Some (statement.Move shard from to)) (answer.Failed f)
     × IsAnswered rules run e e who journals journals (Some (statement.Move shard from to)) (answer.Failed fault.Memory))
+
+-- an entry with which no move comes to its end
+abbrev pub EndsNoMove : EntryKind → Type 0
+EndsNoMove entry.Cutover = ⊥
+EndsNoMove kind = ⊤
+
+abbrev pub IsNoMove : Statement → Type 0
+IsNoMove (statement.Move shard from to) = ⊥
+IsNoMove (statement.Rebalance by_size) = ⊥
+IsNoMove s = ⊤
+
+-- other statements move no group
+abbrev pub OthersMoveNone : Type 0
+OthersMoveNone = (rules : Rules) (run : Run) (e : Environment) (who : Who) (d : Deed) (s : Statement) (a : Answer) → IsNoMove s → Does rules run e who d (Some s) a →
+    (g : ℕ) → AllByRecursion EndsNoMove (kinds_in (d.made g))
+
+-- what failed leaves the catalogue
+abbrev pub FailedKeepsCatalog : Type 0
+FailedKeepsCatalog = (e : Environment) (bound : Option Statement) (f : Fault) → (after e bound (answer.Failed f)).catalog ≡ e.catalog
 
 -- ---- refusals
 

@@ -4,7 +4,7 @@ ghost use Rattle.cq_history.specs.Laws.{OtherAccounts, FaultAccounts, NewAccount
 ghost use Rattle.cq_history.specs.Laws.{WantedSuffice, JoinsSuffice};
 ghost use Rattle.cq_history.specs.Laws.{LogBegins, LogGoesOn, AnswersGoOn, IdleIsAnswered, DeedIsAnswered, StaysLaidOut, CatalogGoesOn, LogStands};
 ghost use Rattle.cq_history.specs.Laws.{CopyIsAnswered};
-ghost use Rattle.cq_history.specs.Laws.{MadeIsAnswered, RefusedIsAnswered, LacksIsAnswered, ReadIsAnswered, LargeIsAnswered, ReadLacksMemory, ReadFails, WriteFails, WriteLacksMemory, ExplainIsAnswered, RefusalIsAnswered, OpensLaidOut, SeesAll, MoveIsAnswered, MoveIsRefused, CatalogIsAnswered};
+ghost use Rattle.cq_history.specs.Laws.{MadeIsAnswered, RefusedIsAnswered, LacksIsAnswered, ReadIsAnswered, LargeIsAnswered, ReadLacksMemory, ReadFails, WriteFails, WriteLacksMemory, ExplainIsAnswered, RefusalIsAnswered, OpensLaidOut, SeesAll, MoveIsAnswered, MoveIsRefused, OthersMoveNone, FailedKeepsCatalog, CatalogIsAnswered};
 
 /// The reply of a write over the undistributed database, by the replies of its parts in the groups that it touches; and what it
 /// leaves of that database, by what they leave of the groups. Does nothing.
@@ -76,6 +76,8 @@ pub fn answer_laws()
     ensures sees { SeesAll }
     ensures moved { MoveIsAnswered }
     ensures move_refused { MoveIsRefused }
+    ensures others { OthersMoveNone }
+    ensures failed { FailedKeepsCatalog }
     ensures catalog { CatalogIsAnswered }
 {}
 

@@ -1,7 +1,7 @@
 use Rattle.cq_history.proofs.Opening.{opens_laid_out, catalog_is_answered}
 use Rattle.cq_history.proofs.Faults.{read_fails, write_fails}
 use Rattle.cq_history.proofs.Explaining.{explain_is_answered, sees_all}
-use Rattle.cq_history.proofs.Moving.{move_is_answered, move_is_refused}
+use Rattle.cq_history.proofs.Moving.{move_is_answered, move_is_refused, others_move_none, failed_keeps_catalog}
 use Rattle.cq_history.proofs.Copying.{copy_is_answered}
 use Rattle.cq_history.proofs.Answering.{made_is_answered, refused_is_answered, lacks_is_answered, read_is_answered, large_is_answered, read_lacks_memory, write_lacks_memory, refusal_is_answered}
 use Rattle.cq_history.proofs.laws.answer_laws.Goals as goal
@@ -56,3 +56,9 @@ returns-clause-moved c = move_is_answered
 
 pub returns-clause-move_refused : goal.returns-clause-move_refused
 returns-clause-move_refused c = move_is_refused
+
+pub returns-clause-others : goal.returns-clause-others
+returns-clause-others c = others_move_none
+
+pub returns-clause-failed : goal.returns-clause-failed
+returns-clause-failed c = failed_keeps_catalog
