@@ -5,3 +5,4 @@ pub mod PlanAnswers
 pub mod RefusalAnswers
 pub mod Naming
 pub mod Tags
+pub mod Staying

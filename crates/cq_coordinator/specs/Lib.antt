@@ -1,1 +1,2 @@
 pub mod Coordination
+pub mod Moves

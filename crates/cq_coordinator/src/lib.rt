@@ -4,6 +4,7 @@
 mod answer;
 mod coordinator;
 mod definitions;
+mod moves;
 mod notice;
 mod plans;
 mod queries;
