@@ -30,6 +30,7 @@ use Rattle.cq_history.specs.Moves.{Report, rows_written, written_between, rows_h
 use Rattle.cq_history.specs.Standing.{View, Enters, EntersIn, Yields, Moves, MovesUnless, IsMoved, IsMovedIn, Runs, RunsUnless, StandsIn}
 use Rattle.cq_history.specs.Deeds.{Deed, in_deed, first_seen, deed_over, Grows, Follows, Does}
 use Rattle.cq_history.specs.Faults.{below}
+use Rattle.cq_history.specs.Rebalances.{read_for}
 use Rattle.cq_history.specs.Log.{IsAnswered}
 use Rattle.cq_answer.specs.declared.fault.What.TheVariants as what
 use Rattle.cq_history.specs.Laws.{look_at, idle, in_one, IsGivenUp, MovesAlone, IsFound, MoveIsAnswered, MoveIsRefused, EndsNoMove, IsNoMove, OthersMoveNone, FailedKeepsCatalog}
@@ -353,6 +354,10 @@ module _ (touched : List ℕ) (run : Run) (e : Environment) (d : Deed) where
   runs_move_none (statement.Write op) (answer.Failed fault.Memory) n h = entered_none d e.catalog h
   runs_move_none (statement.Move shard from to) a n h = absurd n
   runs_move_none (statement.Rebalance by_size) a n h = absurd n
+  runs_move_none (statement.RebalancePlan by_size) (answer.Table names rows) n h = entered_each d e.catalog (read_for by_size e.catalog) (λ g. entry.Read) (λ g. tt) h.4
+  runs_move_none (statement.RebalancePlan by_size) (answer.Failed (fault.Worker node shard before after)) n h =
+      entered_each d e.catalog (below h.group (read_for by_size e.catalog)) (λ g. entry.Read) (λ g. tt) h.entries
+  runs_move_none (statement.RebalancePlan by_size) (answer.Failed fault.Memory) n h = entered_each d e.catalog h.0 (λ g. entry.Read) (λ g. tt) h.2
   runs_move_none s a n h = absurd h
 
   unless_move_none : (o : Option Fault) (s : Statement) (a : Answer) → IsNoMove s → RunsUnless o touched run e (in_deed e.catalog d) s a → Moves_none

@@ -1,5 +1,5 @@
 -- A view that says more of a statement lets more stand.
-use Rattle.std.proofs.Common.{inl, inr, ℕ, List, Some, None, Option}
+use Rattle.std.proofs.Common.{inl, inr, ℕ, Bool, ◌∷◌, ◌++◌, List, Some, None, Option}
 use Rattle.cq_tree.specs.declared.write.ShardOp.{ShardOp}
 use Rattle.cq_tree.specs.declared.write.Reply.{Reply}
 use Rattle.cq_tree.specs.declared.write.Reply.TheVariants.{Duplicate, OutOfRange}
@@ -17,9 +17,11 @@ use Rattle.cq_answer.specs.declared.fault.Fault.{Fault}
 use Rattle.cq_answer.specs.declared.fault.Fault.TheVariants as fault
 use Rattle.cq_history.specs.Run.{Run, Rules, Environment}
 use Rattle.cq_history.specs.Moves.{move_fault}
+use Rattle.cq_history.specs.Rebalances.{read_for, Made, moves_of}
+use Rattle.cq_balance.specs.declared.load.Move.{Move}
 use Rattle.cq_journal.specs.Records.{Journal}
 use Rattle.cq_history.specs.Journals.{Kinds, Step, none}
-use Rattle.cq_history.specs.Standing.{View, Enters, reads, AreReady, IsMadeIn, IsRefusedIn, LacksIdsIn, IsFaultIn, IsReadFault, IsWriteFault, IsExplained, EntersIn, Moves, MovesUnless, IsMovedIn, Runs, RunsUnless, StandsIn}
+use Rattle.cq_history.specs.Standing.{View, Enters, reads, AreReady, IsMadeIn, IsRefusedIn, LacksIdsIn, IsFaultIn, IsReadFault, IsWriteFault, IsExplained, EntersIn, Moves, MovesUnless, IsMovedIn, IsPlanned, Plans, EntersMoves, NoStep, StopsIn, FailsMove, IsCutOff, Rebalances, Runs, RunsUnless, StandsIn}
 
 module _ (v w : View) (made : (g : ℕ) (P : List Step → Type 0) → v.made g P → w.made g P) (wherever : (P : Tables → Type 0) → v.wherever P → w.wherever P)
     (saw : (g : ℕ) (P : Journal → Type 0) → v.saw g P → w.saw g P) where
@@ -95,6 +97,38 @@ module _ (v w : View) (made : (g : ℕ) (P : List Step → Type 0) → v.made g 
     moves = moves_unless_map (move_fault run e.catalog e.retired h.nodes h.mover group from to) e.catalog group from to a h.moves;
   }
 
+  abbrev planned_map : (by_size : Bool) (run : Run) (c : Contents) (moves : List Move) → IsPlanned by_size run c v moves → IsPlanned by_size run c w moves
+  planned_map by_size run c moves h = record { nodes = h.nodes; sizes = h.sizes; seen = λ g l. saw g _ (h.seen g l); greedy = h.greedy }
+
+  plans_map : (by_size : Bool) (run : Run) (c : Contents) (a : Answer) → Plans by_size run c v a → Plans by_size run c w a
+  plans_map by_size run c (answer.Table names rows) h = (h.0, planned_map by_size run c h.0 h.1, h.2, h.3, enters (reads (read_for by_size c)) h.4)
+  plans_map by_size run c (answer.Failed (fault.Worker node shard before after)) h = read_fault_map run c (read_for by_size c) node shard before after h
+  plans_map by_size run c (answer.Failed fault.Memory) h = (h.0, h.1, enters (reads h.0) h.2)
+  plans_map by_size run c a h = absurd h
+
+  moves_enter_map : (by_size : Bool) (c : Contents) (made : List Made) (Last : ℕ → List Step → Type 0) → EntersMoves by_size c v made Last → EntersMoves by_size c w made Last
+  moves_enter_map by_size c made_so Last h g = made g _ (h g)
+
+  fails_map : (by_size : Bool) (run : Run) (c : Contents) (retired : List ℕ) (nodes : ℕ → ℕ) (made_so : List Made) (m : Move) (f : Fault) → FailsMove by_size run c retired v nodes made_so m f → FailsMove by_size run c retired w nodes made_so m f
+  fails_map by_size run c retired nodes made_so m (fault.NoRoom node free needed) h = (moves_enter_map by_size c made_so NoStep h.0, h.1)
+  fails_map by_size run c retired nodes made_so m (fault.Worker node shard before after) h = (moves_enter_map by_size c made_so NoStep h.0, h.1, h.2, h.3)
+  fails_map by_size run c retired nodes made_so m (fault.Retired node shard before after) h = (moves_enter_map by_size c made_so (StopsIn m) h.0, h.1, h.2, h.3)
+  fails_map by_size run c retired nodes made_so m fault.Memory (inl h) = inl (moves_enter_map by_size c made_so NoStep h)
+  fails_map by_size run c retired nodes made_so m fault.Memory (inr h) = inr (moves_enter_map by_size c made_so (StopsIn m) h)
+  fails_map by_size run c retired nodes made_so m f h = absurd h
+
+  rebalances_map : (by_size : Bool) (run : Run) (c : Contents) (retired : List ℕ) (a : Answer) → Rebalances by_size run c retired v a → Rebalances by_size run c retired w a
+  rebalances_map by_size run c retired (answer.Table names rows) h = (h.0, planned_map by_size run c (moves_of h.0) h.1, h.2, h.3, moves_enter_map by_size c h.0 NoStep h.4)
+  rebalances_map by_size run c retired (answer.Failed f) (inl h) = inl (plans_map by_size run c (answer.Failed f) h)
+  rebalances_map by_size run c retired (answer.Failed f) (inr h) = inr (record {
+    made = h.made;
+    next = h.next;
+    more = h.more;
+    plan = planned_map by_size run c (moves_of h.made ++ h.next ∷ h.more) h.plan;
+    fails = fails_map by_size run c retired h.plan.nodes h.made h.next f h.fails;
+  })
+  rebalances_map by_size run c retired a h = absurd h
+
   runs_map : (touched : List ℕ) (run : Run) (e : Environment) (s : Statement) (a : Answer) → Runs touched run e v s a → Runs touched run e w s a
   runs_map touched run e (statement.CreateTable name columns key) a h = (enters none h.0, h.1)
   runs_map touched run e (statement.Distribute table column count beside) a h = (enters none h.0, h.1, λ g l. saw g _ (h.2 g l), h.3)
@@ -113,6 +147,8 @@ module _ (v w : View) (made : (g : ℕ) (P : List Step → Type 0) → v.made g 
   runs_map touched run e (statement.Write op) (answer.Failed (fault.Worker node shard before after)) h = write_fault_map run e.catalog touched node shard before after h
   runs_map touched run e (statement.Write op) (answer.Failed fault.Memory) h = enters none h
   runs_map touched run e (statement.Move shard from to) a h = moved_map run e shard from to (group_of_shard e.catalog shard) a h
+  runs_map touched run e (statement.RebalancePlan by_size) a h = plans_map by_size run e.catalog a h
+  runs_map touched run e (statement.Rebalance by_size) a h = rebalances_map by_size run e.catalog e.retired a h
   runs_map touched run e s a h = absurd h
 
   unless_map : (f : Option Fault) (touched : List ℕ) (run : Run) (e : Environment) (s : Statement) (a : Answer) → RunsUnless f touched run e v s a → RunsUnless f touched run e w s a

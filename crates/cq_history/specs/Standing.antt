@@ -1,5 +1,5 @@
 -- When an answer stands, and the cause of each refusal. The cases are read once, over a view of the statement.
-use Rattle.std.specs.Prelude.{◌≡◌, ◌⊎◌, ◌+◌, ◌<◌, ◌≤◌, ℕ, ⊤, true, false, nat_eq, pos, List, [], ◌∷◌, map, length, Option, Some, None, option_map, codes}
+use Rattle.std.specs.Prelude.{◌≡◌, ◌⊎◌, ◌+◌, ◌<◌, ◌≤◌, ◌-◌, ◌++◌, ℕ, Bool, ⊤, true, false, nat_eq, pos, List, [], ◌∷◌, map, length, Option, Some, None, option_map, codes}
 use Rattle.std.specs.List.{sum_by}
 use Rattle.cq_value.specs.declared.value.Value.TheVariants as values
 use Rattle.cq_value.specs.declared.schema.Column.{Column}
@@ -34,8 +34,11 @@ use Rattle.cq_answer.specs.declared.fault.Fault.{Fault}
 use Rattle.cq_answer.specs.declared.fault.Fault.TheVariants as fault
 use Rattle.cq_answer.specs.Faults.{fault_of_catalog}
 use Rattle.cq_history.specs.Run.{Run, Rules, Environment}
-use Rattle.cq_history.specs.Room.{room_fault, shards_at}
+use Rattle.cq_history.specs.Room.{tables_in, short_at, room_fault, shards_at}
 use Rattle.cq_history.specs.Moves.{Report, IsMove, IsStopped, move_fault}
+use Rattle.cq_history.specs.Rebalances.{Either, size_of, loads_in, read_for, plan_names, plan_row, Made, moves_of, AreMovesOf, node_after, rebalance_names, rebalance_row}
+use Rattle.cq_balance.specs.Greedy.{greedy}
+use Rattle.cq_balance.specs.declared.load.Move.{Move}
 use Rattle.cq_planning.specs.Database.{shape_in, whole, IsLarge}
 use Rattle.cq_planning.specs.Parts.{part}
 use Rattle.cq_planning.specs.Simple.{GivesSimply}
@@ -257,6 +260,67 @@ abbrev pub IsMovedIn : Run → Environment → View → ℕ → ℕ → ℕ → 
 IsMovedIn run e v shard from to None a = Enters v none × Yields (Some (fault.NoShard shard)) (λ b. ⊥) a
 IsMovedIn run e v shard from to (Some group) a = IsMoved run e.catalog e.retired v group from to a
 
+-- ---- rebalances
+
+-- a plan of moves is the greedy one over the groups as the statement saw them
+pub record IsPlanned (by_size : Bool) (run : Run) (c : Contents) (v : View) (moves : List Move) : Type 0 where
+  pub nodes : ℕ → ℕ
+  pub sizes : ℕ → ℕ
+  pub seen : (g : ℕ) → g < c.groups → v.saw g (λ j. (nodes g ≡ node_of j) × (sizes g ≡ size_of by_size c g j))
+  pub greedy : moves ≡ greedy (loads_in c nodes sizes) run.workers
+
+-- by sizes, there is one Read in each distributed group
+abbrev pub Plans : Bool → Run → Contents → View → Answer → Type 0
+Plans by_size run c v (answer.Table names rows) =
+    (moves : List Move) × IsPlanned by_size run c v moves × (names ≡ plan_names) × (rows ≡ map plan_row moves) × Enters v (reads (read_for by_size c))
+Plans by_size run c v (answer.Failed (fault.Worker node shard before after)) = IsReadFault run c (read_for by_size c) v node shard before after
+Plans by_size run c v (answer.Failed fault.Memory) = (groups : List ℕ) × AreAmong groups (read_for by_size c) × Enters v (reads groups)
+Plans by_size run c v a = ⊥
+
+-- of a group: a Read, where sizes were asked for, then its moves among these, and then such steps
+pub record AreStepsOf (by_size : Bool) (c : Contents) (group : ℕ) (made : List Made) (Last : List Step → Type 0) (steps : List Step) : Type 0 where
+  pub first : List Step
+  pub moves : List Step
+  pub last : List Step
+  pub all : steps ≡ first ++ (moves ++ last)
+  pub reads : kinds_in first ≡ reads (read_for by_size c) group
+  pub moved : AreMovesOf c group made moves
+  pub ends : Last last
+
+abbrev pub EntersMoves : Bool → Contents → View → List Made → (ℕ → List Step → Type 0) → Type 0
+EntersMoves by_size c v made Last = (g : ℕ) → v.made g (AreStepsOf by_size c g made (Last g))
+
+abbrev pub NoStep : ℕ → List Step → Type 0
+NoStep g steps = steps ≡ []
+
+-- the steps of a move that was given up, in its group alone
+abbrev pub StopsIn : Move → ℕ → List Step → Type 0
+StopsIn m g steps = Either (nat_eq m.group g) (IsStopped m.from m.to steps) (steps ≡ [])
+
+-- why a planned move wasn't made, behind these that were: its node has too few spare stores then; or as another move
+abbrev pub FailsMove : Bool → Run → Contents → List ℕ → View → (ℕ → ℕ) → List Made → Move → Fault → Type 0
+FailsMove by_size run c retired v nodes made m (fault.NoRoom node free needed) =
+    EntersMoves by_size c v made NoStep × (short_at run c retired (node_after nodes made) (length (tables_in c m.group)) (m.to - 1) ≡ Some (fault.NoRoom node free needed))
+FailsMove by_size run c retired v nodes made m (fault.Worker node shard before after) = EntersMoves by_size c v made NoStep × IsShardIn c m.group shard × (node ≡ m.from) × Rose before after
+FailsMove by_size run c retired v nodes made m (fault.Retired node shard before after) = EntersMoves by_size c v made (StopsIn m) × IsShardIn c m.group shard × (node ≡ m.to) × Rose before after
+FailsMove by_size run c retired v nodes made m fault.Memory = EntersMoves by_size c v made NoStep ⊎ EntersMoves by_size c v made (StopsIn m)
+FailsMove by_size run c retired v nodes made m f = ⊥
+
+-- a planned move that failed: those before it stand, and none behind it is begun
+pub record IsCutOff (by_size : Bool) (run : Run) (c : Contents) (retired : List ℕ) (v : View) (f : Fault) : Type 0 where
+  pub made : List Made
+  pub next : Move
+  pub more : List Move
+  pub plan : IsPlanned by_size run c v (moves_of made ++ next ∷ more)
+  pub fails : FailsMove by_size run c retired v plan.nodes made next f
+
+-- each planned move is made, or the first that fails is the answer; or the plan itself failed
+abbrev pub Rebalances : Bool → Run → Contents → List ℕ → View → Answer → Type 0
+Rebalances by_size run c retired v (answer.Table names rows) =
+    (made : List Made) × IsPlanned by_size run c v (moves_of made) × (names ≡ rebalance_names) × (rows ≡ map rebalance_row made) × EntersMoves by_size c v made NoStep
+Rebalances by_size run c retired v (answer.Failed f) = Plans by_size run c v (answer.Failed f) ⊎ IsCutOff by_size run c retired v f
+Rebalances by_size run c retired v a = ⊥
+
 -- ---- all statements
 
 -- what the answer of a statement that runs says. Want of memory leaves a query at most one Read in each touched group, and all else no entry.
@@ -283,6 +347,8 @@ Runs touched run e v (statement.Write op) (answer.Failed fault.ValueOutOfRange) 
 Runs touched run e v (statement.Write op) (answer.Failed (fault.Limit what.Ids n)) = (n ≡ most_ids) × LacksIdsIn e.catalog touched v op
 Runs touched run e v (statement.Write op) (answer.Failed (fault.Worker node shard before after)) = IsWriteFault run e.catalog touched v node shard before after
 Runs touched run e v (statement.Write op) (answer.Failed fault.Memory) = Enters v none
+Runs touched run e v (statement.RebalancePlan by_size) a = Plans by_size run e.catalog v a
+Runs touched run e v (statement.Rebalance by_size) a = Rebalances by_size run e.catalog e.retired v a
 Runs touched run e v (statement.Move shard from to) a = IsMovedIn run e v shard from to (group_of_shard e.catalog shard) a
 Runs touched run e v s a = ⊥
 
