@@ -7,7 +7,7 @@ use Rattle.cq_words.specs.declared.settled.Settled.{Settled}
 use Rattle.cq_top.specs.declared.ending.Ending.TheVariants.{Usage, Memory}
 use Rattle.cq_top.specs.Scripts.{IsHalted, Serves}
 use Rattle.cq_top.specs.Serving.{Writes}
-use Rattle.cq_top.specs.Runs.{IsMisused, IsWhole, Stand, asked, settled_or}
+use Rattle.cq_top.specs.Runs.{IsMisused, IsWhole, Stand, asked, settled_or, journals_of, retired_in}
 use Rattle.cq_top.proofs.RunLaws.{final_idle, accounts_idle, empty_whole, empty_stands, reads_no_usage, well_used, rose_in_all, never_in_all}
 use Rattle.cq_top.proofs.Refused.{refused_run, shown_at_once}
 use Rattle.cq_top.proofs.running.run_over.Goals as goal
@@ -40,10 +40,10 @@ returns-in-Ok-clause-ran g c = record {
 }
 
 pub returns-in-Ok-clause-last : goal.returns-in-Ok-clause-last
-returns-in-Ok-clause-last g c = subst (λ (v : Settled). IsFinal g.S.Store.state v.workers c.args.workers.now.items c.run_script-ending.new.log.catalog c.run_script-ending.new.log.journals.list c.run_script-ending.new.workers.items) (sym (ap settled_or c.in-Ok.ensures.ok.0)) c.run_script-ending.ensures.last
+returns-in-Ok-clause-last g c = subst (λ (v : Settled). IsFinal g.S.Store.state v.workers c.args.workers.now.items c.run_script-ending.new.log.catalog (retired_in c.run_script-ending.new.log) c.run_script-ending.new.log.journals.list c.run_script-ending.new.workers.items) (sym (ap settled_or c.in-Ok.ensures.ok.0)) c.run_script-ending.ensures.last
 
 pub returns-in-Ok-clause-accounts : goal.returns-in-Ok-clause-accounts
-returns-in-Ok-clause-accounts g c = subst (λ (v : Settled). AllAccounted g.S.Store.state v.workers c.run_script-ending.new.log.answers c.run_script-ending.new.workers.items) (sym (ap settled_or c.in-Ok.ensures.ok.0)) c.run_script-ending.ensures.accounts
+returns-in-Ok-clause-accounts g c = subst (λ (v : Settled). AllAccounted g.S.Store.state v.workers c.run_script-ending.new.log.catalog (journals_of c.run_script-ending.new.log) c.run_script-ending.new.log.answers c.run_script-ending.new.workers.items) (sym (ap settled_or c.in-Ok.ensures.ok.0)) c.run_script-ending.ensures.accounts
 
 pub returns-in-Err-clause-stand : goal.returns-in-Err-clause-stand
 returns-in-Err-clause-stand g c = empty_stands (asked (map string_bytes c.args.words.now)) c.args.workers.now.items c.args.log.now c.requires.fresh
@@ -60,7 +60,13 @@ returns-in-Err-clause-ran g c =
     (λ before h. c.end_with-in-Err.ensures.writes before c.args.log.now.answers (shown_at_once plain c.in-Err.ending before (g.K.Sink.shown c.args.sink.now) c.args.log.now.answers c.requires.fresh.answers h)) c.end_with-in-Err.ensures.sink c.end_with-in-Err.ensures.blames
 
 pub returns-in-Err-clause-last : goal.returns-in-Err-clause-last
-returns-in-Err-clause-last g c = final_idle (asked (map string_bytes c.args.words.now)).workers g.S.Store.state c.args.log.now.catalog c.args.log.now.journals.list c.args.workers.now.items c.requires.idle c.requires.fresh.journals
+returns-in-Err-clause-last g c = final_idle (asked (map string_bytes c.args.words.now)).workers g.S.Store.state c.args.log.now.catalog c.args.log.now.journals.list c.args.workers.now.items c.requires.idle c.requires.fresh.journals (retired_in c.args.log.now) (ap (map (λ (r : _). r.node)) c.requires.fresh.retired)
 
 pub returns-in-Err-clause-accounts : goal.returns-in-Err-clause-accounts
-returns-in-Err-clause-accounts g c = accounts_idle (asked (map string_bytes c.args.words.now)).workers g.S.Store.state c.args.log.now.answers c.args.workers.now.items c.requires.idle
+returns-in-Err-clause-accounts g c = accounts_idle (asked (map string_bytes c.args.words.now)).workers g.S.Store.state c.args.log.now.catalog (journals_of c.args.log.now) c.args.log.now.answers c.args.workers.now.items c.requires.idle
+
+pub returns-in-Ok-clause-retired : goal.returns-in-Ok-clause-retired
+returns-in-Ok-clause-retired g c = c.run_script-ending.ensures.retired
+
+pub returns-in-Err-clause-retired : goal.returns-in-Err-clause-retired
+returns-in-Err-clause-retired g c = rw c.requires.fresh.retired tt
