@@ -1,4 +1,4 @@
-use Rattle.std.proofs.Common.{◌≡◌, ◌∙◌, sym, subst, inl, refl, arith, List, ℕ, length}
+use Rattle.std.proofs.Common.{◌≡◌, ◌∙◌, sym, subst, ap, map, inl, refl, arith, List, ℕ, length}
 use Rattle.cq_answer.specs.declared.answered.Answered.{Answered}
 use Rattle.cq_cluster.specs.Accounts.{AllAccounted}
 use Rattle.cq_cluster.specs.Ending.{IsFinal}
