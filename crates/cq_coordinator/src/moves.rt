@@ -21,6 +21,7 @@ use cq_value::{Names, NoMemory, Row, Rows, Text, Value};
 use std::alloc::Global;
 
 /// The table that a move is answered, with the numbers of a report.
+#[derive(Drop)]
 struct ReportTable {
     names: Names,
     rows: Rows,
