@@ -1,5 +1,5 @@
 -- A move, step after step.
-use Rattle.std.proofs.Common.{◌≡◌, ◌∙◌, inl, inr, ◌≤◌, ℕ, Some, None, List, [], ◌∷◌, ◌++◌, length, refl, sym, ap, subst, vec_capacity}
+use Rattle.std.proofs.Common.{◌≡◌, ◌∙◌, inl, inr, ◌≤◌, ℕ, None, List, [], ◌∷◌, ◌++◌, length, refl, sym, ap, subst, vec_capacity}
 use Rattle.std.specs.List.{AllZip, sum_by}
 use Rattle.std.proofs.lemmas.List.{append_assoc}
 use Rattle.std.proofs.lemmas.List.Elements.{length_all_zip}
