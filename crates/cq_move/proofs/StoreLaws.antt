@@ -1,5 +1,5 @@
 -- The stores that are given to a move, until they are given back.
-use Rattle.std.proofs.Common.{◌≡◌, ◌∙◌, ◌⊎◌, inl, inr, ◌<◌, ◌≤◌, ℕ, suc, IsTrue, false, List, [], ◌∷◌, ◌++◌, length, Result, Ok, Err, IfOk, IfErr, OnErr, refl, sym, ap, subst, arith}
+use Rattle.std.proofs.Common.{◌≡◌, ◌∙◌, ◌⊎◌, inl, inr, ◌≤◌, ℕ, suc, IsTrue, List, [], ◌∷◌, ◌++◌, Result, Ok, Err, IfOk, IfErr, OnErr, refl, sym, ap, subst, arith}
 use Rattle.std.specs.List.{AllByRecursion, AllZip, flat_map, Contains}
 use Rattle.cq_tree.specs.declared.journal.Entry.{Entry}
 use Rattle.cq_store.specs.Stores.{StoreState}
@@ -10,9 +10,9 @@ use Rattle.cq_group.specs.declared.start.MoveWhy.{MoveWhy}
 use Rattle.cq_group.specs.Groups.{Outline}
 use Rattle.cq_group.specs.Calls.{GoesOn, Failed, Lifted, Blames, SomeZip}
 use Rattle.cq_group.specs.Incoming.{IsArriving, IsIncomingTable, Adopts, why_told}
-use Rattle.cq_group.proofs.Zips.{zip_refl, zip_trans, zip_weaker, some_before}
+use Rattle.cq_group.proofs.Zips.{zip_refl, zip_trans, some_before}
 use Rattle.cq_group.proofs.Turns.{rests, rests_go_on, goes_on_more}
-use Rattle.cq_move.specs.Outcomes.{IsTried, Broke, HasBroken, EndsMove, shards_in}
+use Rattle.cq_move.specs.Outcomes.{IsTried, Broke, EndsMove, shards_in}
 use Rattle.cq_move.specs.Steps.{IsToldBy}
 
 tried : (old new : StoreState) → new.node ≡ old.node → new.steady ≡ old.steady → old.faults ≤ new.faults → (IsTrue old.steady → new.faults ≡ old.faults) → IsTried old new

@@ -1,5 +1,5 @@
 -- The first element that passes a test, and the list without it; the store that ended a move is found.
-use Rattle.std.proofs.Common.{◌≡◌, ◌∙◌, ◌<◌, ◌≤◌, ℕ, zero, suc, Bool, true, false, cond, if◌then◌else◌, Option, Some, None, List, [], ◌∷◌, ◌++◌, ◌&&◌, inl, inr, IsSome, eq-eqb, nat_le, nat_eq, length, get_or, ◌⊎◌, refl, sym, ap, subst, arith}
+use Rattle.std.proofs.Common.{◌≡◌, ◌∙◌, ◌<◌, ◌≤◌, ℕ, zero, suc, Bool, true, false, cond, if◌then◌else◌, Some, None, List, [], ◌∷◌, ◌++◌, ◌&&◌, inl, inr, IsSome, eq-eqb, nat_le, nat_eq, length, get_or, ◌⊎◌, refl, sym, ap, subst, arith}
 use Rattle.std.specs.List.{HoldsAt, find, remove}
 use Rattle.std.proofs.lemmas.Bool.{le-leb}
 use Rattle.cq_store.specs.Stores.{StoreState}

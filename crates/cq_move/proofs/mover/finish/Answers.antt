@@ -7,7 +7,7 @@ use Rattle.cq_group.proofs.TableLaws.{blames_later}
 use Rattle.cq_group.proofs.WriteLaws.{goes_on_twice}
 use Rattle.cq_move.specs.Steps.{CanStop}
 use Rattle.cq_move.proofs.StoreLaws.{go_on_twice}
-use Rattle.cq_move.proofs.StepLaws.{stops_after, incoming_upto}
+use Rattle.cq_move.proofs.StepLaws.{stops_after}
 use Rattle.cq_move.proofs.mover.finish.Goals as goal
 
 pub returns-in-Err-clause-goes_on : goal.returns-in-Err-clause-goes_on

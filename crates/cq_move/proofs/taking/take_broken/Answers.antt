@@ -1,5 +1,4 @@
-use Rattle.std.proofs.Common.{◌≡◌, ◌∙◌, ◌<◌, ◌≤◌, refl, sym, subst, Some, None, find, below_more, rules, arith, length, true, false}
-use Rattle.std.specs.List.{HoldsAt}
+use Rattle.std.proofs.Common.{◌≡◌, ◌∙◌, ◌<◌, sym, subst, Some, None, find, below_more, rules, length, true, false}
 use Rattle.std.proofs.lemmas.List.Elements.{at_read}
 use Rattle.cq_move.specs.Taking.{is_broken, without_first}
 use Rattle.cq_move.proofs.TakeLaws.{first_found, none_found}
