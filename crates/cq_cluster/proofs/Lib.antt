@@ -1,3 +1,4 @@
+pub mod CountLaws
 pub mod ListLaws
 pub mod WaitingLaws
 pub mod ShardLaws
