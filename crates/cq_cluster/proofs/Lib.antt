@@ -9,6 +9,7 @@ pub mod TargetLaws
 pub mod CatalogLaws
 pub mod JournalLaws
 pub mod RoomLaws
+pub mod HeldLaws
 pub mod AccountLaws
 pub mod SoundLaws
 pub mod MakingLaws
