@@ -23,7 +23,7 @@ use Rattle.cq_store.specs.Stores.{StoreState}
 use Rattle.cq_group.specs.declared.group.GroupState.{GroupState}
 use Rattle.cq_group.specs.Groups.{entries_of, stores_of}
 use Rattle.cq_cluster.specs.declared.retired.Retired.{Retired}
-use Rattle.cq_cluster.specs.Accounts.{moved_by, later_than, AreAccounted, IsNext, NamesNone, NamesFailed, is_retiring, StandsFor, AreRetired, Retires, HasMoved, MovedIsAccounted, RetiredNamesNone, RetiresOn, MoveRetires, RebalanceRetires}
+use Rattle.cq_cluster.specs.Accounts.{moved_by, later_than, AreAccounted, IsNext, NamesNone, NamesFailed, tells_retired, is_retiring, StandsFor, AreRetired, Retires, HasMoved, MovedIsAccounted, RetiredNamesNone, RetiresOn, MoveRetires, RebalanceRetires}
 use Rattle.cq_cluster.proofs.ListLaws.{zip_both}
 use Rattle.cq_cluster.proofs.AccountLaws.{GroupAccounts}
 use Rattle.cq_cluster.proofs.AnswerLaws.{same_group, still_below}
@@ -68,21 +68,28 @@ names_failed_none state a old new none n m b f e = absurd (none n m b f e)
 
 -- ---- retired stores
 
+-- the answer, where it tells of a retired store
+abbrev one_or_none : Answered → List Answered
+one_or_none a = cond (is_retiring a) (a ∷ []) []
+
+last_retiring : (answers : List Answered) (a : Answered) → filter is_retiring (answers ++ a ∷ []) ≡ filter is_retiring answers ++ one_or_none a
+last_retiring answers a = filter-append is_retiring answers (a ∷ [])
+
+abbrev with_retired : Environment → List ℕ → Environment
+with_retired e retired = record e { retired = retired }
+
 module _ {X : Type 0} where
-  abbrev one_or_none : Answered → List Answered
-  one_or_none a = cond (is_retiring a) (a ∷ []) []
-
-  last_retiring : (answers : List Answered) (a : Answered) → filter is_retiring (answers ++ a ∷ []) ≡ filter is_retiring answers ++ one_or_none a
-  last_retiring answers a = filter-append is_retiring answers (a ∷ [])
-
   -- what stands for the last answer
-  stands_last : (a : Answered) (old new : List (Retired X)) → Retires (who_of a) a.answer old new → (last : List (Retired X)) × (new ≡ old ++ last) × AllZip StandsFor (one_or_none a) last
-  stands_last (record { session = session; statement = n; settings = settings; bound = bound; answer = answer.Failed (fault.Retired node shard before after) }) old new h =
+  stands_by : (a : Answered) (b : Answer) (old new : List (Retired X)) → a.answer ≡ b → Retires (who_of a) b old new → (last : List (Retired X)) × (new ≡ old ++ last) × AllZip StandsFor (cond (tells_retired b) (a ∷ []) []) last
+  stands_by a (answer.Failed (fault.Retired node shard before after)) old new e h =
       let r = h.0 in
       let told : answer.Failed (fault.Retired node shard before after) ≡ answer.Failed (fault.Retired r.node shard r.before r.after) =
       ap (λ k. answer.Failed (fault.Retired k shard before after)) (sym h.3) ∙ ap (λ k. answer.Failed (fault.Retired r.node shard k after)) (sym h.4) ∙ ap (λ k. answer.Failed (fault.Retired r.node shard r.before k)) (sym h.5) in
-      (r ∷ [], h.1, ((shard, told, h.2), tt))
-  stands_last a old new h = ([], h ∙ sym (append-nil old), tt)
+      (r ∷ [], h.1, ((shard, e ∙ told, h.2), tt))
+  stands_by a b old new e h = ([], h ∙ sym (append-nil old), tt)
+
+  stands_last : (a : Answered) (old new : List (Retired X)) → Retires (who_of a) a.answer old new → (last : List (Retired X)) × (new ≡ old ++ last) × AllZip StandsFor (one_or_none a) last
+  stands_last a old new h = stands_by a a.answer old new refl h
 
   pub retires_on : RetiresOn X
   retires_on answers who a old new is h are =
@@ -94,9 +101,6 @@ module _ {X : Type 0} where
 
   abbrev nodes_of : List (Retired X) → List ℕ
   nodes_of retired = map (λ (r : Retired X). r.node) retired
-
-  abbrev with_retired : Environment → List ℕ → Environment
-  with_retired e retired = record e { retired = retired }
 
   same_retired : (e : Environment) (old new : List (Retired X)) → e.retired ≡ nodes_of old → new ≡ old → e ≡ with_retired e (nodes_of new)
   same_retired e old new now same = ap (with_retired e) (now ∙ ap nodes_of (sym same))

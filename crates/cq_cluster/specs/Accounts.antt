@@ -8,6 +8,7 @@ use Rattle.cq_answer.specs.declared.fault.Fault.TheVariants as fault
 use Rattle.cq_catalog.specs.Contents.{Contents}
 use Rattle.cq_tree.specs.declared.journal.Who.{Who}
 use Rattle.cq_tree.specs.declared.journal.Entry.{Entry}
+use Rattle.cq_tree.specs.declared.journal.EntryKind.{EntryKind}
 use Rattle.cq_tree.specs.declared.journal.EntryKind.TheVariants.{Cutover}
 use Rattle.cq_tree.specs.declared.statement.Statement.TheVariants as statement
 use Rattle.cq_journal.specs.Records.{Journal}
@@ -25,13 +26,14 @@ use Rattle.cq_cluster.specs.declared.cluster.Cluster.{Cluster}
 use Rattle.cq_cluster.specs.declared.retired.Retired.{Retired}
 use Rattle.cq_cluster.specs.Cluster.{IsSound}
 
--- the number of the statement that moved a group last, by its entries: 0 where none did
-abbrev pub mover_of : ℕ → Entry → ℕ
-mover_of n (record { who = who; kind = Cutover }) = who.statement
-mover_of n e = n
+-- the statement that moved a group last, after an entry of this kind: that of the entry where the group was moved by it
+abbrev pub mover_after : ℕ → ℕ → EntryKind → ℕ
+mover_after last statement Cutover = statement
+mover_after last statement kind = last
 
+-- the number of the statement that moved a group last, by its entries: 0 where none did
 abbrev pub moved_by : List Entry → ℕ
-moved_by es = fold mover_of 0 es
+moved_by es = fold (λ n (e : Entry). mover_after n e.who.statement e.kind) 0 es
 
 -- the answers to statements after this one
 abbrev pub later_than : ℕ → List Answered → List Answered
@@ -63,9 +65,12 @@ AllAccounted {X} state nodes c journals answers workers =
 -- ---- retired stores
 
 -- an answer that tells of a store which is retired
+abbrev pub tells_retired : Answer → Bool
+tells_retired (answer.Failed (fault.Retired node shard before after)) = true
+tells_retired a = false
+
 abbrev pub is_retiring : Answered → Bool
-is_retiring (record { session = session; statement = n; settings = settings; bound = bound; answer = answer.Failed (fault.Retired node shard before after) }) = true
-is_retiring a = false
+is_retiring a = tells_retired a.answer
 
 -- a store that was retired stands for such an answer: of the statement that tells of it, on this node and with these counts
 abbrev pub StandsFor : {X : Type 0} → Answered → Retired X → Type 0
