@@ -178,9 +178,9 @@ module _ {X : Type 0} (state : X → StoreState) (nodes : ℕ) where
   all_used node (x ∷ xs) low high all = ((omega (arith, all.0, low), omega (arith, all.0, high)), all_used node xs low high all.1)
 
   -- a group that is on one node leaves all its stores there, and none elsewhere
-  leaves_own : {A : Type 0} (Own : List X → Type 0) (place at node : ℕ) (stores own : List X) → at ≡ node → 0 < node → own ≡ cond (nat_eq node (place + 1)) stores [] → Own stores →
+  leaves_own : (A : Type 0) (Own : List X → Type 0) (place at node : ℕ) (stores own : List X) → at ≡ node → 0 < node → own ≡ cond (nat_eq node (place + 1)) stores [] → Own stores →
       Either (nat_eq at 0) A (Either (nat_eq at (place + 1)) (Own own) (own ≡ []))
-  leaves_own {A} Own place at node stores own same low exact of = subst (λ n. Either (nat_eq n 0) A (Either (nat_eq n (place + 1)) (Own own) (own ≡ []))) (sym same) (rw off by_place)
+  leaves_own A Own place at node stores own same low exact of = subst (λ n. Either (nat_eq n 0) A (Either (nat_eq n (place + 1)) (Own own) (own ≡ []))) (sym same) (rw off by_place)
     where
       off : nat_eq node 0 ≡ false
       off = ne_eqb node 0 (λ e. absurd (omega (arith, e, low)))
@@ -203,7 +203,8 @@ module _ {X : Type 0} (state : X → StoreState) (nodes : ℕ) where
       record {
         kept = is.kept;
         used = all_used g.node (stores_of g) low is.node.few all;
-        own = λ place h. leaves_own (λ (v : List X). AreOfGroup c g.journal (map state v)) place (node_of (record_of g.journal)) g.node (stores_of g) (stores_at state place (stores_of g)) is.placed low
+        own = λ place h. leaves_own (AreOfReference c g.journal (place + 1) (map state (stores_at state place (stores_of g)))) (λ (v : List X). AreOfGroup c g.journal (map state v)) place (node_of (record_of g.journal)) g.node (stores_of g)
+            (stores_at state place (stores_of g)) is.placed low
             (all_at place g.node (stores_of g) all) (of_group c colocation i co g there_is within is);
         count = λ place h. let exact = ap length (all_at place g.node (stores_of g) all) in rw off (counted (nat_eq g.node (place + 1)) (stores_of g) exact);
       }
@@ -278,7 +279,8 @@ module _ {X : Type 0} (state : X → StoreState) (nodes : ℕ) where
         used = subst (AllByRecursion IsUsed) (sym exact) (used_from es t.0.table t.0.shape t.0.shard 0 stores on_all (omega (arith, number)));
         own = λ place h.
             let here = one place h in
-            leaves_copy (AreOfReference c g.journal (place + 1) (map state (stores_at state place (stores_of g)))) _ (node_of (record_of g.journal)) (is.placed ∙ is.node) (record {
+            leaves_copy (AreOfReference c g.journal (place + 1) (map state (stores_at state place (stores_of g)))) (Either (nat_eq (node_of (record_of g.journal)) (place + 1)) (AreOfGroup c g.journal (map state (stores_at state place (stores_of g)))) (stores_at state place (stores_of g) ≡ []))
+            (node_of (record_of g.journal)) (is.placed ∙ is.node) (record {
               table = table;
               shard = shard;
               placed = placed ∙ ap (λ n. Reference n shard) (sym is.number);
