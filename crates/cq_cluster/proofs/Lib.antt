@@ -16,6 +16,8 @@ pub mod MakingLaws
 pub mod ClosingLaws
 pub mod EndingLaws
 pub mod AnswerLaws
+pub mod FinalLaws
+pub mod RetiringLaws
 pub mod DistributeLaws
 pub mod PlanLaws
 pub mod DoneLaws
