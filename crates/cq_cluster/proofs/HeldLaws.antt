@@ -1,5 +1,5 @@
 -- The stores that a cluster's groups have on a node are as many as the catalogue says.
-use Rattle.std.proofs.Common.{◌≡◌, ◌≢◌, ◌⊎◌, inl, inr, ℕ, zero, suc, ◌+◌, ◌<◌, ◌≤◌, Bool, true, false, cond, List, [], ◌∷◌, ◌++◌, length, map, filter, refl, sym, ap, subst, ◌∙◌, arith, Some, None, Option, IsSome, slice_get, length-append, eq-eqb}
+use Rattle.std.proofs.Common.{◌≡◌, ◌≢◌, ◌⊎◌, inl, inr, ℕ, zero, suc, ◌+◌, ◌-◌, ◌<◌, ◌≤◌, Bool, true, false, cond, List, [], ◌∷◌, ◌++◌, length, map, filter, refl, sym, ap, subst, ◌∙◌, arith, Some, None, Option, IsSome, slice_get, length-append, eq-eqb}
 use Rattle.std.specs.Prelude.{nat_eq, nat_le, nat_lt}
 use Rattle.std.specs.List.{AllByRecursion, sum_by, flat_map}
 use Rattle.std.proofs.lemmas.Bool.{ne_eqb}
@@ -33,6 +33,10 @@ two_ways false = inr refl
 
 abbrev pub table_numbers : List Outline → List ℕ
 table_numbers os = map (λ (o : Outline). o.0) os
+
+abbrev first_number : List Outline → ℕ
+first_number [] = 0
+first_number (o ∷ os) = o.0
 
 named : (os : List Outline) (table : ℕ) → among table (table_numbers os) ≡ true → IsSome (shape_at os table)
 named [] table h = cc
@@ -198,7 +202,7 @@ module _ {X : Type 0} (state : X → StoreState) (nodes : ℕ) (c : Contents) (g
       only_among n m a = elim (eqb_tells n m) [ inl y ↦ y.1 | inr z ↦ absurd (let bad : false ≡ true = rw z.0 at a in cc) ]
 
       only_same : (n m : ℕ) (a b : Shape) (i j k l : ℕ) → ◌≡◌ {A = List Outline} ((n, a, i, k) ∷ []) ((m, b, j, l) ∷ []) → n ≡ m
-      only_same n m a b i j k l e = cc
+      only_same n m a b i j k l e = ap (λ (os : List Outline). first_number os) e
 
   -- a distributed table has one store in a group
   single_stores : (node copies : ℕ) (es : List Entry) (ts : List (GroupTable X)) → AllByRecursion (IsTableKept state node copies es) ts → copies ≡ 1 → length (flat_map (λ (t : GroupTable X). t.stores.items) ts) ≡ length ts
@@ -237,23 +241,24 @@ module _ {X : Type 0} (state : X → StoreState) (nodes : ℕ) (c : Contents) (g
 
 -- ---- all groups
 
-module _ {X : Type 0} (c : Contents) (place : ℕ) where
-  abbrev share : (ℕ → ℕ) → ℕ → ℕ
-  share node h = cond (is_on (node h) (place + 1)) (length (tables_in c h)) 0
+-- how many stores of the node at a place a group has, by the catalogue
+abbrev pub share : Contents → ℕ → (ℕ → ℕ) → ℕ → ℕ
+share c place node h = cond (is_on (node h) (place + 1)) (length (tables_in c h)) 0
 
+module _ {X : Type 0} (c : Contents) (place : ℕ) where
   -- the groups from a number on
   held_from : (node : ℕ → ℕ) (low : ℕ) (gs : List (GroupState X)) → ((i : ℕ) (g : GroupState X) → slice_get gs i ≡ Some g → (node (low + i) ≡ g.node) × (g.node ≡ place + 1 → length (stores_of g) ≡ length (tables_in c (low + i)))
-      × (g.node ≡ 0 → length (outlines g) ≡ length (tables_in c (low + i)))) → held place gs + everywhere gs ≡ sum_by (share node) (numbers low (length gs))
+      × (g.node ≡ 0 → length (outlines g) ≡ length (tables_in c (low + i)))) → held place gs + everywhere gs ≡ sum_by (share c place node) (numbers low (length gs))
   held_from node low [] all = refl
   held_from node low (g ∷ gs) all =
       let first = all 0 g refl in
       let index : low + 0 ≡ low = omega arith in
       let at : node low ≡ g.node = sym (ap node index) ∙ first.0 in
-      let further : held place gs + everywhere gs ≡ sum_by (share node) (numbers (low + 1) (length gs)) =
+      let further : held place gs + everywhere gs ≡ sum_by (share c place node) (numbers (low + 1) (length gs)) =
       held_from node (low + 1) gs (λ i h s. subst (λ m. (node m ≡ h.node) × (h.node ≡ place + 1 → length (stores_of h) ≡ length (tables_in c m)) × (h.node ≡ 0 → length (outlines h) ≡ length (tables_in c m)))
       (let e : low + suc i ≡ low + 1 + i = omega arith in e) (all (suc i) h s)) in
-      let more : sum_by (share node) (low ∷ numbers (low + 1) (length gs)) ≡ share node low + sum_by (share node) (numbers (low + 1) (length gs)) = sum_more (share node) low (numbers (low + 1) (length gs)) in
-      let own : cond (nat_eq g.node (place + 1)) (length (stores_of g)) 0 + cond (nat_eq g.node 0) (length (outlines g)) 0 ≡ share node low =
+      let more : sum_by (share c place node) (low ∷ numbers (low + 1) (length gs)) ≡ share c place node low + sum_by (share c place node) (numbers (low + 1) (length gs)) = sum_more (share c place node) low (numbers (low + 1) (length gs)) in
+      let own : cond (nat_eq g.node (place + 1)) (length (stores_of g)) 0 + cond (nat_eq g.node 0) (length (outlines g)) 0 ≡ share c place node low =
       one g low (λ e. first.1 e ∙ ap (λ m. length (tables_in c m)) index) (λ e. first.2 e ∙ ap (λ m. length (tables_in c m)) index) ∙ ap (λ m. cond (is_on m (place + 1)) (length (tables_in c low)) 0) (sym at) in
       omega (arith, further, more, own)
     where
@@ -263,7 +268,7 @@ module _ {X : Type 0} (c : Contents) (place : ℕ) where
         | inl y ↦
             let off : nat_eq g.node (place + 1) ≡ false = ne_eqb g.node (place + 1) (λ e. absurd (let z = y.1 in omega (arith, e, z))) in
             let same = copies y.1 in
-            rw (off, y.0) same
+            rw (off, y.0) (omega (arith, same))
         | inr z ↦ elim (eqb_tells g.node (place + 1)) [
           | inl y ↦ (let same = stores y.1 in rw (y.0, z.0) (omega (arith, same)))
           | inr n ↦ rw (n.0, z.0) refl

@@ -1,7 +1,9 @@
 -- The workers' lists, as each node gives a store for a reference table, and gets it back.
-use Rattle.std.proofs.Common.{◌≡◌, ℕ, zero, suc, ◌+◌, ◌<◌, List, [], ◌∷◌, ◌++◌, length, map, get_or, refl, sym, ap, subst, ◌∙◌, arith, inl, inr, Some, slice_get}
+use Rattle.std.proofs.Common.{◌≡◌, ◌≢◌, ℕ, zero, suc, ◌+◌, ◌<◌, ◌≤◌, true, false, List, [], ◌∷◌, ◌++◌, length, map, get_or, refl, sym, ap, subst, ◌∙◌, arith, inl, inr, Some, slice_get}
+use Rattle.std.specs.Prelude.{nat_lt}
 use Rattle.std.proofs.Math.ListN.{set}
-use Rattle.std.proofs.Math.Nat.{mod-eq_of_lt}
+use Rattle.std.proofs.lemmas.Bool.{cases_lt}
+use Rattle.std.proofs.lemmas.Bool.Decides.{nat_tests}
 use Rattle.std.proofs.lemmas.Option.{slice_get_read}
 use Rattle.cq_store.specs.Stores.{StoreState}
 use Rattle.cq_store.specs.Workers.{room}
@@ -12,10 +14,29 @@ use Rattle.cq_group.specs.declared.group.GroupState.{GroupState}
 use Rattle.cq_group.specs.Groups.{IsKept, IsQuiet, Outline, outlines, entries_of}
 use Rattle.cq_group.specs.Opening.{AreFresh, AreFreshFrom, first_shard, AreSpareFrom}
 use Rattle.cq_cluster.specs.Steps.{IsStoreOf, IsAdopted, AllWait, Lacks}
-use Rattle.cq_cluster.specs.References.{AreCopies, AreOnEach, HaveLent, IsNewReference}
+use Rattle.cq_cluster.specs.References.{AreCopies, AreOnEach, lent_at, HaveLent, IsNewReference}
 use Rattle.cq_cluster.proofs.ListLaws.{there, got_more}
-use Rattle.cq_cluster.proofs.RoomLaws.{next_here, fewer_on}
 use Rattle.cq_cluster.proofs.AddingLaws.{one_spent, one_back, none_spent}
+
+-- ---- the stores that are lent
+
+lent_not : (place : ℕ) → lent_at place place ≡ 0
+lent_not place = let no : nat_lt place place ≡ false = grind (arith, nat_tests) in rw no refl
+
+pub lent_here : (n place : ℕ) → place < n → lent_at n place ≡ 1
+lent_here n place less = let yes : nat_lt place n ≡ true = grind (arith, nat_tests, less) in rw yes refl
+
+lent_next : (place : ℕ) → lent_at (place + 1) place ≡ lent_at place place + 1
+lent_next place = lent_here (place + 1) place (omega arith) ∙ sym (ap (λ n. n + 1) (lent_not place))
+
+lent_other : (place k : ℕ) → k ≢ place → lent_at (place + 1) k ≡ lent_at place k
+lent_other place k apart = elim (cases_lt k place) [
+  | inl less ↦ lent_here (place + 1) k (omega (arith, less)) ∙ sym (lent_here place k less)
+  | inr more ↦
+      let no : nat_lt k place ≡ false = grind (arith, nat_tests, more) in
+      let not_yet : nat_lt k (place + 1) ≡ false = (let above : place + 1 ≤ k = omega (arith, more, apart) in grind (arith, nat_tests, above)) in
+      rw (no, not_yet) refl
+]
 
 module _ {X : Type 0} (state : X → StoreState) where
   -- ---- a worker at its place
@@ -41,8 +62,8 @@ module _ {X : Type 0} (state : X → StoreState) where
       let before = there full workers place w w lent.spent.same_length s in
       let is = lent.spent.used place (get_or full place w) w h before s in
       let has = (lent.stores place (get_or full place w) h before).2 in
-      let less = fewer_on nodes lent.some place nodes place h (sym (mod-eq_of_lt h)) in
-      (lender nodes place place full workers w lent h s, omega (arith, is.0.total, has, less))
+      let none = lent_not place in
+      (lender nodes place place full workers w lent h s, omega (arith, is.0.total, has, none))
 
   -- the last one that gave has room for its store
   pub can_take : (nodes place : ℕ) (full workers : List (Worker X)) (w : Worker X) → HaveLent state nodes (place + 1) full workers → slice_get workers place ≡ Some w → IsLender place workers w × (0 < room w.stores)
@@ -50,7 +71,7 @@ module _ {X : Type 0} (state : X → StoreState) where
       let h : place < nodes = omega (arith, lent.few) in
       let before = there full workers place w w lent.spent.same_length s in
       let is = lent.spent.used place (get_or full place w) w h before s in
-      let more = next_here nodes lent.some place place (sym (mod-eq_of_lt h)) in
+      let more = lent_here (place + 1) place (omega arith) in
       (lender nodes (place + 1) place full workers w lent h s, omega (arith, is.0.room, more))
 
   -- ---- one step
@@ -62,7 +83,7 @@ module _ {X : Type 0} (state : X → StoreState) where
     enough = lent.enough;
     few = omega (arith, h);
     stores = lent.stores;
-    spent = one_spent state nodes lent.some full workers place place w new (sym (mod-eq_of_lt h)) lent.spent s lacks wait;
+    spent = one_spent state nodes full workers (lent_at place) (lent_at (place + 1)) place w new h (lent_next place) (lent_other place) lent.spent s lacks wait;
   }
 
   pub lent_same : (nodes n place : ℕ) (full workers : List (Worker X)) (w new : Worker X) → HaveLent state nodes n full workers → place < nodes → slice_get workers place ≡ Some w → Lacks 0 w new → AllWait state new → HaveLent state nodes n full (set workers place new)
@@ -71,7 +92,7 @@ module _ {X : Type 0} (state : X → StoreState) where
     enough = lent.enough;
     few = lent.few;
     stores = lent.stores;
-    spent = none_spent state nodes lent.some full workers n place w new h lent.spent s lacks wait;
+    spent = none_spent state nodes full workers (lent_at n) place w new h lent.spent s lacks wait;
   }
 
   pub lent_less : (nodes place : ℕ) (full workers : List (Worker X)) (w new : Worker X) → HaveLent state nodes (place + 1) full workers → slice_get workers place ≡ Some w → Lacks 1 new w → AllWait state new → HaveLent state nodes place full (set workers place new)
@@ -82,7 +103,7 @@ module _ {X : Type 0} (state : X → StoreState) where
         enough = lent.enough;
         few = omega (arith, h);
         stores = lent.stores;
-        spent = one_back state nodes lent.some full workers place place w new (sym (mod-eq_of_lt h)) lent.spent s lacks wait;
+        spent = one_back state nodes full workers (lent_at place) (lent_at (place + 1)) place w new h (lent_next place) (lent_other place) lent.spent s lacks wait;
       }
 
   -- ---- the stores

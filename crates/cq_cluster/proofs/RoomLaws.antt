@@ -16,6 +16,9 @@ two_ways : (b : Bool) → (b ≡ true) ⊎ (b ≡ false)
 two_ways true = inl refl
 two_ways false = inr refl
 
+abbrev one_if : Bool → ℕ
+one_if b = cond b 1 0
+
 -- ---- the next shard
 
 numbers_last : (low n : ℕ) → numbers low (suc n) ≡ numbers low n ++ (low + n) ∷ []
@@ -46,7 +49,7 @@ module _ (node : ℕ → ℕ) where
   -- and not on another
   pub next_elsewhere : (n place : ℕ) → node n ≢ place + 1 → shards_on node (n + 1) place ≡ shards_on node n place
   next_elsewhere n place apart =
-      let other : cond (nat_eq (node n) (place + 1)) 1 0 ≡ 0 = ap (λ (b : Bool). cond b 1 0) (ne_eqb (node n) (place + 1) apart) in
+      let other : ◌≡◌ {A = ℕ} (cond (nat_eq (node n) (place + 1)) 1 0) 0 = ap (λ (b : Bool). one_if b) (ne_eqb (node n) (place + 1) apart) in
       let next = next_on n place in
       omega (arith, next, other)
 
