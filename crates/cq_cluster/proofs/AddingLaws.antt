@@ -70,6 +70,13 @@ module _ {X : Type 0} (state : X → StoreState) (nodes : ℕ) where
     unused = λ k l. got_other now place new k (λ e. absurd (omega (arith, e, l, h))) ∙ p.unused k l;
   }
 
+  pub spent_alike : (old now : List (Worker X)) (out other : ℕ → ℕ) → ((place : ℕ) → other place ≡ out place) → AreSpent state nodes out old now → AreSpent state nodes other old now
+  spent_alike old now out other same p = record {
+    same_length = p.same_length;
+    used = λ place v w h s t. let at = p.used place v w h s t in (subst (λ n. Lacks n v w) (sym (same place)) at.0, at.1);
+    unused = p.unused;
+  }
+
   pub one_spent : (old now : List (Worker X)) (out more : ℕ → ℕ) (place : ℕ) (w new : Worker X) → place < nodes → more place ≡ out place + 1 → ((k : ℕ) → k ≢ place → more k ≡ out k) → AreSpent state nodes out old now → slice_get now place ≡ Some w →
       Lacks 1 w new → AllWait state new → AreSpent state nodes more old (set now place new)
   one_spent old now out more place w new h one same p there_is lacks wait =

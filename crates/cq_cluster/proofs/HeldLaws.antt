@@ -112,23 +112,23 @@ pub record IsReferredIn (c : Contents) (h n : ℕ) : Type 0 where
   pub placed : place_at c n ≡ Reference h shard
 
 pub has_shard_by : (c : Contents) (h n : ℕ) → has_shard c h n ≡ true → IsSpreadIn c h n ⊎ IsReferredIn c h n
-has_shard_by c h n yes = by_place (place_at c n) refl
+has_shard_by c h n has = by_place (place_at c n) refl
   where
     by_place : (p : Place) → place_at c n ≡ p → IsSpreadIn c h n ⊎ IsReferredIn c h n
-    by_place Local e = absurd (let bad : false ≡ true = sym (local_test c h n e) ∙ yes in cc)
+    by_place Local e = absurd (let bad : false ≡ true = sym (local_test c h n e) ∙ has in cc)
     by_place (Distributed at colocation first_shard) e = by_item (slice_get c.colocations colocation) refl
       where
         by_item : (o : Option Colocation) → slice_get c.colocations colocation ≡ o → IsSpreadIn c h n ⊎ IsReferredIn c h n
         by_item None s =
-            let test : is_within 0 0 h ≡ true = sym (spread_test c h n at colocation first_shard e ∙ ap (λ (o : Option Colocation). is_within (first_group_in o) (count_in o) h) s) ∙ yes in
+            let test : is_within 0 0 h ≡ true = sym (spread_test c h n at colocation first_shard e ∙ ap (λ (o : Option Colocation). is_within (first_group_in o) (count_in o) h) s) ∙ has in
             let bad = inside 0 0 h test in
             absurd (omega (arith, bad.1))
         by_item (Some co) s =
-            let test : is_within co.first_group co.count h ≡ true = sym (spread_test c h n at colocation first_shard e ∙ ap (λ (o : Option Colocation). is_within (first_group_in o) (count_in o) h) s) ∙ yes in
+            let test : is_within co.first_group co.count h ≡ true = sym (spread_test c h n at colocation first_shard e ∙ ap (λ (o : Option Colocation). is_within (first_group_in o) (count_in o) h) s) ∙ has in
             let both = inside co.first_group co.count h test in
             inl (record { at = at; colocation = colocation; first_shard = first_shard; co = co; i = h - co.first_group; placed = e; there = s; within = omega (arith, both.0, both.1); is = omega (arith, both.0) })
     by_place (Reference group shard) e =
-        let same : nat_eq h group ≡ true = sym (referred_test c h n group shard e) ∙ yes in
+        let same : nat_eq h group ≡ true = sym (referred_test c h n group shard e) ∙ has in
         elim (eqb_tells h group) [
           | inl y ↦ inr (record { shard = shard; placed = e ∙ ap (λ m. Reference m shard) (sym y.1) })
           | inr z ↦ absurd (let bad : false ≡ true = sym z.0 ∙ same in cc)
@@ -157,7 +157,7 @@ module _ {X : Type 0} (state : X → StoreState) (nodes : ℕ) (c : Contents) (g
             ∙ ap (λ (o : Option Colocation). is_within (first_group_in o) (count_in o) h) was.there
             ∙ ap (is_within was.co.first_group was.co.count) was.is
             ∙ is_inside was.co.first_group was.co.count was.i was.within;
-        all = λ n below yes. elim (has_shard_by c h n yes) [
+        all = λ n below has. elim (has_shard_by c h n has) [
           | inl p ↦
               let same : was.colocation ≡ p.colocation = all.apart was.colocation p.colocation was.co p.co was.i p.i was.there p.there was.within p.within (sym was.is ∙ p.is) in
               numbered (outlines g) n (at.complete n p.at p.first_shard (p.placed ∙ ap (λ m. Distributed p.at m p.first_shard) (sym same)))
@@ -184,7 +184,7 @@ module _ {X : Type 0} (state : X → StoreState) (nodes : ℕ) (c : Contents) (g
         differ = (refl, tt);
         low = λ n a. subst (λ m. m < length c.tables) (sym (only_among n was.table a)) (placed_below c was.table _ was.placed (apart h was.shard));
         pass = λ n a. ap (has_shard c h) (only_among n was.table a) ∙ referred_test c h was.table h was.shard was.placed ∙ eq-eqb h h refl;
-        all = λ n below yes. elim (has_shard_by c h n yes) [
+        all = λ n below has. elim (has_shard_by c h n has) [
           | inl p ↦
               let own = all.each p.colocation p.i p.co g p.there p.within (subst (λ m. slice_get groups m ≡ Some g) p.is s) in
               absurd (let used = own.node.some in omega (arith, used, at.node))

@@ -37,9 +37,9 @@ use Rattle.cq_cluster.specs.Cluster.{IsShardOf, held, everywhere, AreGroups, Are
 use Rattle.cq_cluster.specs.Accounts.{AreAccounted}
 use Rattle.cq_cluster.specs.Steps.{shortage, IsUndone}
 use Rattle.cq_cluster.specs.References.{lent_at, HaveLent, IsNewReference, IsReferencePlanned}
-use Rattle.cq_cluster.proofs.LendingLaws.{lent_here}
+use Rattle.cq_cluster.proofs.LendingLaws.{lent_here, lent_none}
 use Rattle.cq_cluster.proofs.GoneLaws.{placed_empty}
-use Rattle.cq_cluster.proofs.AddingLaws.{spent_none}
+use Rattle.cq_cluster.proofs.AddingLaws.{spent_none, spent_alike}
 use Rattle.cq_cluster.proofs.CatalogLaws.{before_more, last_there, all_weaker, covered_again, reference_still, other_place, own_place, same_shape, placed_group}
 use Rattle.cq_cluster.proofs.JournalLaws.{AreNew, opened_grow, opens_referenced}
 use Rattle.cq_cluster.proofs.AccountLaws.{AreFrom, put_accounted}
@@ -158,7 +158,7 @@ module _ {X : Type 0} (state : X → StoreState) (cl : Cluster X) (table : List 
     enough = s.enough;
     few = omega arith;
     stores = have_stores state cl.nodes s.some cl.groups.items s.workers.0 cl.workers.items (retired_nodes cl) (λ place. 1) s.enough s.workers.1 room;
-    spent = spent_none state cl.nodes cl.workers.items (all_wait state cl s);
+    spent = spent_alike state cl.nodes cl.workers.items cl.workers.items (λ place. 0) (lent_at 0) lent_none (spent_none state cl.nodes cl.workers.items (all_wait state cl s));
   }
 
 -- ---- the second look of the catalogue, which is as it was
@@ -181,7 +181,7 @@ module _ {X : Type 0} (state : X → StoreState) (old new : Cluster X) where
   pub given_back : IsSound state old → new.catalog ≡ old.catalog → new.nodes ≡ old.nodes → new.retired ≡ old.retired → new.groups.items ≡ old.groups.items → HaveLent state old.nodes 0 old.workers.items new.workers.items → IsAsItWas state old new
   given_back s same nodes retired groups lent =
       as_it_was state old new s same nodes retired
-      (subst (λ (gs : List (GroupState X)). IsUndone state old.nodes old.groups.items old.workers.items gs new.workers.items) (sym groups) (record { gone = (still_sound state old s).gone; spent = lent.spent }))
+      (subst (λ (gs : List (GroupState X)). IsUndone state old.nodes old.groups.items old.workers.items gs new.workers.items) (sym groups) (record { gone = (still_sound state old s).gone; spent = spent_alike state old.nodes old.workers.items new.workers.items (lent_at 0) (λ place. 0) (λ place. sym (lent_none place)) lent.spent }))
 
   -- ---- the table is a reference table
 
