@@ -298,7 +298,7 @@ module _ {X : Type 0} (state : X → StoreState) where
       subst (λ (v : List Answered). Account state v (stores_of h)) (sym (ap (λ n. later_than n (answers ++ a ∷ [])) stay ∙ next_later who a answers groups i g next at)) account
 
 module _ {X : Type 0} (state : X → StoreState) (answers : List Answered) (a : Answered) (cl : Cluster X) (new : List (GroupState X)) (who : Who) (s : IsSound state cl) (go : GoOn state cl.groups.items new) (stay : StayMoved cl.groups.items new)
-  (next : IsNext who a answers cl.groups.items) (all : AreAccounted state cl.catalog answers cl.groups.items) where
+    (next : IsNext who a answers cl.groups.items) (all : AreAccounted state cl.catalog answers cl.groups.items) where
   -- the groups in which no store is named
   group_others : (group : ℕ) (g h : GroupState X) → slice_get cl.groups.items group ≡ Some g → slice_get new group ≡ Some h → AllByRecursion (λ (x : X). range_in (state x).node (state x).shard a.answer ≡ []) (stores_of g) →
       GroupAccounts state (answers ++ a ∷ []) h

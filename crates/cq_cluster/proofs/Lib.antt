@@ -18,6 +18,7 @@ pub mod EndingLaws
 pub mod AnswerLaws
 pub mod FinalLaws
 pub mod RetiringLaws
+pub mod NextLaws
 pub mod DistributeLaws
 pub mod PlanLaws
 pub mod DoneLaws
