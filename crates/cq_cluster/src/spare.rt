@@ -1,40 +1,60 @@
-ghost use Rattle.std.specs.Prelude.{◌≡◌, ◌<◌, ◌+◌, ◌≤◌, ◌-◌, ◌/◌, ℕ, List, Some, None, slice_get, length, OnOk, IfErr};
-ghost use Rattle.cq_cluster.specs.Room.{shards_on as shards_at};
-ghost use Rattle.cq_cluster.specs.Cluster.{stores_in, most_nodes};
-ghost use Rattle.cq_cluster.specs.Steps.{short_of, shortage};
+ghost use Rattle.std.specs.Prelude.{◌≡◌, ◌<◌, ◌+◌, ◌≤◌, ℕ, false, List, Some, None, slice_get, length, OnOk, IfErr};
+ghost use Rattle.cq_history.specs.Room.{node_for as node_of_shard, shards_at};
+ghost use Rattle.cq_cluster.specs.Cluster.{node_in, stores_in, most_nodes};
+ghost use Rattle.cq_cluster.specs.Steps.{AreThere, short_of, shortage};
 
 use cq_answer::Fault;
+use cq_catalog::Opened;
+use cq_group::GroupState;
 use cq_store::Worker;
 
-/// How many of so many shards are on the node at this place, of so many nodes.
-fn shards_on(nodes: u32, count: u32, place: u32) -> u64
-    requires place { place < nodes }
+/// The node of a table's i-th shard: the nodes take turns, where its groups are opened for it, and else it is its group's.
+fn node_for<S>(groups: &Vec<GroupState<S>>, nodes: u32, opened: &Opened, i: u32) -> u32
+    requires some { 0 < nodes }
     requires most { nodes ≤ most_nodes }
-    requires few { count ≤ 128 }
-    ensures { result ≡ shards_at nodes count place }
+    requires there { opened.now.fresh ≡ false → (opened.now.first_group + i < length groups.now.items) × (opened.now.first_group + i < 512) }
+    ensures { result ≡ node_of_shard nodes (node_in groups.now.items) opened.now i }
 {
-    u64::from((count + nodes - 1 - place) / nodes)
+    if opened.fresh {
+        i % nodes + 1
+    } else {
+        groups[(opened.first_group + i) as usize].node
+    }
 }
 
-/// Checks that the worker at this place has a store for each of its shards, of so many.
+/// How many of a table's shards are on the node at this place.
+fn shards_on<S>(
+    groups: &Vec<GroupState<S>>,
+    nodes: u32,
+    opened: &Opened,
+    place: u32,
+) -> u64
+    requires some { 0 < nodes }
+    requires most { nodes ≤ most_nodes }
+    requires there { AreThere groups.now.items opened.now }
+    requires place { place < nodes }
+    ensures { result ≡ shards_at nodes (node_in groups.now.items) opened.now place }
+{
+    let mut count = 0;
+    for i in 0..opened.count {
+        if node_for(groups, nodes, opened, i) == place + 1 {
+            count += 1;
+        }
+    }
+    count
+}
+
+/// Checks that the worker at this place has so many stores in its list.
 ///
 /// Errors: it has fewer.
 #[tactic(auto, unfolding(crate::specs::Steps::short_of))]
-fn check_worker<S>(
-    workers: &Vec<Worker<S>>,
-    nodes: u32,
-    count: u32,
-    place: u32,
-) -> Result<(), Fault>
-    requires place { place < nodes }
-    requires most { nodes ≤ most_nodes }
-    requires few { count ≤ 128 }
-    requires enough { nodes ≤ length workers.now.items }
-    ensures ok { OnOk result (short_of nodes count place (stores_in (slice_get workers.now.items place)) ≡ None) }
-    ensures err { IfErr result (λ f. short_of nodes count place (stores_in (slice_get workers.now.items place)) ≡ Some f) }
+fn check_worker<S>(workers: &Vec<Worker<S>>, place: u32, needed: u64) -> Result<(), Fault>
+    requires place { place < most_nodes }
+    requires there { place < length workers.now.items }
+    ensures ok { OnOk result (short_of needed place (stores_in (slice_get workers.now.items place)) ≡ None) }
+    ensures err { IfErr result (λ f. short_of needed place (stores_in (slice_get workers.now.items place)) ≡ Some f) }
 {
     let free = workers[place as usize].stores().len() as u64;
-    let needed = shards_on(nodes, count, place);
     if free < needed {
         return Err(Fault::NoRoom {
             node: place + 1,
@@ -45,18 +65,42 @@ fn check_worker<S>(
     Ok(())
 }
 
-/// Checks that the first workers, so many, have a store for each of so many shards.
+/// Checks that the first workers, so many, have a store for each of a table's shards.
 ///
 /// Errors: the lowest node that has fewer.
-pub fn check_room<S>(workers: &Vec<Worker<S>>, nodes: u32, count: u32) -> Result<(), Fault>
+pub fn check_room<S>(
+    workers: &Vec<Worker<S>>,
+    groups: &Vec<GroupState<S>>,
+    nodes: u32,
+    opened: &Opened,
+) -> Result<(), Fault>
+    requires some { 0 < nodes }
     requires most { nodes ≤ most_nodes }
-    requires few { count ≤ 128 }
+    requires there { AreThere groups.now.items opened.now }
     requires enough { nodes ≤ length workers.now.items }
-    ensures ok { OnOk result (shortage nodes count workers.now.items ≡ None) }
-    ensures err { IfErr result (λ f. shortage nodes count workers.now.items ≡ Some f) }
+    ensures ok { OnOk result (shortage nodes (shards_at nodes (node_in groups.now.items) opened.now) workers.now.items ≡ None) }
+    ensures err { IfErr result (λ f. shortage nodes (shards_at nodes (node_in groups.now.items) opened.now) workers.now.items ≡ Some f) }
 {
     for place in 0..nodes {
-        if let Err(short) = check_worker(workers, nodes, count, place) {
+        let needed = shards_on(groups, nodes, opened, place);
+        if let Err(short) = check_worker(workers, place, needed) {
+            return Err(short);
+        }
+    }
+    Ok(())
+}
+
+/// Checks that each of the first workers, so many, has a store.
+///
+/// Errors: the lowest node that has none.
+pub fn check_each<S>(workers: &Vec<Worker<S>>, nodes: u32) -> Result<(), Fault>
+    requires most { nodes ≤ most_nodes }
+    requires enough { nodes ≤ length workers.now.items }
+    ensures ok { OnOk result (shortage nodes (λ place. 1) workers.now.items ≡ None) }
+    ensures err { IfErr result (λ f. shortage nodes (λ place. 1) workers.now.items ≡ Some f) }
+{
+    for place in 0..nodes {
+        if let Err(short) = check_worker(workers, place, 1) {
             return Err(short);
         }
     }

@@ -1,9 +1,12 @@
-use Rattle.cq_cluster.proofs.PlanLaws.{few_shards, refused_by, short_by}
+use Rattle.cq_cluster.proofs.PlanLaws.{groups_there, refused_by, short_by}
 use Rattle.cq_cluster.proofs.cluster.Cluster.plan.Goals as goal
 
-pub check_room-requires-clause-few : goal.check_room-requires-clause-few
-check_room-requires-clause-few g c =
-    few_shards g.S.Store.state c.args.self.now c.args.table.now c.args.column.now c.args.count c.args.with.now c.args.default c.in-Ok.opened c.requires.sound c.in-Ok.ensures.allowed c.in-Ok.ensures.opened
+pub check_room-requires-clause-some : goal.check_room-requires-clause-some
+check_room-requires-clause-some g c = c.requires.sound.some
+
+pub check_room-requires-clause-there : goal.check_room-requires-clause-there
+check_room-requires-clause-there g c =
+    groups_there g.S.Store.state c.args.self.now c.args.table.now c.args.column.now c.args.count c.args.with.now c.args.default c.in-Ok.opened c.requires.sound c.in-Ok.ensures.allowed c.in-Ok.ensures.opened
 
 pub check_room-requires-clause-most : goal.check_room-requires-clause-most
 check_room-requires-clause-most g c = c.requires.sound.few
