@@ -1,12 +1,7 @@
 -- Statements that move no group, and retire no store.
-use Rattle.std.proofs.Common.{◌≡◌, ◌<◌, ℕ, List, [], ◌∷◌, ◌++◌, length, map, refl, sym, ◌∙◌, ap, arith, Some, None, Option, slice_get, Result, Ok, Err}
-use Rattle.std.specs.Prelude.{fold}
+use Rattle.std.proofs.Common.{◌≡◌, ℕ, List, [], ◌∷◌, refl, Some, None, Option, Result, Ok, Err}
 use Rattle.std.specs.List.{AllByRecursion}
-use Rattle.std.proofs.lemmas.List.{length-map}
-use Rattle.std.proofs.lemmas.List.Sums.{fold-append}
-use Rattle.std.proofs.lemmas.Option.{slice_get_within}
 use Rattle.cq_tree.specs.declared.journal.Who.{Who}
-use Rattle.cq_tree.specs.declared.journal.Entry.{Entry}
 use Rattle.cq_tree.specs.declared.journal.EntryKind.{EntryKind}
 use Rattle.cq_tree.specs.declared.journal.EntryKind.TheVariants.{Read, Write, MoveStart, CatchUp, Cutover, MoveStop}
 use Rattle.cq_tree.specs.declared.query.Query.{Query}
@@ -16,47 +11,47 @@ use Rattle.cq_tree.specs.declared.write.ShardOp.{ShardOp}
 use Rattle.cq_tree.specs.declared.write.ShardOp.TheVariants.{Insert, Update, Remove}
 use Rattle.cq_tree.specs.declared.write.Reply.{Reply}
 use Rattle.cq_tree.specs.declared.write.Reply.TheVariants.{Count, Duplicate, OutOfRange}
-use Rattle.cq_journal.specs.Records.{Journal}
 use Rattle.cq_answer.specs.declared.answer.Answer.{Answer}
 use Rattle.cq_answer.specs.declared.answer.Answer.TheVariants as answer
 use Rattle.cq_answer.specs.declared.fault.Fault.{Fault}
 use Rattle.cq_answer.specs.declared.fault.Fault.TheVariants as fault
 use Rattle.cq_history.specs.Run.{Run, Rules, Environment}
-use Rattle.cq_history.specs.Journals.{journal_in, kinds_in}
+use Rattle.cq_history.specs.Journals.{kinds_in}
 use Rattle.cq_history.specs.Standing.{View, RunsUnless}
 use Rattle.cq_history.specs.Log.{IsAnswered}
-use Rattle.cq_history.specs.Laws.{EndsNoMove, IsNoMove}
+use Rattle.cq_history.specs.Laws.{IsOfNoMove, IsNoMove}
 use Rattle.cq_history.proofs.Moving.{others_move_none}
 use Rattle.cq_group.specs.declared.group.GroupState.{GroupState}
-use Rattle.cq_group.specs.Groups.{entries_of, journal_of}
 use Rattle.cq_group.specs.Resting.{journals_of}
 use Rattle.cq_groups.specs.declared.error.WriteError.{WriteError}
 use Rattle.cq_groups.specs.declared.error.WriteError.TheVariants.{Ids, Worker, Memory}
 use Rattle.cq_groups.specs.Answers.{answer_by}
-use Rattle.cq_cluster.specs.Accounts.{mover_of, moved_by, StayMoved, Retires}
+use Rattle.cq_cluster.specs.Accounts.{StayMoved, StayStill, Retires}
 use Rattle.cq_cluster.specs.declared.retired.Retired.{Retired}
-use Rattle.cq_cluster.proofs.JournalLaws.{journal_at}
+use Rattle.cq_cluster.proofs.NextLaws.{AreOfNoMove, grown_unmoved, grown_still}
 
--- entries with which no move ends
-moved_more : (who : Who) (n : ℕ) (ks : List EntryKind) → AllByRecursion EndsNoMove ks → fold mover_of n (map (λ (k : EntryKind). record { who = who; kind = k }) ks) ≡ n
-moved_more who n [] h = refl
-moved_more who n (Read ∷ ks) h = moved_more who n ks h.1
-moved_more who n (Write op reply ∷ ks) h = moved_more who n ks h.1
-moved_more who n (MoveStart to ∷ ks) h = moved_more who n ks h.1
-moved_more who n (CatchUp ∷ ks) h = moved_more who n ks h.1
-moved_more who n (Cutover ∷ ks) h = absurd h.0
-moved_more who n (MoveStop ∷ ks) h = moved_more who n ks h.1
+none_of_move : (ks : List EntryKind) → AllByRecursion IsOfNoMove ks → AreOfNoMove ks
+none_of_move [] h = tt
+none_of_move (Read ∷ ks) h = (refl, none_of_move ks h.1)
+none_of_move (Write op reply ∷ ks) h = (refl, none_of_move ks h.1)
+none_of_move (MoveStart to ∷ ks) h = absurd h.0
+none_of_move (CatchUp ∷ ks) h = absurd h.0
+none_of_move (Cutover ∷ ks) h = absurd h.0
+none_of_move (MoveStop ∷ ks) h = absurd h.0
 
-pub stay_moved : {X : Type 0} (rules : Rules) (run : Run) (e next : Environment) (who : Who) (s : Statement) (a : Answer) (old new : List (GroupState X)) → IsNoMove s →
-    IsAnswered rules run e next who (journals_of old) (journals_of new) (Some s) a → StayMoved old new
-stay_moved {X} rules run e next who s a old new none w i g h og nh =
-    let before : journal_in (journals_of old) i ≡ journal_of g = journal_at old i g og in
-    let behind : journal_in (journals_of new) i ≡ journal_of h = journal_at new i h nh in
-    let within : i < length (journals_of old) = (let n = slice_get_within old i g og in let l = length-map old (λ (v : GroupState X). journal_of v) in omega (arith, n, l)) in
-    let ks = kinds_in (w.deed.made i) in
-    let all : entries_of h ≡ entries_of g ++ map (λ (k : EntryKind). record { who = who; kind = k }) ks =
-    ap (λ (j : Journal). j.entries) (sym behind ∙ w.follows.grows.kept i within) ∙ ap (λ (j : Journal). j.entries ++ map (λ (k : EntryKind). record { who = who; kind = k }) ks) before in
-    ap moved_by all ∙ fold-append mover_of 0 (entries_of g) (map (λ (k : EntryKind). record { who = who; kind = k }) ks) ∙ moved_more who (moved_by (entries_of g)) ks (others_move_none rules run e who w.deed s a none w.does i)
+module _ {X : Type 0} (rules : Rules) (run : Run) (e next : Environment) (who : Who) (s : Statement) (a : Answer) (old new : List (GroupState X)) (none : IsNoMove s)
+    (w : IsAnswered rules run e next who (journals_of old) (journals_of new) (Some s) a) where
+  abbrev added : ℕ → List EntryKind
+  added g = kinds_in (w.deed.made g)
+
+  abbrev quiet : (g : ℕ) → AreOfNoMove (kinds_in (w.deed.made g))
+  quiet g = none_of_move (kinds_in (w.deed.made g)) (others_move_none rules run e who w.deed s a none w.does g)
+
+  pub stay_moved : StayMoved old new
+  stay_moved = grown_unmoved who (λ g. kinds_in (w.deed.made g)) old new w.follows.grows quiet
+
+  pub stay_still : StayStill old new
+  stay_still = grown_still who (λ g. kinds_in (w.deed.made g)) old new w.follows.grows quiet
 
 -- ---- stores
 

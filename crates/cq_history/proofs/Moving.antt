@@ -33,7 +33,7 @@ use Rattle.cq_history.specs.Faults.{below}
 use Rattle.cq_history.specs.Rebalances.{read_for}
 use Rattle.cq_history.specs.Log.{IsAnswered}
 use Rattle.cq_answer.specs.declared.fault.What.TheVariants as what
-use Rattle.cq_history.specs.Laws.{look_at, idle, in_one, IsGivenUp, MovesAlone, IsFound, MoveIsAnswered, MoveIsRefused, EndsNoMove, IsNoMove, OthersMoveNone, FailedKeepsCatalog}
+use Rattle.cq_history.specs.Laws.{look_at, idle, in_one, IsGivenUp, MovesAlone, IsFound, MoveIsAnswered, MoveIsRefused, IsOfNoMove, IsNoMove, OthersMoveNone, FailedKeepsCatalog}
 use Rattle.cq_history.proofs.Answering.{sees}
 use Rattle.cq_history.proofs.Explaining.{among_only, among_numbers, sees_all}
 use Rattle.cq_history.proofs.Lists.{two_ways}
@@ -322,18 +322,18 @@ move_is_refused rules run e who journals shard from to runs = (
 
 -- ---- other statements
 
-ends_each : (groups : List ℕ) (kind : ℕ → EntryKind) → ((g : ℕ) → EndsNoMove (kind g)) → (g : ℕ) → AllByRecursion EndsNoMove (in_each groups kind g)
+ends_each : (groups : List ℕ) (kind : ℕ → EntryKind) → ((g : ℕ) → IsOfNoMove (kind g)) → (g : ℕ) → AllByRecursion IsOfNoMove (in_each groups kind g)
 ends_each groups kind h g = elim (two_ways (among g groups)) [ inl y ↦ rw y (h g, tt) | inr n ↦ rw n tt ]
 
-entered_each : (d : Deed) (c : Contents) (groups : List ℕ) (kind : ℕ → EntryKind) → ((g : ℕ) → EndsNoMove (kind g)) → Enters (in_deed c d) (in_each groups kind) → (g : ℕ) → AllByRecursion EndsNoMove (kinds_in (d.made g))
-entered_each d c groups kind h enters g = subst (AllByRecursion EndsNoMove) (sym (enters g)) (ends_each groups kind h g)
+entered_each : (d : Deed) (c : Contents) (groups : List ℕ) (kind : ℕ → EntryKind) → ((g : ℕ) → IsOfNoMove (kind g)) → Enters (in_deed c d) (in_each groups kind) → (g : ℕ) → AllByRecursion IsOfNoMove (kinds_in (d.made g))
+entered_each d c groups kind h enters g = subst (AllByRecursion IsOfNoMove) (sym (enters g)) (ends_each groups kind h g)
 
-entered_none : (d : Deed) (c : Contents) → Enters (in_deed c d) none → (g : ℕ) → AllByRecursion EndsNoMove (kinds_in (d.made g))
-entered_none d c enters g = subst (AllByRecursion EndsNoMove) (sym (enters g)) tt
+entered_none : (d : Deed) (c : Contents) → Enters (in_deed c d) none → (g : ℕ) → AllByRecursion IsOfNoMove (kinds_in (d.made g))
+entered_none d c enters g = subst (AllByRecursion IsOfNoMove) (sym (enters g)) tt
 
 module _ (touched : List ℕ) (run : Run) (e : Environment) (d : Deed) where
   abbrev Moves_none : Type 0
-  Moves_none = (g : ℕ) → AllByRecursion EndsNoMove (kinds_in (d.made g))
+  Moves_none = (g : ℕ) → AllByRecursion IsOfNoMove (kinds_in (d.made g))
 
   runs_move_none : (s : Statement) (a : Answer) → IsNoMove s → Runs touched run e (in_deed e.catalog d) s a → Moves_none
   runs_move_none (statement.CreateTable name columns key) a n h = entered_none d e.catalog h.0

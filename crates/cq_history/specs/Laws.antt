@@ -434,10 +434,11 @@ MoveIsRefused = (rules : Rules) (run : Run) (e : Environment) (who : Who) (journ
     IsAnswered rules run e e who journals journals (Some (statement.Move shard from to)) (answer.Failed f)
     × IsAnswered rules run e e who journals journals (Some (statement.Move shard from to)) (answer.Failed fault.Memory))
 
--- an entry with which no move comes to its end
-abbrev pub EndsNoMove : EntryKind → Type 0
-EndsNoMove entry.Cutover = ⊥
-EndsNoMove kind = ⊤
+-- an entry that is of no move
+abbrev pub IsOfNoMove : EntryKind → Type 0
+IsOfNoMove entry.Read = ⊤
+IsOfNoMove (entry.Write op reply) = ⊤
+IsOfNoMove kind = ⊥
 
 abbrev pub IsNoMove : Statement → Type 0
 IsNoMove (statement.Move shard from to) = ⊥
@@ -447,7 +448,7 @@ IsNoMove s = ⊤
 -- other statements move no group
 abbrev pub OthersMoveNone : Type 0
 OthersMoveNone = (rules : Rules) (run : Run) (e : Environment) (who : Who) (d : Deed) (s : Statement) (a : Answer) → IsNoMove s → Does rules run e who d (Some s) a →
-    (g : ℕ) → AllByRecursion EndsNoMove (kinds_in (d.made g))
+    (g : ℕ) → AllByRecursion IsOfNoMove (kinds_in (d.made g))
 
 -- what failed leaves the catalogue
 abbrev pub FailedKeepsCatalog : Type 0

@@ -3,4 +3,3 @@ pub mod RunLaws
 pub mod Showing
 pub mod MakingLaws
 pub mod Refused
-pub mod Next

@@ -5,7 +5,7 @@ use Rattle.cq_cluster.proofs.AnswerLaws.{answer_is_accounted}
 use Rattle.cq_coordinator.proofs.QueryAnswers.{are_shaped}
 use Rattle.cq_tree.specs.declared.statement.Statement.TheVariants as statement
 use Rattle.cq_coordinator.proofs.Tags.{query_no_copy}
-use Rattle.cq_coordinator.proofs.Staying.{stay_moved, query_retires}
+use Rattle.cq_coordinator.proofs.Staying.{stay_moved, stay_still, query_retires}
 use Rattle.cq_coordinator.proofs.coordinator.Coordinator.select.Goals as goal
 
 pub answer_query-requires-clause-resting : goal.answer_query-requires-clause-resting
@@ -35,7 +35,9 @@ returns-clause-retires g c =
     (c.answer_query.ensures.answered (run_of c.args.self.now.cluster.nodes c.args.self.now.settings c.args.self.now.cluster.workers.items) c.args.self.now.settings (retired_nodes c.args.self.now.cluster) refl c.requires.runs).does.stands c.requires.runs
 
 pub returns-clause-sound : goal.returns-clause-sound
-returns-clause-sound g c = sound_after g.S.Store.state c.args.self.now.cluster _ c.requires.sound c.answer_query.ensures.goes_on refl refl refl
+returns-clause-sound g c = sound_after g.S.Store.state c.args.self.now.cluster _ c.requires.sound c.answer_query.ensures.goes_on
+    (stay_still _ _ _ _ c.args.who (statement.Select c.args.query.now) c.answer_query.result c.args.self.now.cluster.groups.items c.answer_query.new.groups.items tt
+    (c.answer_query.ensures.answered (run_of c.args.self.now.cluster.nodes c.args.self.now.settings c.args.self.now.cluster.workers.items) c.args.self.now.settings (retired_nodes c.args.self.now.cluster) refl c.requires.runs)) refl refl refl refl
 
 pub returns-clause-stores : goal.returns-clause-stores
-returns-clause-stores g c = stores_after g.S.Store.state c.args.self.now.cluster (record c.args.self.now.cluster { groups = c.answer_query.new.groups }) c.answer_query.ensures.goes_on refl refl
+returns-clause-stores g c = stores_after g.S.Store.state c.args.self.now.cluster (record c.args.self.now.cluster { groups = c.answer_query.new.groups }) c.answer_query.ensures.goes_on refl refl refl refl

@@ -18,7 +18,7 @@ use Rattle.cq_cluster.proofs.GroupLaws.{rests, sound_after, stores_after}
 use Rattle.cq_coordinator.specs.Coordination.{environment, journals, IsNoCopy}
 use Rattle.cq_cluster.specs.Accounts.{Retires}
 use Rattle.cq_coordinator.proofs.Tags.{write_no_copy}
-use Rattle.cq_coordinator.proofs.Staying.{stay_moved, write_retires}
+use Rattle.cq_coordinator.proofs.Staying.{stay_moved, stay_still, write_retires}
 use Rattle.cq_coordinator.proofs.WriteAnswers.{its_shards, ascending, takes}
 use Rattle.cq_coordinator.proofs.coordinator.Coordinator.write.Goals as goal
 
@@ -77,7 +77,15 @@ pub returns-clause-retires : goal.returns-clause-retires
 returns-clause-retires g c = subst (λ (a : Answer). Retires c.args.who a c.args.self.now.cluster.retired.items c.args.self.now.cluster.retired.items) (sym c.answer_of.ensures) (write_retires c.args.who c.args.op.now c.write_groups.result _)
 
 pub returns-clause-sound : goal.returns-clause-sound
-returns-clause-sound g c = sound_after g.S.Store.state c.args.self.now.cluster _ c.requires.sound c.write_groups.ensures.goes_on refl refl refl
+returns-clause-sound g c = let state = g.S.Store.state in
+    let cl = c.args.self.now.cluster in
+    let old = cl.groups.items in
+    let new = c.write_groups.new.groups.items in
+    let written = subst (λ (ps : List Part). IsWritten state c.args.who ps old new c.write_groups.result) c.in-Ok.ensures c.write_groups.ensures.written in
+    sound_after state cl _ c.requires.sound c.write_groups.ensures.goes_on
+    (stay_still _ _ _ _ c.args.who (statement.Write c.args.op.now) _ old new tt
+    (write_is_answered (run_of cl.nodes c.args.self.now.settings cl.workers.items) (environment c.args.self.now) c.args.who c.args.op.now old new c.requires.runs (c.requires.keyed (table_of c.args.op.now)) c.requires.computable
+    (its_shards state cl c.args.op.now c.requires.sound c.requires.runs) c.write_groups.ensures.goes_on.count state (rests state cl c.requires.sound) (are_shaped state cl c.requires.sound) refl c.write_groups.result written)) refl refl refl refl
 
 pub returns-clause-stores : goal.returns-clause-stores
-returns-clause-stores g c = stores_after g.S.Store.state c.args.self.now.cluster (record c.args.self.now.cluster { groups = c.write_groups.new.groups }) c.write_groups.ensures.goes_on refl refl
+returns-clause-stores g c = stores_after g.S.Store.state c.args.self.now.cluster (record c.args.self.now.cluster { groups = c.write_groups.new.groups }) c.write_groups.ensures.goes_on refl refl refl

@@ -2,9 +2,9 @@ use Rattle.std.proofs.Common.{◌≡◌, ◌∙◌, ◌+◌, ◌++◌, ◌∷◌
 use Rattle.cq_tree.specs.declared.journal.Who.{Who}
 use Rattle.cq_answer.specs.declared.answered.Answered.{Answered}
 use Rattle.cq_bound_laws.proofs.Columns.{columns_stand}
-use Rattle.cq_cluster.specs.Accounts.{AreAccounted, AreRetired}
+use Rattle.cq_cluster.specs.Accounts.{IsNext, AreAccounted, AreRetired}
 use Rattle.cq_cluster.proofs.RetiringLaws.{retires_on}
-use Rattle.cq_top.proofs.Next.{is_next}
+use Rattle.cq_cluster.proofs.NextLaws.{next_is}
 use Rattle.cq_cluster.specs.Cluster.{run_of}
 use Rattle.cq_coordinator.specs.Coordination.{environment, journals}
 use Rattle.cq_history.specs.Log.{IsConsistent, IsAnswered, next_who, answered_by}
@@ -54,9 +54,10 @@ returns-clause-keeps g c = record {
         stores = c.respond-bound.ensures.stores.stores entry s.stores;
         accounted = subst (λ (v : List Answered). AreAccounted g.S.Store.state new.cluster.catalog v new.cluster.groups.items) (sym e)
             (c.respond-bound.ensures.accounted c.args.self.now.answers (answered_by who (environment old) c.respond-bound.result.bound c.respond-bound.result.answer) refl
-            (is_next who (answered_by who (environment old) c.respond-bound.result.bound c.respond-bound.result.answer) rules (run_by settled entry) (environment old) c.args.self.now.answers (old.cluster.groups.items) refl number s.consistent) s.accounted);
+            (subst (λ (w : Who). IsNext w (answered_by w (environment old) c.respond-bound.result.bound c.respond-bound.result.answer) c.args.self.now.answers old.cluster.groups.items) (sym is)
+            (next_is rules (run_by settled entry) (environment old) c.args.self.now.answers old.cluster.groups.items c.respond-bound.result.bound c.respond-bound.result.answer s.consistent)) s.accounted);
         retired = subst (λ (v : List Answered). AreRetired v new.cluster.retired.items) (sym e)
-            (retires_on who (answered_by who (environment old) c.respond-bound.result.bound c.respond-bound.result.answer) c.args.self.now.answers old.cluster.retired.items new.cluster.retired.items refl c.respond-bound.ensures.retires s.retired);
+            (retires_on c.args.self.now.answers who (answered_by who (environment old) c.respond-bound.result.bound c.respond-bound.result.answer) old.cluster.retired.items new.cluster.retired.items refl c.respond-bound.ensures.retires s.retired);
       };
 }
 
