@@ -23,12 +23,7 @@ fn node_for<S>(groups: &Vec<GroupState<S>>, nodes: u32, opened: &Opened, i: u32)
 }
 
 /// How many of a table's shards are on the node at this place.
-fn shards_on<S>(
-    groups: &Vec<GroupState<S>>,
-    nodes: u32,
-    opened: &Opened,
-    place: u32,
-) -> u64
+fn shards_on<S>(groups: &Vec<GroupState<S>>, nodes: u32, opened: &Opened, place: u32) -> u64
     requires some { 0 < nodes }
     requires most { nodes ≤ most_nodes }
     requires there { AreThere groups.now.items opened.now }

@@ -1,4 +1,4 @@
-use Rattle.std.proofs.Common.{◌≡◌, ◌∙◌, ap, subst, sym, Some, None, slice_get}
+use Rattle.std.proofs.Common.{◌≡◌, ◌∙◌, subst, Some, None, slice_get}
 use Rattle.cq_history.specs.Room.{shards_at}
 use Rattle.cq_cluster.specs.Cluster.{node_in, stores_in}
 use Rattle.cq_cluster.specs.Steps.{short_of}

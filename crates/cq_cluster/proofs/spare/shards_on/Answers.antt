@@ -1,4 +1,4 @@
-use Rattle.std.proofs.Common.{sym, ◌∙◌, ap, ◌+◌, arith}
+use Rattle.std.proofs.Common.{sym, ◌∙◌, arith}
 use Rattle.cq_history.specs.Room.{node_for as node_of_shard}
 use Rattle.cq_cluster.specs.Cluster.{node_in}
 use Rattle.cq_cluster.proofs.RoomLaws.{next_here, next_elsewhere}
