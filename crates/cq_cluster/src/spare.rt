@@ -1,7 +1,7 @@
 ghost use Rattle.std.specs.Prelude.{◌≡◌, ◌<◌, ◌+◌, ◌≤◌, ℕ, false, List, Some, None, slice_get, length, OnOk, IfErr};
 ghost use Rattle.cq_history.specs.Room.{node_for as node_of_shard, shards_at};
 ghost use Rattle.cq_cluster.specs.Cluster.{node_in, stores_in, most_nodes};
-ghost use Rattle.cq_cluster.specs.Steps.{AreThere, short_of, shortage};
+ghost use Rattle.cq_cluster.specs.Steps.{AreThere, AreUsed, short_of, shortage};
 
 use cq_answer::Fault;
 use cq_catalog::Opened;
@@ -22,21 +22,21 @@ fn node_for<S>(groups: &Vec<GroupState<S>>, nodes: u32, opened: &Opened, i: u32)
     }
 }
 
-/// How many of a table's shards are on the node at this place.
-fn shards_on<S>(groups: &Vec<GroupState<S>>, nodes: u32, opened: &Opened, place: u32) -> u64
+/// How many of a table's shards are on each node, by the node's place.
+fn count_shards<S>(groups: &Vec<GroupState<S>>, nodes: u32, opened: &Opened) -> [u32; 16]
     requires some { 0 < nodes }
     requires most { nodes ≤ most_nodes }
     requires there { AreThere groups.now.items opened.now }
-    requires place { place < nodes }
-    ensures { result ≡ shards_at nodes (node_in groups.now.items) opened.now place }
+    requires used { AreUsed nodes groups.now.items opened.now }
+    requires few { opened.now.count ≤ 128 }
+    ensures { (place : ℕ) → place < 16 → slice_get result place ≡ Some (shards_at nodes (node_in groups.now.items) opened.now place) }
 {
-    let mut count = 0;
+    let mut counts = [0; 16];
     for i in 0..opened.count {
-        if node_for(groups, nodes, opened, i) == place + 1 {
-            count += 1;
-        }
+        let place = (node_for(groups, nodes, opened, i) - 1) as usize;
+        counts[place] += 1;
     }
-    count
+    counts
 }
 
 /// Checks that the worker at this place has so many stores in its list.
@@ -72,12 +72,15 @@ pub fn check_room<S>(
     requires some { 0 < nodes }
     requires most { nodes ≤ most_nodes }
     requires there { AreThere groups.now.items opened.now }
+    requires used { AreUsed nodes groups.now.items opened.now }
+    requires few { opened.now.count ≤ 128 }
     requires enough { nodes ≤ length workers.now.items }
     ensures ok { OnOk result (shortage nodes (shards_at nodes (node_in groups.now.items) opened.now) workers.now.items ≡ None) }
     ensures err { IfErr result (λ f. shortage nodes (shards_at nodes (node_in groups.now.items) opened.now) workers.now.items ≡ Some f) }
 {
+    let counts = count_shards(groups, nodes, opened);
     for place in 0..nodes {
-        let needed = shards_on(groups, nodes, opened, place);
+        let needed = u64::from(counts[place as usize]);
         if let Err(short) = check_worker(workers, place, needed) {
             return Err(short);
         }
