@@ -25,7 +25,7 @@ use Rattle.cq_history.proofs.Lists.{two_ways, all_at, all_append, all_weaker}
 use Rattle.cq_store.specs.Stores.{StoreState}
 use Rattle.cq_group.specs.declared.group.GroupTable.{GroupTable}
 use Rattle.cq_group.specs.declared.group.GroupState.{GroupState}
-use Rattle.cq_group.specs.Groups.{Outline, outline, outlines, entries_of, journal_of, copies_of, stores_of, shape_at, AreReplicasFrom, IsTableKept, AreDistinct}
+use Rattle.cq_group.specs.Groups.{Outline, outline, outlines, entries_of, copies_of, stores_of, shape_at, AreReplicasFrom, IsTableKept, AreDistinct}
 use Rattle.cq_group.specs.Calls.{GoesOn, Lifted, SomeZip, Failed}
 use Rattle.cq_group.specs.Resting.{GoOn, HasFailedAt}
 use Rattle.cq_cluster.specs.declared.cluster.Cluster.{Cluster}

@@ -1,5 +1,5 @@
 -- The last moves of groups, as their journals grow, and the next statement of a serial script.
-use Rattle.std.proofs.Common.{◌≡◌, inl, inr, ℕ, zero, suc, ◌+◌, ◌<◌, ◌≤◌, Bool, true, false, cond, List, [], ◌∷◌, ◌++◌, length, map, refl, sym, ap, subst, ◌∙◌, arith, Option, Some, slice_get, length-set}
+use Rattle.std.proofs.Common.{◌≡◌, inl, inr, ℕ, suc, ◌+◌, ◌<◌, ◌≤◌, Bool, true, false, cond, List, [], ◌∷◌, length, map, refl, sym, ap, subst, ◌∙◌, arith, Option, Some, slice_get, length-set}
 use Rattle.std.proofs.Math.ListN.{set}
 use Rattle.std.specs.Prelude.{fold}
 use Rattle.std.specs.List.{AllByRecursion}
@@ -17,9 +17,9 @@ use Rattle.cq_journal.specs.Records.{Journal}
 use Rattle.cq_journal.specs.Stations.{Station, moved, station_of, moving_of}
 use Rattle.cq_planning.specs.Touched.{among}
 use Rattle.cq_history.specs.Run.{Run, Rules, Environment, first, after}
-use Rattle.cq_history.specs.Journals.{Kinds, journal_in, in_each, with_entries}
+use Rattle.cq_history.specs.Journals.{Kinds, in_each, with_entries}
 use Rattle.cq_history.specs.Deeds.{Grows}
-use Rattle.cq_history.specs.Log.{who_of, NumberedFrom, IsOfFirst, IsConsistent, next_who, answered_by}
+use Rattle.cq_history.specs.Log.{NumberedFrom, IsOfFirst, IsConsistent, next_who, answered_by}
 use Rattle.cq_group.specs.declared.group.GroupState.{GroupState}
 use Rattle.cq_group.specs.Groups.{entries_of, journal_of}
 use Rattle.cq_group.specs.Moves.{is_of_move}

@@ -1,20 +1,17 @@
 -- Moves: the counts of faults after one that was made, and the stores that are retired by those that weren't.
-use Rattle.std.proofs.Common.{◌≡◌, ◌≢◌, inl, inr, ℕ, ◌+◌, ◌≤◌, ◌<◌, Bool, true, false, cond, List, [], ◌∷◌, ◌++◌, length, map, refl, sym, ap, subst, ◌∙◌, arith, Some, slice_get, append-nil}
-use Rattle.std.specs.Prelude.{nat_lt, filter, fold}
+use Rattle.std.proofs.Common.{◌≡◌, inl, inr, ℕ, ◌+◌, ◌≤◌, ◌<◌, false, cond, List, [], ◌∷◌, ◌++◌, map, refl, sym, ap, subst, ◌∙◌, arith, slice_get, append-nil}
+use Rattle.std.specs.Prelude.{nat_lt, filter}
 use Rattle.std.specs.List.{AllByRecursion, AllZip}
-use Rattle.std.proofs.lemmas.Bool.{lt-ltb, le-ltb}
+use Rattle.std.proofs.lemmas.Bool.{le-ltb}
 use Rattle.std.proofs.lemmas.Bool.Decides.{eqb_tells}
 use Rattle.std.proofs.lemmas.List.{map-append}
 use Rattle.std.proofs.lemmas.List.Elements.{filter-append}
 use Rattle.cq_tree.specs.declared.journal.Who.{Who}
-use Rattle.cq_tree.specs.declared.statement.Statement.{Statement}
-use Rattle.cq_tree.specs.declared.statement.Statement.TheVariants as statement
 use Rattle.cq_answer.specs.declared.answer.Answer.{Answer}
 use Rattle.cq_answer.specs.declared.answer.Answer.TheVariants as answer
 use Rattle.cq_answer.specs.declared.answered.Answered.{Answered}
 use Rattle.cq_answer.specs.declared.fault.Fault.{Fault}
 use Rattle.cq_answer.specs.declared.fault.Fault.TheVariants as fault
-use Rattle.cq_catalog.specs.Contents.{Contents}
 use Rattle.cq_history.specs.Faults.{AccountsFor}
 use Rattle.cq_history.specs.Log.{who_of}
 use Rattle.cq_history.specs.Run.{Environment, after, retiring}
@@ -23,9 +20,8 @@ use Rattle.cq_store.specs.Stores.{StoreState}
 use Rattle.cq_group.specs.declared.group.GroupState.{GroupState}
 use Rattle.cq_group.specs.Groups.{entries_of, stores_of}
 use Rattle.cq_cluster.specs.declared.retired.Retired.{Retired}
-use Rattle.cq_cluster.specs.Accounts.{moved_by, later_than, AreAccounted, IsNext, NamesNone, NamesFailed, tells_retired, is_retiring, StandsFor, AreRetired, Retires, HasMoved, MovedIsAccounted, RetiredNamesNone, RetiresOn, MoveRetires, RebalanceRetires}
+use Rattle.cq_cluster.specs.Accounts.{moved_by, later_than, IsNext, NamesNone, NamesFailed, tells_retired, is_retiring, StandsFor, Retires, MovedIsAccounted, RetiredNamesNone, RetiresOn, MoveRetires, RebalanceRetires}
 use Rattle.cq_cluster.proofs.ListLaws.{zip_both}
-use Rattle.cq_cluster.proofs.AccountLaws.{GroupAccounts}
 use Rattle.cq_cluster.proofs.AnswerLaws.{same_group, still_below}
 
 -- ---- a move that was made
