@@ -10,7 +10,7 @@ use Rattle.cq_value.specs.declared.schema.Kind.{Kind}
 use Rattle.cq_value.specs.declared.schema.Shape.{Shape}
 use Rattle.cq_journal.specs.Stations.{node_of}
 use Rattle.cq_journal.specs.declared.journal.Journal.{Journal}
-use Rattle.cq_catalog.specs.Contents.{Contents, place_in, with_place, shape_of, count_in}
+use Rattle.cq_catalog.specs.Contents.{Contents, place_in, with_place, shape_of}
 use Rattle.cq_catalog.specs.Distribution.{spread, with_colocation}
 use Rattle.cq_catalog.specs.Placement.{place_at}
 use Rattle.cq_catalog.specs.Ranges.{ends}
@@ -25,7 +25,7 @@ use Rattle.cq_group.specs.declared.group.GroupState.{GroupState}
 use Rattle.cq_group.specs.Groups.{IsKept, IsQuiet, Outline, outlines, journal_of, shape_at, stores_of}
 use Rattle.cq_cluster.specs.Cluster.{IsShardOf, IsReferenceGroup, IsCovered, IsReferenced, IsUsed, home_of, held, everywhere, AreGroups}
 use Rattle.cq_cluster.specs.Steps.{Goes, AreGone, more_at, nothing_more, AreOpened}
-use Rattle.cq_cluster.proofs.GoneLaws.{goes_placed, goes_still, placed_empty, still_empty, everywhere_gone}
+use Rattle.cq_cluster.proofs.GoneLaws.{goes_placed, goes_still, placed_empty, still_empty}
 
 -- ---- lists
 

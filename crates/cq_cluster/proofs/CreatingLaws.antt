@@ -17,7 +17,6 @@ use Rattle.cq_catalog.specs.Whole.{IsWhole}
 use Rattle.cq_catalog.specs.declared.error.CatalogError.{CatalogError}
 use Rattle.cq_catalog.specs.declared.error.CatalogError.TheVariants.{NameTaken, Limit}
 use Rattle.cq_catalog.specs.declared.error.Limited.TheVariants.{Columns, Tables}
-use Rattle.cq_catalog.specs.declared.info.Colocation.{Colocation}
 use Rattle.cq_catalog.specs.declared.info.Place.TheVariants.{Local, Distributed, Reference}
 use Rattle.cq_catalog.specs.declared.info.TableInfo.{TableInfo}
 use Rattle.cq_planning.specs.Database.{shape_in}

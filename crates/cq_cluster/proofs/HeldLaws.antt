@@ -1,5 +1,5 @@
 -- The stores that a cluster's groups have on a node are as many as the catalogue says.
-use Rattle.std.proofs.Common.{◌≡◌, ◌≢◌, ◌⊎◌, inl, inr, ℕ, zero, suc, ◌+◌, ◌-◌, ◌<◌, ◌≤◌, Bool, true, false, cond, List, [], ◌∷◌, ◌++◌, length, map, filter, refl, sym, ap, subst, ◌∙◌, arith, Some, None, Option, IsSome, slice_get, length-append, eq-eqb}
+use Rattle.std.proofs.Common.{◌≡◌, ◌≢◌, ◌⊎◌, inl, inr, ℕ, suc, ◌+◌, ◌-◌, ◌<◌, ◌≤◌, Bool, true, false, cond, List, [], ◌∷◌, length, map, refl, sym, ap, subst, ◌∙◌, arith, Some, None, Option, IsSome, slice_get, length-append, eq-eqb}
 use Rattle.std.specs.Prelude.{nat_eq, nat_le, nat_lt}
 use Rattle.std.specs.List.{AllByRecursion, sum_by, flat_map}
 use Rattle.std.proofs.lemmas.Bool.{ne_eqb}
@@ -9,20 +9,19 @@ use Rattle.std.proofs.lemmas.Option.{slice_get_within}
 use Rattle.cq_tree.specs.declared.journal.Entry.{Entry}
 use Rattle.cq_value.specs.declared.schema.Shape.{Shape}
 use Rattle.cq_catalog.specs.Contents.{Contents, place_in, colocation_of, first_group_in, count_in}
-use Rattle.cq_catalog.specs.Placement.{place_at, colocation_at}
+use Rattle.cq_catalog.specs.Placement.{place_at}
 use Rattle.cq_catalog.specs.declared.info.Colocation.{Colocation}
 use Rattle.cq_catalog.specs.declared.info.Place.{Place}
 use Rattle.cq_catalog.specs.declared.info.Place.TheVariants.{Local, Distributed, Reference}
 use Rattle.cq_catalog.specs.declared.info.TableInfo.{TableInfo}
 use Rattle.cq_planning.specs.Touched.{among, numbers}
-use Rattle.cq_planning.specs.Database.{shape_in}
 use Rattle.cq_history.specs.Looks.{is_within, has_shard, has_shard_at}
 use Rattle.cq_history.specs.Room.{tables_in, is_on, stores_on}
 use Rattle.cq_store.specs.Stores.{StoreState}
 use Rattle.cq_group.specs.declared.group.GroupTable.{GroupTable}
 use Rattle.cq_group.specs.declared.group.GroupState.{GroupState}
 use Rattle.cq_group.specs.Groups.{Outline, outlines, shape_at, AreDistinct, entries_of, stores_of, copies_of, IsTableKept}
-use Rattle.cq_cluster.specs.Cluster.{IsShardOf, IsGroupOf, IsReferenceGroup, IsCovered, IsReferenced, node_in, node_of_item, held, everywhere, AreGroups}
+use Rattle.cq_cluster.specs.Cluster.{IsShardOf, IsCovered, IsReferenced, node_in, node_of_item, held, everywhere, AreGroups}
 use Rattle.cq_cluster.proofs.CountLaws.{AllDiffer, ArePassing, count_of_passing, sum_more}
 
 two_ways : (b : Bool) → (b ≡ true) ⊎ (b ≡ false)
@@ -280,8 +279,7 @@ pub held_on : {X : Type 0} (state : X → StoreState) (nodes : ℕ) (c : Content
 held_on {X} state nodes c groups all place =
     held_from c place (node_in groups) 0 groups (λ i g s.
     let index : 0 + i ≡ i = omega arith in
-    let is = counted state nodes c groups all i g s in
-    (
+    let is = counted state nodes c groups all i g s in (
       ap (λ (o : Option (GroupState X)). node_of_item o) (ap (slice_get groups) index ∙ s),
       (λ e. is.stores place e ∙ ap (λ m. length (tables_in c m)) (sym index)),
       (λ e. is.copies e ∙ ap (λ m. length (tables_in c m)) (sym index)),

@@ -27,10 +27,11 @@ use Rattle.cq_store.specs.declared.worker.Worker.{Worker}
 use Rattle.cq_group.specs.declared.group.GroupState.{GroupState}
 use Rattle.cq_cluster.specs.declared.cluster.Cluster.{Cluster}
 use Rattle.cq_cluster.specs.declared.shards.Shards.{Shards}
-use Rattle.cq_cluster.specs.Cluster.{IsWaiting, HasStores, node_in, retired_nodes, run_of, IsSound}
-use Rattle.cq_cluster.specs.Steps.{AllWait, shortage, AreThere, HasOpened, IsBegun, forgotten, Adding, shards_of, CanBegin, IsOpen, IsUndone, IsPlanned, IsReady}
+use Rattle.cq_cluster.specs.Cluster.{IsUsed, IsWaiting, AreGroups, HasStores, node_in, node_of_item, retired_nodes, run_of, IsSound}
+use Rattle.cq_cluster.specs.Steps.{AllWait, shortage, AreThere, AreUsed, HasOpened, IsBegun, forgotten, Adding, shards_of, CanBegin, IsOpen, IsUndone, IsPlanned, IsReady}
 use Rattle.cq_cluster.proofs.GoneLaws.{goes_same}
 use Rattle.cq_cluster.proofs.AddingLaws.{spent_none}
+use Rattle.cq_cluster.proofs.CatalogLaws.{used_home}
 use Rattle.cq_cluster.proofs.TargetLaws.{can_distribute}
 use Rattle.cq_cluster.proofs.SoundLaws.{have_stores, can_begin_at, room_same, undone_of}
 use Rattle.cq_cluster.proofs.GroupLaws.{rests}
@@ -41,6 +42,37 @@ use Rattle.cq_cluster.proofs.DistributeLaws.{by_room, cause_of}
 pub table_at : (c : Contents) (table : ℕ) (target : Target) → (opened_at c table target).table ≡ table
 table_at c table (Joins colocation) = refl
 table_at c table (Opens count joinable) = refl
+
+pub few_at : (c : Contents) (table : ℕ) (target : Target) → IsWhole c → CanOpen c target → (opened_at c table target).count ≤ 128
+few_at c table (Opens count joinable) whole can = can.1
+few_at c table (Joins colocation) whole can =
+    let co = got c.colocations colocation can in
+    let cut = whole.cut colocation co.0 co.1 in
+    omega (arith, cut.few, ap count_in co.1)
+  where
+    got : {A : Type 0} (xs : List A) (n : ℕ) → n < length xs → (x : A) × (slice_get xs n ≡ Some x)
+    got [] n h = absurd (omega (arith, h))
+    got (x ∷ xs) zero h = (x, refl)
+    got (x ∷ xs) (suc n) h = got xs n (omega (arith, h))
+
+-- its shards go to nodes that the run uses
+pub used_at : {X : Type 0} (state : X → StoreState) (nodes : ℕ) → 0 < nodes → (c : Contents) (groups : List (GroupState X)) (table : ℕ) (target : Target) → AreGroups state nodes c groups → IsWhole c → CanOpen c target →
+    AreUsed nodes groups (opened_at c table target)
+used_at state nodes some c groups table (Opens count joinable) all whole can i less = used_home nodes some i
+used_at {X} state nodes some c groups table (Joins colocation) all whole can i less =
+    let co = got c.colocations colocation can in
+    let cut = whole.cut colocation co.0 co.1 in
+    let first = ap first_group_in co.1 in
+    let within : i < co.0.count = omega (arith, less, ap count_in co.1) in
+    let x = got groups (co.0.first_group + i) (omega (arith, within, cut.within, all.count)) in
+    let at = all.each colocation i co.0 x.0 co.1 within x.1 in
+    let is : node_in groups (first_group_in (slice_get c.colocations colocation) + i) ≡ x.0.node = ap (λ m. node_in groups (m + i)) first ∙ ap (λ (o : Option (GroupState X)). node_of_item o) x.1 in
+    subst (IsUsed nodes) (sym is) at.node
+  where
+    got : {A : Type 0} (xs : List A) (n : ℕ) → n < length xs → (x : A) × (slice_get xs n ≡ Some x)
+    got [] n h = absurd (omega (arith, h))
+    got (x ∷ xs) zero h = (x, refl)
+    got (x ∷ xs) (suc n) h = got xs n (omega (arith, h))
 
 -- the groups that a table joins are there
 pub there_at : {X : Type 0} (c : Contents) (groups : List (GroupState X)) (table : ℕ) (target : Target) → length groups ≡ c.groups → IsWhole c → CanOpen c target → AreThere groups (opened_at c table target)
@@ -142,6 +174,19 @@ module _ {X : Type 0} (state : X → StoreState) where
         let d = decision_of cl.catalog table column count beside default in
         let can = can_distribute cl.catalog table column count beside default allowed in
         subst (λ (v : Opened). AreThere cl.groups.items v) (sym is) (there_at cl.catalog cl.groups.items d.table d.target s.groups.count s.whole can.can)
+
+    pub few_shards : (o : Opened) → IsSound state cl → distribution_refusal cl.catalog table column count beside default ≡ None → o ≡ opened_by cl.catalog (decision_of cl.catalog table column count beside default) → o.count ≤ 128
+    few_shards o s allowed is =
+        let d = decision_of cl.catalog table column count beside default in
+        let can = can_distribute cl.catalog table column count beside default allowed in
+        subst (λ (v : Opened). v.count ≤ 128) (sym is) (few_at cl.catalog d.table d.target s.whole can.can)
+
+    -- on nodes that the run uses
+    pub nodes_used : (o : Opened) → IsSound state cl → distribution_refusal cl.catalog table column count beside default ≡ None → o ≡ opened_by cl.catalog (decision_of cl.catalog table column count beside default) → AreUsed cl.nodes cl.groups.items o
+    nodes_used o s allowed is =
+        let d = decision_of cl.catalog table column count beside default in
+        let can = can_distribute cl.catalog table column count beside default allowed in
+        subst (λ (v : Opened). AreUsed cl.nodes cl.groups.items v) (sym is) (used_at state cl.nodes s.some cl.catalog cl.groups.items d.table d.target s.groups s.whole can.can)
 
     pub ready_of : (o : Opened) → IsSound state cl → IsPlanned cl.nodes cl.catalog cl.groups.items cl.workers.items table column count beside default o → IsReady state cl o
     ready_of o s p =

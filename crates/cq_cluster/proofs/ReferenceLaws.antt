@@ -11,7 +11,7 @@ use Rattle.cq_answer.specs.declared.fault.Fault.{Fault}
 use Rattle.cq_answer.specs.declared.fault.Fault.TheVariants as fault
 use Rattle.cq_answer.specs.Faults.{fault_of_catalog}
 use Rattle.cq_answer.specs.declared.answered.Settings.{Settings}
-use Rattle.cq_catalog.specs.Contents.{Contents, place_in, with_place}
+use Rattle.cq_catalog.specs.Contents.{Contents, place_in}
 use Rattle.cq_catalog.specs.Distribution.{spread, with_group, with_reference, reference_refusal, reference_opened}
 use Rattle.cq_catalog.specs.Placement.{place_at}
 use Rattle.cq_catalog.specs.Refusals.{first_of, IsCause}

@@ -3,13 +3,18 @@ use Rattle.std.proofs.Common.{◌≡◌, ◌≢◌, ◌⊎◌, inl, inr, ℕ, ze
 use Rattle.std.specs.Prelude.{nat_eq}
 use Rattle.std.specs.List.{sum_by}
 use Rattle.std.proofs.lemmas.Bool.{ne_eqb}
-use Rattle.std.proofs.Common.{eq-eqb}
+use Rattle.std.proofs.Common.{eq-eqb, get_or, length-set}
+use Rattle.std.proofs.Math.ListN.{set}
+use Rattle.std.proofs.lemmas.Bool.Decides.{eqb_tells}
+use Rattle.std.proofs.lemmas.List.{get_or-set_same}
+use Rattle.std.proofs.lemmas.Option.{get_or_from_slice_get, slice_get-get_or}
 use Rattle.cq_planning.specs.Touched.{numbers}
 use Rattle.cq_answer.specs.declared.fault.Fault.{Fault}
 use Rattle.cq_catalog.specs.Refusals.{first_of}
 use Rattle.cq_store.specs.declared.worker.Worker.{Worker}
 use Rattle.cq_cluster.specs.Cluster.{stores_in}
 use Rattle.cq_cluster.specs.Steps.{shards_on, short_of, shortage_from}
+use Rattle.cq_cluster.proofs.ListLaws.{got_other}
 use Rattle.cq_cluster.proofs.CountLaws.{length_sum, sum_passing, sum_alike}
 
 two_ways : (b : Bool) → (b ≡ true) ⊎ (b ≡ false)
@@ -71,6 +76,35 @@ module _ (node : ℕ → ℕ) where
       let up = rises (n + 1) (count - (n + 1)) place in
       let same : shards_on node (n + 1 + (count - (n + 1))) place ≡ shards_on node count place = ap (λ m. shards_on node m place) (let e : n + 1 + (count - (n + 1)) ≡ count = omega (arith, less) in e) in
       omega (arith, more, up, same)
+
+  pub few_on : (n place : ℕ) → shards_on node n place ≤ n
+  few_on zero place = omega arith
+  few_on (suc n) place =
+      let further = few_on n place in
+      let same : shards_on node (suc n) place ≡ shards_on node (n + 1) place = ap (λ m. shards_on node m place) (let e : suc n ≡ n + 1 = omega arith in e) in
+      let next = next_on n place in
+      let most : cond (nat_eq (node n) (place + 1)) 1 0 ≤ 1 = one_most (nat_eq (node n) (place + 1)) in
+      omega (arith, further, same, next, most)
+    where
+      one_most : (b : Bool) → one_if b ≤ 1
+      one_most true = omega arith
+      one_most false = omega arith
+
+  -- the counts by place, after the next shard, which is on the node of this one
+  pub counts_more : (counts : List ℕ) (n at : ℕ) → length counts ≡ 16 → node n ≡ at + 1 → at < 16 → ((place : ℕ) → place < 16 → slice_get counts place ≡ Some (shards_on node n place)) → (place : ℕ) → place < 16 →
+      slice_get (set counts at (get_or counts at 0 + 1)) place ≡ Some (shards_on node (n + 1) place)
+  counts_more counts n at many is low each place less =
+      let more = get_or counts at 0 + 1 in
+      elim (eqb_tells place at) [
+        | inl y ↦
+            let old : get_or counts at 0 ≡ shards_on node n at = get_or_from_slice_get counts at (shards_on node n at) 0 (each at low) in
+            let one = next_here n at is in
+            let here : more ≡ shards_on node (n + 1) at = omega (arith, old, one) in
+            let long = length-set counts at more in
+            ap (slice_get (set counts at more)) y.1 ∙ slice_get-get_or (set counts at more) at 0 (omega (arith, long, many, low))
+            ∙ ap (λ (m : ℕ). Some m) (get_or-set_same counts at more 0 (omega (arith, many, low)) ∙ here) ∙ ap (λ p. Some (shards_on node (n + 1) p)) (sym y.1)
+        | inr z ↦ got_other counts at more place z.1 ∙ each place less ∙ ap (λ (m : ℕ). Some m) (sym (next_elsewhere n place (λ e. z.1 (omega (arith, e, is)))))
+      ]
 
 -- shards that are on the same nodes
 pub alike_on : (f h : ℕ → ℕ) (n place : ℕ) → ((i : ℕ) → i < n → f i ≡ h i) → shards_on f n place ≡ shards_on h n place

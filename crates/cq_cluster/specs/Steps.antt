@@ -6,7 +6,7 @@ use Rattle.cq_store.specs.Workers.{room}
 use Rattle.cq_store.specs.declared.worker.Worker.{Worker}
 use Rattle.cq_planning.specs.Database.{shape_in}
 use Rattle.cq_planning.specs.Touched.{numbers}
-use Rattle.cq_history.specs.Room.{shards_at}
+use Rattle.cq_history.specs.Room.{node_for, shards_at}
 use Rattle.cq_group.specs.declared.group.GroupState.{GroupState}
 use Rattle.cq_group.specs.Groups.{IsKept, IsQuiet, Outline, outlines, entries_of, stores_of, shape_at}
 use Rattle.cq_value.specs.declared.schema.Shape.{Shape}
@@ -161,6 +161,10 @@ shortage nodes needed workers = shortage_from needed workers 0 nodes
 -- the groups of a table's shards are there, where they aren't opened for it
 abbrev pub AreThere : {X : Type 0} → List (GroupState X) → Opened → Type 0
 AreThere groups o = o.fresh ≡ false → (o.first_group + o.count ≤ length groups) × (o.first_group + o.count ≤ 512)
+
+-- each of its shards is to be on a node that the run uses
+abbrev pub AreUsed : {X : Type 0} → ℕ → List (GroupState X) → Opened → Type 0
+AreUsed nodes groups o = (i : ℕ) → i < o.count → IsUsed nodes (node_for nodes (node_in groups) o i)
 
 -- ---- a whole distribution
 
