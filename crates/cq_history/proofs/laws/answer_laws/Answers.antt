@@ -2,6 +2,7 @@ use Rattle.cq_history.proofs.Opening.{opens_laid_out, catalog_is_answered}
 use Rattle.cq_history.proofs.Faults.{read_fails, write_fails}
 use Rattle.cq_history.proofs.Explaining.{explain_is_answered, sees_all}
 use Rattle.cq_history.proofs.Moving.{move_is_answered, move_is_refused, others_move_none, failed_keeps_catalog}
+use Rattle.cq_history.proofs.Rebalancing.{plan_is_answered, plan_fails, plan_goes_on, moves_go_on, moves_settle, given_up_settles, rebalance_is_answered, rebalance_is_cut_off}
 use Rattle.cq_history.proofs.Copying.{copy_is_answered}
 use Rattle.cq_history.proofs.Answering.{made_is_answered, refused_is_answered, lacks_is_answered, read_is_answered, large_is_answered, read_lacks_memory, write_lacks_memory, refusal_is_answered}
 use Rattle.cq_history.proofs.laws.answer_laws.Goals as goal
@@ -62,3 +63,27 @@ returns-clause-others c = others_move_none
 
 pub returns-clause-failed : goal.returns-clause-failed
 returns-clause-failed c = failed_keeps_catalog
+
+pub returns-clause-planned : goal.returns-clause-planned
+returns-clause-planned c = plan_is_answered
+
+pub returns-clause-plan_fails : goal.returns-clause-plan_fails
+returns-clause-plan_fails c = plan_fails
+
+pub returns-clause-moves_on : goal.returns-clause-moves_on
+returns-clause-moves_on c = moves_go_on
+
+pub returns-clause-settle : goal.returns-clause-settle
+returns-clause-settle c = moves_settle
+
+pub returns-clause-given_up : goal.returns-clause-given_up
+returns-clause-given_up c = given_up_settles
+
+pub returns-clause-rebalanced : goal.returns-clause-rebalanced
+returns-clause-rebalanced c = rebalance_is_answered
+
+pub returns-clause-cut_off : goal.returns-clause-cut_off
+returns-clause-cut_off c = rebalance_is_cut_off
+
+pub returns-clause-plan_on : goal.returns-clause-plan_on
+returns-clause-plan_on c = plan_goes_on
