@@ -94,7 +94,7 @@ new_accounts answers s all =
 
 -- ---- statements that found a store failing
 
-pub not_below : (g : ℕ) (gs : List ℕ) → among g (below g gs) ≡ false
+not_below : (g : ℕ) (gs : List ℕ) → among g (below g gs) ≡ false
 not_below g [] = refl
 not_below g (x ∷ xs) = elim (two_ways (nat_lt x g)) [
   | inl l ↦ elim (eqb_tells g x) [

@@ -1,6 +1,6 @@
 -- The answers of moves.
-use Rattle.std.proofs.Common.{◌≡◌, ◌≢◌, ◌⊎◌, ◌+◌, ◌<◌, ◌≤◌, inl, inr, ℕ, true, false, cond, List, [], ◌∷◌, ◌++◌, length, refl, sym, ◌∙◌, ap, subst, arith, Some, None, Option}
-use Rattle.std.specs.Prelude.{◌-◌, ◌||◌, ⊤, nat_eq, nat_lt, drop}
+use Rattle.std.proofs.Common.{◌≡◌, ◌≢◌, ◌+◌, ◌<◌, inl, inr, ℕ, true, false, cond, List, [], ◌∷◌, ◌++◌, length, refl, sym, ◌∙◌, ap, subst, arith, Some, None, Option}
+use Rattle.std.specs.Prelude.{◌-◌, ◌||◌, ⊤, nat_eq, nat_lt}
 use Rattle.std.specs.List.{AllByRecursion, sum_by}
 use Rattle.std.proofs.lemmas.Bool.Decides.{eqb_tells}
 use Rattle.std.proofs.lemmas.Bool.{eq-eqb}
@@ -24,11 +24,11 @@ use Rattle.cq_answer.specs.declared.fault.Fault.TheVariants as fault
 use Rattle.cq_planning.specs.Touched.{among, numbers}
 use Rattle.cq_history.specs.Run.{Run, Rules, Environment, retiring, after}
 use Rattle.cq_history.specs.Room.{tables_in, free_at, short_at}
-use Rattle.cq_history.specs.Journals.{journal_in, Kinds, none, in_each, Step, with_entries, consecutive, kinds_in}
+use Rattle.cq_history.specs.Journals.{journal_in, none, in_each, Step, with_entries, consecutive, kinds_in}
 use Rattle.cq_history.specs.Legality.{IsLegalStep}
-use Rattle.cq_history.specs.Moves.{Report, rows_written, written_between, rows_held, IsMove, IsStopped, node_fault, mover_fault, place_fault, move_fault}
-use Rattle.cq_history.specs.Standing.{View, Enters, EntersIn, Yields, Moves, MovesUnless, IsMoved, IsMovedIn, Runs, RunsUnless, StandsIn}
-use Rattle.cq_history.specs.Deeds.{Deed, in_deed, first_seen, deed_over, Grows, Follows, Does}
+use Rattle.cq_history.specs.Moves.{rows_written, written_between, rows_held, IsMove, IsStopped, node_fault, mover_fault, place_fault, move_fault}
+use Rattle.cq_history.specs.Standing.{View, Enters, EntersIn, Yields, Moves, MovesUnless, IsMovedIn, Runs, RunsUnless, StandsIn}
+use Rattle.cq_history.specs.Deeds.{Deed, in_deed, first_seen, deed_over, Grows}
 use Rattle.cq_history.specs.Faults.{below}
 use Rattle.cq_history.specs.Rebalances.{read_for}
 use Rattle.cq_history.specs.Log.{IsAnswered}
@@ -210,9 +210,13 @@ module _ (rules : Rules) (run : Run) (e : Environment) (who : Who) (old : List J
   enters_in kinds P h = (subst P (sym (own kinds)) h, others kinds)
 
   moves : node_of j ≡ from → (kinds : List EntryKind) (a : Answer) → MovesAlone e.catalog group from to j kinds a → Moves e.catalog (view kinds) group from to a
-  moves there kinds (answer.Table names rows) m = (record { copied = rows_held e.catalog group j; caught = 0; last = 0 }, m.1, m.2,
+  moves there kinds (answer.Table names rows) m = (
+    record { copied = rows_held e.catalog group j; caught = 0; last = 0 },
+    m.1,
+    m.2,
     enters_in kinds (IsMove e.catalog group from to (record { copied = rows_held e.catalog group j; caught = 0; last = 0 }))
-    (subst (λ (ks : List EntryKind). IsMove e.catalog group from to (record { copied = rows_held e.catalog group j; caught = 0; last = 0 }) (consecutive who j ks)) (sym m.0) (is_move e.catalog who group from to j there)))
+        (subst (λ (ks : List EntryKind). IsMove e.catalog group from to (record { copied = rows_held e.catalog group j; caught = 0; last = 0 }) (consecutive who j ks)) (sym m.0) (is_move e.catalog who group from to j there)),
+  )
   moves there kinds (answer.Failed (fault.Worker node store before after)) m = (enters_none kinds m.0, m.1, m.2, m.3)
   moves there kinds (answer.Failed (fault.Retired node store before after)) m = (enters_in kinds (IsStopped from to) (is_stopped e.catalog who group from to j there kinds m.0), m.1, m.2, m.3)
   moves there kinds (answer.Failed fault.Memory) (inl is) = inl (enters_none kinds is)

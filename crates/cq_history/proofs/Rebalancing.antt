@@ -1,8 +1,8 @@
 -- The answers of rebalances and of their plans.
-use Rattle.std.proofs.Common.{◌≡◌, ◌≢◌, ◌⊎◌, ◌+◌, ◌-◌, ◌<◌, ◌≤◌, inl, inr, ℕ, zero, suc, Bool, true, false, List, [], ◌∷◌, ◌++◌, map, filter, length, refl, sym, ◌∙◌, ap, subst, arith, Some, None, Option, append-nil}
-use Rattle.std.specs.Prelude.{nat_eq, fold, if◌then◌else◌}
-use Rattle.std.specs.List.{AllByRecursion}
-use Rattle.std.proofs.lemmas.Bool.Decides.{eqb_tells}
+use Rattle.std.proofs.Common.{◌≡◌, ◌≢◌, ◌⊎◌, ◌+◌, ◌<◌, ◌≤◌, inl, inr, ℕ, zero, suc, Bool, true, false, List, [], ◌∷◌, ◌++◌, map, filter, length, refl, sym, ◌∙◌, ap, subst, arith, Some, None, Option, append-nil}
+use Rattle.std.specs.Prelude.{nat_eq, nat_le, nat_lt, ◌&&◌, slice_get, fold, if◌then◌else◌}
+use Rattle.std.specs.List.{AllByRecursion, list_any}
+use Rattle.std.proofs.lemmas.Bool.Decides.{eqb_tells, nat_tests}
 use Rattle.std.proofs.lemmas.Bool.{eq-eqb}
 use Rattle.std.proofs.lemmas.List.{append_assoc}
 use Rattle.std.proofs.lemmas.List.Sums.{fold-append}
@@ -16,8 +16,11 @@ use Rattle.cq_balance.specs.declared.load.Load.{Load}
 use Rattle.cq_balance.specs.declared.load.Move.{Move}
 use Rattle.cq_balance.specs.Greedy.{fullest, emptiest, chosen, moving, next_move, placed, moved as moved_loads, moved_all, squares, first_moves, load_of}
 use Rattle.cq_balance.proofs.Sizes.{Has}
-use Rattle.cq_balance.proofs.Steps.{IsNext, next_is, emptiest_within}
-use Rattle.cq_catalog.specs.Contents.{Contents}
+use Rattle.cq_balance.proofs.Steps.{next_is, emptiest_within}
+use Rattle.cq_catalog.specs.Contents.{Contents, colocation_of, first_group_in, count_in}
+use Rattle.cq_catalog.specs.Placement.{place_at}
+use Rattle.cq_catalog.specs.declared.info.Place.{Place}
+use Rattle.cq_catalog.specs.declared.info.Place.TheVariants.{Local, Distributed, Reference}
 use Rattle.cq_journal.specs.Records.{Journal}
 use Rattle.cq_journal.specs.Stations.{Station, moved, node_of, moving_of, station_of}
 use Rattle.cq_answer.specs.declared.answer.Answer.{Answer}
@@ -25,22 +28,23 @@ use Rattle.cq_answer.specs.declared.answer.Answer.TheVariants as answer
 use Rattle.cq_answer.specs.declared.fault.Fault.{Fault}
 use Rattle.cq_answer.specs.declared.fault.Fault.TheVariants as fault
 use Rattle.cq_planning.specs.Touched.{among, numbers}
-use Rattle.cq_history.specs.Run.{Run, Rules, Environment, retiring, after}
-use Rattle.cq_history.specs.Journals.{journal_in, Kinds, none, in_each, Step, with_entries, consecutive, kinds_in}
+use Rattle.cq_planning.specs.Routing.{is_distributed_place}
+use Rattle.cq_history.specs.Run.{Run, Environment, retiring, after}
+use Rattle.cq_history.specs.Journals.{journal_in, Kinds, none, Step, with_entries, consecutive}
 use Rattle.cq_history.specs.Legality.{IsLegalStep}
-use Rattle.cq_history.specs.Faults.{is_distributed_group, below}
+use Rattle.cq_history.specs.Faults.{is_distributed_group}
 use Rattle.cq_history.specs.Moves.{IsMove, IsStopped}
-use Rattle.cq_history.specs.Rebalances.{loads_in, distributed_groups, read_for, plan_names, plan_row, Made, moves_of, Either, BeginsWith, AreMovesOf, node_after, rebalance_names, rebalance_row}
-use Rattle.cq_history.specs.Standing.{View, Enters, reads, RunsUnless, IsPlanned, Plans, AreStepsOf, EntersMoves, NoStep, StopsIn, FailsMove, IsCutOff, Rebalances}
-use Rattle.cq_history.specs.Deeds.{Deed, in_deed, first_seen, deed_over, Grows, Does}
-use Rattle.cq_history.specs.Log.{IsAnswered}
-use Rattle.cq_history.specs.Laws.{look_at, in_one, IsGivenUp, IsPlanOver, PlanIsAnswered, FailsPlan, PlanFails, IsNextMove, PlanGoesOn, kinds_of_move, then_in, behind, IsMovable, IsMadeOver, MovesInTurn, MovesGoOn, MovesSettle, GivenUpSettles, RebalanceIsAnswered, GivesUp, FailsAlone, RebalanceIsCutOff}
+use Rattle.cq_history.specs.Looks.{has_shard, has_shard_at}
+use Rattle.cq_history.specs.Log.{IsLaidOut}
+use Rattle.cq_history.specs.Rebalances.{loads_in, read_for, plan_names, plan_row, Made, moves_of, Either, BeginsWith, AreMovesOf, node_after, rebalance_names, rebalance_row}
+use Rattle.cq_history.specs.Standing.{View, Enters, reads, RunsUnless, IsPlanned, Plans, AreStepsOf, EntersMoves, NoStep, StopsIn, FailsMove}
+use Rattle.cq_history.specs.Deeds.{Deed, in_deed, first_seen, deed_over}
+use Rattle.cq_history.specs.Laws.{look_at, in_one, IsGivenUp, IsPlanOver, PlanIsAnswered, FailsPlan, PlanFails, PlanGoesOn, kinds_of_move, then_in, behind, IsMovable, IsMadeOver, MovesInTurn, MovesGoOn, MovesSettle, DistributedIsOpened, NextIsMovable, GivenUpSettles, RebalanceIsAnswered, GivesUp, FailsAlone, RebalanceIsCutOff}
 use Rattle.cq_history.proofs.Lists.{two_ways, all_append}
 use Rattle.cq_history.proofs.Entries.{entries_by, kinds_consecutive}
 use Rattle.cq_history.proofs.Doing.{with_both}
 use Rattle.cq_history.proofs.Answering.{sees}
 use Rattle.cq_history.proofs.Explaining.{among_only, among_numbers}
-use Rattle.cq_history.proofs.Faults.{not_below}
 use Rattle.cq_history.proofs.Script.{with_none, deed_is_answered, grows_as}
 use Rattle.cq_history.proofs.Moving.{retiring_catalog, legal_made, legal_given_up, is_move, is_stopped}
 
@@ -191,7 +195,7 @@ module _ (c : Contents) (who : Who) (old : List Journal) where
       nodes_settle made (after_one nodes m.move) (then_in first m.move.group (kinds_of_move m.move.to)) kinds
       (in_one_by (λ h v. h < c.groups → after_one nodes m.move h ≡ node_of (with_entries who (first h ++ v) (journal_in old h))) m.move.group (kinds_of_move m.move.to)
       (λ k. ap (λ b. if b then m.move.to else nodes m.move.group) (eq-eqb m.move.group m.move.group refl)
-          ∙ sym (ap (λ (s : Station). s.node) (station_both who (first m.move.group) (kinds_of_move m.move.to) (journal_in old m.move.group))))
+      ∙ sym (ap (λ (s : Station). s.node) (station_both who (first m.move.group) (kinds_of_move m.move.to) (journal_in old m.move.group))))
       (λ h n k. ap (λ b. if b then m.move.to else nodes h) n ∙ on h k ∙ ap (λ (ks : List EntryKind). node_of (with_entries who ks (journal_in old h))) (sym (append-nil (first h)))))
       chain.1 g l
 
@@ -213,7 +217,7 @@ moves_settle c who old groups kinds made nodes on chain = (
 pub given_up_settles : GivenUpSettles
 given_up_settles who old kinds group to stopped is =
     in_one_by (λ h v. (node_of (with_entries who (kinds h ++ v) (journal_in old h)) ≡ node_of (behind who old kinds h))
-        × (moving_of (behind who old kinds h) ≡ None → moving_of (with_entries who (kinds h ++ v) (journal_in old h)) ≡ None)) group stopped
+    × (moving_of (behind who old kinds h) ≡ None → moving_of (with_entries who (kinds h ++ v) (journal_in old h)) ≡ None)) group stopped
     (ends stopped is) (λ h n. ends_none h)
   where
     ends_none : (h : ℕ) → (node_of (with_entries who (kinds h ++ []) (journal_in old h)) ≡ node_of (behind who old kinds h))
@@ -319,17 +323,17 @@ plan_fails rules run e who old new by_size groups f there h grows same =
     let a : Answer = answer.Failed f in
     let legal = λ (g : ℕ). legal_read c who old groups g (journal_in old g) in (
       λ runs. deed_is_answered rules run e e who old new (numbers 0 c.groups) (reads groups) (Some (statement.RebalancePlan by_size)) a
-      (record {
-        stands = subst (λ (o : Option Fault). RunsUnless o (rules.touched c (statement.RebalancePlan by_size)) run e v (statement.RebalancePlan by_size) a) (sym runs) fails;
-        legal = legal;
-      })
-      (looks c who old (reads groups) there) grows same refl refl,
+          (record {
+            stands = subst (λ (o : Option Fault). RunsUnless o (rules.touched c (statement.RebalancePlan by_size)) run e v (statement.RebalancePlan by_size) a) (sym runs) fails;
+            legal = legal;
+          })
+          (looks c who old (reads groups) there) grows same refl refl,
       λ runs. deed_is_answered rules run e e who old new (numbers 0 c.groups) (reads groups) (Some (statement.Rebalance by_size)) a
-      (record {
-        stands = subst (λ (o : Option Fault). RunsUnless o (rules.touched c (statement.Rebalance by_size)) run e v (statement.Rebalance by_size) a) (sym runs) (inl fails);
-        legal = legal;
-      })
-      (looks c who old (reads groups) there) grows same (none_retired run e who old by_size groups f h) refl,
+          (record {
+            stands = subst (λ (o : Option Fault). RunsUnless o (rules.touched c (statement.Rebalance by_size)) run e v (statement.Rebalance by_size) a) (sym runs) (inl fails);
+            legal = legal;
+          })
+          (looks c who old (reads groups) there) grows same (none_retired run e who old by_size groups f h) refl,
     )
 
 -- ---- what a planned move is
@@ -356,15 +360,15 @@ apart a b n = elim (eqb_tells a b) [ inl y ↦ absurd (n y.1) | inr z ↦ z.0 ]
 load_moved : (c : Contents) (nodes : ℕ → ℕ) (m : Move) (l : Load) → IsLoadOf c nodes l → IsLoadOf c (after_one nodes m) (placed m l)
 load_moved c nodes m l h = elim (eqb_tells l.group m.group) [
   | inl y ↦ subst (IsLoadOf c (after_one nodes m)) (sym (ap (λ b. if b then record l { node = m.to } else l) y.0)) (record {
-      known = h.known;
-      distributed = h.distributed;
-      on = sym (ap (λ b. if b then m.to else nodes l.group) (eq-eqb m.group l.group (sym y.1)));
-    })
+    known = h.known;
+    distributed = h.distributed;
+    on = sym (ap (λ b. if b then m.to else nodes l.group) (eq-eqb m.group l.group (sym y.1)));
+  })
   | inr n ↦ subst (IsLoadOf c (after_one nodes m)) (sym (ap (λ b. if b then record l { node = m.to } else l) n.0)) (record {
-      known = h.known;
-      distributed = h.distributed;
-      on = h.on ∙ sym (ap (λ b. if b then m.to else nodes l.group) (apart m.group l.group (λ same. n.1 (sym same))));
-    })
+    known = h.known;
+    distributed = h.distributed;
+    on = h.on ∙ sym (ap (λ b. if b then m.to else nodes l.group) (apart m.group l.group (λ same. n.1 (sym same))));
+  })
 ]
 
 loads_moved : (c : Contents) (nodes : ℕ → ℕ) (m : Move) (loads : List Load) → AllByRecursion (IsLoadOf c nodes) loads → AllByRecursion (IsLoadOf c (after_one nodes m)) (moved_loads loads m)
@@ -425,12 +429,54 @@ plan_goes_on by_size run c journals nodes sizes made next more plan =
       distributed = subst (λ g. is_distributed_group c g ≡ true) n.group is.distributed;
       on = from ∙ sym n.from ∙ is.on ∙ ap (node_after nodes made) n.group;
       away = λ same. (
-      let level : load_of loads (fullest loads run.workers) ≡ load_of loads (emptiest loads run.workers) = ap (load_of loads) (sym from ∙ same ∙ n.to) in
-      let below = n.below in
-      absurd (omega (arith, level, below)));
+          let level : load_of loads (fullest loads run.workers) ≡ load_of loads (emptiest loads run.workers) = ap (load_of loads) (sym from ∙ same ∙ n.to) in
+          let below = n.below in
+          absurd (omega (arith, level, below)));
       low = omega (arith, to, within.0);
       high = λ some. let high = within.1 (omega (arith, some)) in omega (arith, to, high);
     }
+
+pub next_is_movable : NextIsMovable
+next_is_movable by_size run c who old nodes sizes made next more kinds plan chain still opened =
+    let n = plan_goes_on by_size run c old nodes sizes made next more plan in
+    let settle = moves_settle c who old (read_for by_size c) kinds made nodes plan.on chain in
+    record {
+      known = n.known;
+      on = sym (settle.0 next.group n.known) ∙ sym n.on;
+      away = n.away;
+      still = settle.1 next.group (still next.group n.known);
+      distributed = opened next.group n.distributed;
+    }
+
+both : (a b : Bool) → (a && b) ≡ true → (a ≡ true) × (b ≡ true)
+both true b h = (refl, h)
+both false b h = cc
+
+is_low : (m n : ℕ) → nat_le m n ≡ true → m ≤ n
+is_low m n h = grind (arith, nat_tests, h)
+
+is_below : (m n : ℕ) → nat_lt m n ≡ true → m < n
+is_below m n h = grind (arith, nat_tests, h)
+
+module _ (run : Run) (c : Contents) (journals : List Journal) (g : ℕ) (laid : IsLaidOut run c journals) where
+  by_place : (p : Place) → (is_distributed_place p && has_shard_at (slice_get c.colocations (colocation_of p)) p g) ≡ true → (journal_in journals g).opening ≢ 0
+  by_place Local h = cc
+  by_place (Distributed column colocation first_shard) h =
+      let co = slice_get c.colocations colocation in
+      let two = both (nat_le (first_group_in co) g) (nat_lt g (first_group_in co + count_in co)) h in
+      let is = laid.opened colocation g (is_low (first_group_in co) g two.0) (is_below g (first_group_in co + count_in co) two.1) in
+      λ zero. omega (arith, is, zero)
+  by_place (Reference group shard) h = cc
+
+  by_tables : (tables : List ℕ) → list_any (λ table. is_distributed_place (place_at c table) && has_shard c g table) tables ≡ true → (journal_in journals g).opening ≢ 0
+  by_tables [] h = cc
+  by_tables (t ∷ tables) h = elim (two_ways (is_distributed_place (place_at c t) && has_shard c g t)) [
+    | inl y ↦ by_place (place_at c t) y
+    | inr n ↦ by_tables tables (rw n at h)
+  ]
+
+pub distributed_is_opened : DistributedIsOpened
+distributed_is_opened run c journals g laid h = by_tables run c journals g laid (numbers 0 (length c.tables)) h
 
 -- ---- rebalances
 

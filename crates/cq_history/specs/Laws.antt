@@ -525,6 +525,17 @@ MovesSettle = (c : Contents) (who : Who) (old : List Journal) (groups : List ℕ
     ((g : ℕ) → g < c.groups → node_after nodes made g ≡ node_of (behind who old kinds g))
     × ((g : ℕ) → moving_of (journal_in old g) ≡ None → moving_of (behind who old kinds g) ≡ None)
 
+-- the group of a distributed table is opened on a node
+abbrev pub DistributedIsOpened : Type 0
+DistributedIsOpened = (run : Run) (c : Contents) (journals : List Journal) (g : ℕ) → IsLaidOut run c journals → is_distributed_group c g ≡ true → (journal_in journals g).opening ≢ 0
+
+-- so a next planned move can be made, where no group was moved and those of distributed tables were opened on nodes
+abbrev pub NextIsMovable : Type 0
+NextIsMovable = (by_size : Bool) (run : Run) (c : Contents) (who : Who) (old : List Journal) (nodes sizes : ℕ → ℕ) (made : List Made) (next : Move) (more : List Move) (kinds : Kinds) →
+    IsPlanOver by_size run c old nodes sizes (moves_of made ++ next ∷ more) → MovesInTurn c who old (reads (read_for by_size c)) made kinds →
+    ((g : ℕ) → g < c.groups → moving_of (journal_in old g) ≡ None) → ((g : ℕ) → is_distributed_group c g ≡ true → (journal_in old g).opening ≢ 0) →
+    IsMovable c next (behind who old kinds next.group)
+
 -- a move that was given up leaves the group where it was
 abbrev pub GivenUpSettles : Type 0
 GivenUpSettles = (who : Who) (old : List Journal) (kinds : Kinds) (group to : ℕ) (stopped : List EntryKind) → (stopped ≡ []) ⊎ IsGivenUp to stopped →

@@ -2,7 +2,7 @@ use Rattle.cq_history.proofs.Opening.{opens_laid_out, catalog_is_answered}
 use Rattle.cq_history.proofs.Faults.{read_fails, write_fails}
 use Rattle.cq_history.proofs.Explaining.{explain_is_answered, sees_all}
 use Rattle.cq_history.proofs.Moving.{move_is_answered, move_is_refused, others_move_none, failed_keeps_catalog}
-use Rattle.cq_history.proofs.Rebalancing.{plan_is_answered, plan_fails, plan_goes_on, moves_go_on, moves_settle, given_up_settles, rebalance_is_answered, rebalance_is_cut_off}
+use Rattle.cq_history.proofs.Rebalancing.{plan_is_answered, plan_fails, plan_goes_on, moves_go_on, moves_settle, distributed_is_opened, next_is_movable, given_up_settles, rebalance_is_answered, rebalance_is_cut_off}
 use Rattle.cq_history.proofs.Copying.{copy_is_answered}
 use Rattle.cq_history.proofs.Answering.{made_is_answered, refused_is_answered, lacks_is_answered, read_is_answered, large_is_answered, read_lacks_memory, write_lacks_memory, refusal_is_answered}
 use Rattle.cq_history.proofs.laws.answer_laws.Goals as goal
@@ -87,3 +87,9 @@ returns-clause-cut_off c = rebalance_is_cut_off
 
 pub returns-clause-plan_on : goal.returns-clause-plan_on
 returns-clause-plan_on c = plan_goes_on
+
+pub returns-clause-opened : goal.returns-clause-opened
+returns-clause-opened c = distributed_is_opened
+
+pub returns-clause-movable : goal.returns-clause-movable
+returns-clause-movable c = next_is_movable
