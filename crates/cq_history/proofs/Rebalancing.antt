@@ -38,10 +38,10 @@ use Rattle.cq_history.specs.Looks.{has_shard, has_shard_at}
 use Rattle.cq_history.specs.Log.{IsLaidOut}
 use Rattle.cq_history.specs.Rebalances.{loads_in, read_for, plan_names, plan_row, Made, moves_of, Either, BeginsWith, AreMovesOf, node_after, rebalance_names, rebalance_row}
 use Rattle.cq_history.specs.Standing.{View, Enters, reads, RunsUnless, IsPlanned, Plans, AreStepsOf, EntersMoves, NoStep, StopsIn, FailsMove}
-use Rattle.cq_history.specs.Deeds.{Deed, in_deed, first_seen, deed_over}
-use Rattle.cq_history.specs.Laws.{look_at, in_one, IsGivenUp, IsPlanOver, PlanIsAnswered, FailsPlan, PlanFails, PlanGoesOn, kinds_of_move, then_in, behind, IsMovable, IsMadeOver, MovesInTurn, MovesGoOn, MovesSettle, DistributedIsOpened, NextIsMovable, GivenUpSettles, RebalanceIsAnswered, GivesUp, FailsAlone, RebalanceIsCutOff}
+use Rattle.cq_history.specs.Deeds.{Deed, in_deed, first_seen, deed_over, IsFresh}
+use Rattle.cq_history.specs.Laws.{look_at, in_one, IsGivenUp, IsPlanOver, PlanIsAnswered, FailsPlan, PlanFails, PlanGoesOn, GrowsInGroup, kinds_of_move, then_in, behind, IsMovable, IsMadeOver, MovesInTurn, MovesGoOn, MovesSettle, DistributedIsOpened, NextIsMovable, GivenUpSettles, RebalanceIsAnswered, GivesUp, FailsAlone, RebalanceIsCutOff}
 use Rattle.cq_history.proofs.Lists.{two_ways, all_append}
-use Rattle.cq_history.proofs.Entries.{entries_by, kinds_consecutive}
+use Rattle.cq_history.proofs.Entries.{entries_by, index_beyond, kinds_consecutive}
 use Rattle.cq_history.proofs.Doing.{with_both}
 use Rattle.cq_history.proofs.Answering.{sees}
 use Rattle.cq_history.proofs.Explaining.{among_only, among_numbers}
@@ -66,6 +66,20 @@ in_one_by Q group ks own other g = elim (eqb_tells group g) [
   | inl y ↦ subst (λ h. Q h (in_one group ks h)) y.1 (subst (Q group) (sym (in_own group ks)) own)
   | inr n ↦ subst (Q g) (sym (in_other group g ks n.1)) (other g n.0)
 ]
+
+flipped : (a b : ℕ) → nat_eq a b ≡ false → nat_eq b a ≡ false
+flipped a b n = elim (eqb_tells b a) [ inl y ↦ (let bad : true ≡ false = sym (eq-eqb a b (sym y.1)) ∙ n in absurd (cc)) | inr z ↦ z.0 ]
+
+pub grows_in_group : GrowsInGroup
+grows_in_group who kinds group old new same there own others = record {
+  count = omega (arith, same);
+  kept = λ g l. in_one_by (λ h v. journal_in new h ≡ with_entries who v (journal_in old h)) group kinds own (λ h n. others h (flipped group h n) ∙ sym (with_none who (journal_in old h))) g;
+  fresh = λ g m.
+      let n : length new ≤ g = omega (arith, same, m) in (
+        subst (IsFresh g) (sym (index_beyond new g _ n)) (record { number = refl; base = λ table. refl; entries = refl }),
+        in_one_by (λ h v. length old ≤ h → v ≡ []) group kinds (λ k. absurd (omega (arith, k, there))) (λ h k l. refl) g m,
+      );
+}
 
 consecutive_append : (who : Who) (j : Journal) (ks ls : List EntryKind) → consecutive who j (ks ++ ls) ≡ consecutive who j ks ++ consecutive who (with_entries who ks j) ls
 consecutive_append who j [] ls = ap (λ (i : Journal). consecutive who i ls) (sym (with_none who j))

@@ -399,6 +399,11 @@ ExplainIsAnswered = (rules : Rules) (run : Run) (e : Environment) (who : Who) (j
 abbrev pub in_one : ℕ → List EntryKind → Kinds
 in_one group kinds g = if nat_eq g group then kinds else []
 
+-- journals that grow by them
+abbrev pub GrowsInGroup : Type 0
+GrowsInGroup = (who : Who) (kinds : List EntryKind) (group : ℕ) (old new : List Journal) → length new ≡ length old → group < length old → journal_in new group ≡ with_entries who kinds (journal_in old group) →
+    ((g : ℕ) → nat_eq g group ≡ false → journal_in new g ≡ journal_in old g) → Grows who (in_one group kinds) old new
+
 -- the entries of a move that was given up, beside which nothing wrote
 abbrev pub IsGivenUp : ℕ → List EntryKind → Type 0
 IsGivenUp to kinds = (kinds ≡ entry.MoveStart to ∷ entry.MoveStop ∷ []) ⊎ (kinds ≡ entry.MoveStart to ∷ entry.CatchUp ∷ entry.MoveStop ∷ [])

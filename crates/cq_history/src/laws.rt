@@ -4,7 +4,7 @@ ghost use Rattle.cq_history.specs.Laws.{OtherAccounts, FaultAccounts, NewAccount
 ghost use Rattle.cq_history.specs.Laws.{WantedSuffice, JoinsSuffice};
 ghost use Rattle.cq_history.specs.Laws.{LogBegins, LogGoesOn, AnswersGoOn, IdleIsAnswered, DeedIsAnswered, StaysLaidOut, CatalogGoesOn, LogStands};
 ghost use Rattle.cq_history.specs.Laws.{CopyIsAnswered};
-ghost use Rattle.cq_history.specs.Laws.{PlanIsAnswered, PlanFails, PlanGoesOn, MovesGoOn, MovesSettle, DistributedIsOpened, NextIsMovable, GivenUpSettles, RebalanceIsAnswered, RebalanceIsCutOff};
+ghost use Rattle.cq_history.specs.Laws.{PlanIsAnswered, PlanFails, PlanGoesOn, GrowsInGroup, MovesGoOn, MovesSettle, DistributedIsOpened, NextIsMovable, GivenUpSettles, RebalanceIsAnswered, RebalanceIsCutOff};
 ghost use Rattle.cq_history.specs.Laws.{MadeIsAnswered, RefusedIsAnswered, LacksIsAnswered, ReadIsAnswered, LargeIsAnswered, ReadLacksMemory, ReadFails, WriteFails, WriteLacksMemory, ExplainIsAnswered, RefusalIsAnswered, OpensLaidOut, SeesAll, MoveIsAnswered, MoveIsRefused, OthersMoveNone, FailedKeepsCatalog, CatalogIsAnswered};
 
 /// The reply of a write over the undistributed database, by the replies of its parts in the groups that it touches; and what it
@@ -80,6 +80,7 @@ pub fn answer_laws()
     ensures planned { PlanIsAnswered }
     ensures plan_fails { PlanFails }
     ensures plan_on { PlanGoesOn }
+    ensures grows_in_group { GrowsInGroup }
     ensures moves_on { MovesGoOn }
     ensures settle { MovesSettle }
     ensures opened { DistributedIsOpened }
