@@ -225,7 +225,7 @@ large_does rules run e who d seen q r large =
 
 -- ---- entries in some groups and then in others
 
-with_both : (who : Who) (ks ls : List EntryKind) (j : Journal) → with_entries who ls (with_entries who ks j) ≡ with_entries who (ks ++ ls) j
+pub with_both : (who : Who) (ks ls : List EntryKind) (j : Journal) → with_entries who ls (with_entries who ks j) ≡ with_entries who (ks ++ ls) j
 with_both who ks ls j =
     ap (λ (v : List Entry). record { number = j.number; opening = j.opening; base = j.base; entries = v })
     (three j.entries (map (λ (k : EntryKind). record { who = who; kind = k }) ks) (map (λ (k : EntryKind). record { who = who; kind = k }) ls)

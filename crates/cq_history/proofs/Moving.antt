@@ -1,6 +1,6 @@
 -- The answers of moves.
-use Rattle.std.proofs.Common.{◌≡◌, ◌≢◌, ◌⊎◌, ◌+◌, ◌<◌, ◌≤◌, inl, inr, ℕ, true, false, cond, List, [], ◌∷◌, ◌++◌, length, refl, sym, ◌∙◌, ap, subst, arith, Some, None, Option}
-use Rattle.std.specs.Prelude.{◌-◌, ◌||◌, ⊤, nat_eq, nat_lt, drop}
+use Rattle.std.proofs.Common.{◌≡◌, ◌≢◌, ◌+◌, ◌<◌, inl, inr, ℕ, true, false, cond, List, [], ◌∷◌, ◌++◌, length, refl, sym, ◌∙◌, ap, subst, arith, Some, None, Option}
+use Rattle.std.specs.Prelude.{◌-◌, ◌||◌, ⊤, nat_eq, nat_lt}
 use Rattle.std.specs.List.{AllByRecursion, sum_by}
 use Rattle.std.proofs.lemmas.Bool.Decides.{eqb_tells}
 use Rattle.std.proofs.lemmas.Bool.{eq-eqb}
@@ -24,11 +24,11 @@ use Rattle.cq_answer.specs.declared.fault.Fault.TheVariants as fault
 use Rattle.cq_planning.specs.Touched.{among, numbers}
 use Rattle.cq_history.specs.Run.{Run, Rules, Environment, retiring, after}
 use Rattle.cq_history.specs.Room.{tables_in, free_at, short_at}
-use Rattle.cq_history.specs.Journals.{journal_in, Kinds, none, in_each, Step, with_entries, consecutive, kinds_in}
+use Rattle.cq_history.specs.Journals.{journal_in, none, in_each, Step, with_entries, consecutive, kinds_in}
 use Rattle.cq_history.specs.Legality.{IsLegalStep}
-use Rattle.cq_history.specs.Moves.{Report, rows_written, written_between, rows_held, IsMove, IsStopped, node_fault, mover_fault, place_fault, move_fault}
-use Rattle.cq_history.specs.Standing.{View, Enters, EntersIn, Yields, Moves, MovesUnless, IsMoved, IsMovedIn, Runs, RunsUnless, StandsIn}
-use Rattle.cq_history.specs.Deeds.{Deed, in_deed, first_seen, deed_over, Grows, Follows, Does}
+use Rattle.cq_history.specs.Moves.{rows_written, written_between, rows_held, IsMove, IsStopped, node_fault, mover_fault, place_fault, move_fault}
+use Rattle.cq_history.specs.Standing.{View, Enters, EntersIn, Yields, Moves, MovesUnless, IsMovedIn, Runs, RunsUnless, StandsIn}
+use Rattle.cq_history.specs.Deeds.{Deed, in_deed, first_seen, deed_over, Grows}
 use Rattle.cq_history.specs.Faults.{below}
 use Rattle.cq_history.specs.Rebalances.{read_for}
 use Rattle.cq_history.specs.Log.{IsAnswered}
@@ -41,10 +41,10 @@ use Rattle.cq_history.proofs.Script.{deed_is_answered, idle_is_answered, grows_n
 
 -- ---- a group's station as entries are added
 
-station_more : (who : Who) (k : EntryKind) (j : Journal) → station_of (with_entries who (k ∷ []) j) ≡ moved (station_of j) who k
+pub station_more : (who : Who) (k : EntryKind) (j : Journal) → station_of (with_entries who (k ∷ []) j) ≡ moved (station_of j) who k
 station_more who k j = fold-append (λ s (e : Entry). moved s e.who e.kind) (record { node = j.opening; moving = None; target = j.opening }) j.entries (record { who = who; kind = k } ∷ [])
 
-moving_more : (who : Who) (k : EntryKind) (j : Journal) (m : Option Who) → (moved (station_of j) who k).moving ≡ m → moving_of (with_entries who (k ∷ []) j) ≡ m
+pub moving_more : (who : Who) (k : EntryKind) (j : Journal) (m : Option Who) → (moved (station_of j) who k).moving ≡ m → moving_of (with_entries who (k ∷ []) j) ≡ m
 moving_more who k j m e = ap (λ (s : Station). s.moving) (station_more who k j) ∙ e
 
 -- nothing stands between a statement's entries
@@ -54,9 +54,77 @@ written_none who k l m j =
     let long = length-append j.entries (record { who = who; kind = l } ∷ []) in
     ap (λ (es : List Entry). sum_by (λ (e : Entry). rows_written e.kind) es) (drop_all (length j.entries + 1) all (omega (arith, long)))
 
+-- ---- the steps of a move of a group with this journal, beside which nothing writes
+
+module _ (c : Contents) (who : Who) (group from to : ℕ) (j : Journal) where
+  abbrev j1 : Journal
+  j1 = with_entries who (entry.MoveStart to ∷ []) j
+
+  abbrev j2 : Journal
+  j2 = with_entries who (entry.CatchUp ∷ []) j1
+
+  moving1 : moving_of j1 ≡ Some who
+  moving1 = moving_more who (entry.MoveStart to) j (Some who) refl
+
+  moving2 : moving_of j2 ≡ Some who
+  moving2 = moving_more who entry.CatchUp j1 (Some who) moving1
+
+  abbrev Starts : Type 0
+  Starts = IsLegalStep c group who (record { before = j; kind = entry.MoveStart to })
+
+  abbrev Legal : List EntryKind → Type 0
+  Legal kinds = AllByRecursion (IsLegalStep c group who) (consecutive who j kinds)
+
+  pub legal_made : Starts → Legal (entry.MoveStart to ∷ entry.CatchUp ∷ entry.Cutover ∷ [])
+  legal_made starts = (starts, ((tt, moving1), ((tt, moving2), tt)))
+
+  pub legal_given_up : (kinds : List EntryKind) → Starts → IsGivenUp to kinds → Legal kinds
+  legal_given_up kinds starts (inl is) = subst Legal (sym is) (starts, ((tt, moving1), tt))
+  legal_given_up kinds starts (inr is) = subst Legal (sym is) (starts, ((tt, moving1), ((tt, moving2), tt)))
+
+  pub is_move : node_of j ≡ from → IsMove c group from to (record { copied = rows_held c group j; caught = 0; last = 0 }) (consecutive who j (entry.MoveStart to ∷ entry.CatchUp ∷ entry.Cutover ∷ []))
+  is_move there = record {
+    start = record { before = j; kind = entry.MoveStart to };
+    rounds = record { before = j1; kind = entry.CatchUp } ∷ [];
+    cutover = record { before = j2; kind = entry.Cutover };
+    all = refl;
+    starts = refl;
+    there = there;
+    catches = (refl, tt);
+    ends = refl;
+    settled = (omega arith, inl (written_none who (entry.MoveStart to) (entry.MoveStart to) entry.CatchUp j));
+    copied = refl;
+    caught = sym (written_none who (entry.MoveStart to) (entry.MoveStart to) entry.CatchUp j);
+    last = sym (written_none who entry.CatchUp entry.CatchUp entry.Cutover j1);
+  }
+
+  pub is_stopped : node_of j ≡ from → (kinds : List EntryKind) → IsGivenUp to kinds → IsStopped from to (consecutive who j kinds)
+  is_stopped there kinds (inl is) = subst (λ (ks : List EntryKind). IsStopped from to (consecutive who j ks)) (sym is) (record {
+    start = record { before = j; kind = entry.MoveStart to };
+    rounds = [];
+    stop = record { before = j1; kind = entry.MoveStop };
+    all = refl;
+    starts = refl;
+    there = there;
+    few = omega arith;
+    catches = tt;
+    ends = refl;
+  })
+  is_stopped there kinds (inr is) = subst (λ (ks : List EntryKind). IsStopped from to (consecutive who j ks)) (sym is) (record {
+    start = record { before = j; kind = entry.MoveStart to };
+    rounds = record { before = j1; kind = entry.CatchUp } ∷ [];
+    stop = record { before = j2; kind = entry.MoveStop };
+    all = refl;
+    starts = refl;
+    there = there;
+    few = omega arith;
+    catches = (refl, tt);
+    ends = refl;
+  })
+
 -- ---- what failed
 
-retiring_catalog : (e : Environment) (f : Fault) → (retiring e f).catalog ≡ e.catalog
+pub retiring_catalog : (e : Environment) (f : Fault) → (retiring e f).catalog ≡ e.catalog
 retiring_catalog e (fault.Retired node shard before after) = refl
 retiring_catalog e f = refl
 
@@ -113,34 +181,15 @@ module _ (rules : Rules) (run : Run) (e : Environment) (who : Who) (old : List J
 
   -- ---- the entries
 
-  abbrev j1 : Journal
-  j1 = with_entries who (entry.MoveStart to ∷ []) j
-
-  abbrev j2 : Journal
-  j2 = with_entries who (entry.CatchUp ∷ []) j1
-
-  moving1 : moving_of j1 ≡ Some who
-  moving1 = moving_more who (entry.MoveStart to) j (Some who) refl
-
-  moving2 : moving_of j2 ≡ Some who
-  moving2 = moving_more who entry.CatchUp j1 (Some who) moving1
-
   starts : place_fault (nodes group) from to ≡ None → IsLegalStep e.catalog group who (record { before = j; kind = entry.MoveStart to })
   starts p = (tt, (found.still, λ is. (placed (nodes group) from to p).1 (is ∙ sym (found.on group found.there)), found.distributed))
 
-  legal_made : place_fault (nodes group) from to ≡ None → AllByRecursion (IsLegalStep e.catalog group who) (consecutive who j (entry.MoveStart to ∷ entry.CatchUp ∷ entry.Cutover ∷ []))
-  legal_made p = (starts p, ((tt, moving1), ((tt, moving2), tt)))
-
-  legal_given_up : (kinds : List EntryKind) → place_fault (nodes group) from to ≡ None → IsGivenUp to kinds → AllByRecursion (IsLegalStep e.catalog group who) (consecutive who j kinds)
-  legal_given_up kinds p (inl is) = subst (λ (ks : List EntryKind). AllByRecursion (IsLegalStep e.catalog group who) (consecutive who j ks)) (sym is) (starts p, ((tt, moving1), tt))
-  legal_given_up kinds p (inr is) = subst (λ (ks : List EntryKind). AllByRecursion (IsLegalStep e.catalog group who) (consecutive who j ks)) (sym is) (starts p, ((tt, moving1), ((tt, moving2), tt)))
-
   legal_of : (kinds : List EntryKind) (a : Answer) → place_fault (nodes group) from to ≡ None → MovesAlone e.catalog group from to j kinds a → AllByRecursion (IsLegalStep e.catalog group who) (consecutive who j kinds)
-  legal_of kinds (answer.Table names rows) p m = subst (λ (ks : List EntryKind). AllByRecursion (IsLegalStep e.catalog group who) (consecutive who j ks)) (sym m.0) (legal_made p)
+  legal_of kinds (answer.Table names rows) p m = subst (λ (ks : List EntryKind). AllByRecursion (IsLegalStep e.catalog group who) (consecutive who j ks)) (sym m.0) (legal_made e.catalog who group from to j (starts p))
   legal_of kinds (answer.Failed (fault.Worker node store before after)) p m = subst (λ (ks : List EntryKind). AllByRecursion (IsLegalStep e.catalog group who) (consecutive who j ks)) (sym m.0) tt
-  legal_of kinds (answer.Failed (fault.Retired node store before after)) p m = legal_given_up kinds p m.0
+  legal_of kinds (answer.Failed (fault.Retired node store before after)) p m = legal_given_up e.catalog who group from to j kinds (starts p) m.0
   legal_of kinds (answer.Failed fault.Memory) p (inl is) = subst (λ (ks : List EntryKind). AllByRecursion (IsLegalStep e.catalog group who) (consecutive who j ks)) (sym is) tt
-  legal_of kinds (answer.Failed fault.Memory) p (inr is) = legal_given_up kinds p is
+  legal_of kinds (answer.Failed fault.Memory) p (inr is) = legal_given_up e.catalog who group from to j kinds (starts p) is
   legal_of kinds a p m = absurd m
 
   all_legal : (kinds : List EntryKind) → AllByRecursion (IsLegalStep e.catalog group who) (consecutive who j kinds) → (g : ℕ) → AllByRecursion (IsLegalStep e.catalog g who) ((deed kinds).made g)
@@ -160,54 +209,18 @@ module _ (rules : Rules) (run : Run) (e : Environment) (who : Who) (old : List J
   enters_in : (kinds : List EntryKind) (P : List Step → Type 0) → P (consecutive who j kinds) → EntersIn (view kinds) group P
   enters_in kinds P h = (subst P (sym (own kinds)) h, others kinds)
 
-  is_move : node_of j ≡ from → IsMove e.catalog group from to (record { copied = rows_held e.catalog group j; caught = 0; last = 0 }) (consecutive who j (entry.MoveStart to ∷ entry.CatchUp ∷ entry.Cutover ∷ []))
-  is_move there = record {
-    start = record { before = j; kind = entry.MoveStart to };
-    rounds = record { before = j1; kind = entry.CatchUp } ∷ [];
-    cutover = record { before = j2; kind = entry.Cutover };
-    all = refl;
-    starts = refl;
-    there = there;
-    catches = (refl, tt);
-    ends = refl;
-    settled = (omega arith, inl (written_none who (entry.MoveStart to) (entry.MoveStart to) entry.CatchUp j));
-    copied = refl;
-    caught = sym (written_none who (entry.MoveStart to) (entry.MoveStart to) entry.CatchUp j);
-    last = sym (written_none who entry.CatchUp entry.CatchUp entry.Cutover j1);
-  }
-
-  is_stopped : node_of j ≡ from → (kinds : List EntryKind) → IsGivenUp to kinds → IsStopped from to (consecutive who j kinds)
-  is_stopped there kinds (inl is) = subst (λ (ks : List EntryKind). IsStopped from to (consecutive who j ks)) (sym is) (record {
-    start = record { before = j; kind = entry.MoveStart to };
-    rounds = [];
-    stop = record { before = j1; kind = entry.MoveStop };
-    all = refl;
-    starts = refl;
-    there = there;
-    few = omega arith;
-    catches = tt;
-    ends = refl;
-  })
-  is_stopped there kinds (inr is) = subst (λ (ks : List EntryKind). IsStopped from to (consecutive who j ks)) (sym is) (record {
-    start = record { before = j; kind = entry.MoveStart to };
-    rounds = record { before = j1; kind = entry.CatchUp } ∷ [];
-    stop = record { before = j2; kind = entry.MoveStop };
-    all = refl;
-    starts = refl;
-    there = there;
-    few = omega arith;
-    catches = (refl, tt);
-    ends = refl;
-  })
-
   moves : node_of j ≡ from → (kinds : List EntryKind) (a : Answer) → MovesAlone e.catalog group from to j kinds a → Moves e.catalog (view kinds) group from to a
-  moves there kinds (answer.Table names rows) m = (record { copied = rows_held e.catalog group j; caught = 0; last = 0 }, m.1, m.2,
+  moves there kinds (answer.Table names rows) m = (
+    record { copied = rows_held e.catalog group j; caught = 0; last = 0 },
+    m.1,
+    m.2,
     enters_in kinds (IsMove e.catalog group from to (record { copied = rows_held e.catalog group j; caught = 0; last = 0 }))
-    (subst (λ (ks : List EntryKind). IsMove e.catalog group from to (record { copied = rows_held e.catalog group j; caught = 0; last = 0 }) (consecutive who j ks)) (sym m.0) (is_move there)))
+        (subst (λ (ks : List EntryKind). IsMove e.catalog group from to (record { copied = rows_held e.catalog group j; caught = 0; last = 0 }) (consecutive who j ks)) (sym m.0) (is_move e.catalog who group from to j there)),
+  )
   moves there kinds (answer.Failed (fault.Worker node store before after)) m = (enters_none kinds m.0, m.1, m.2, m.3)
-  moves there kinds (answer.Failed (fault.Retired node store before after)) m = (enters_in kinds (IsStopped from to) (is_stopped there kinds m.0), m.1, m.2, m.3)
+  moves there kinds (answer.Failed (fault.Retired node store before after)) m = (enters_in kinds (IsStopped from to) (is_stopped e.catalog who group from to j there kinds m.0), m.1, m.2, m.3)
   moves there kinds (answer.Failed fault.Memory) (inl is) = inl (enters_none kinds is)
-  moves there kinds (answer.Failed fault.Memory) (inr is) = inr (enters_in kinds (IsStopped from to) (is_stopped there kinds is))
+  moves there kinds (answer.Failed fault.Memory) (inr is) = inr (enters_in kinds (IsStopped from to) (is_stopped e.catalog who group from to j there kinds is))
   moves there kinds a m = absurd m
 
   stands : (kinds : List EntryKind) (a : Answer) → MovesUnless (move_fault run e.catalog e.retired nodes None group from to) e.catalog (view kinds) group from to a → StandsIn rules run e (view kinds) (Some s) a

@@ -21,7 +21,7 @@ use Rattle.cq_history.specs.Rebalances.{read_for, Made, moves_of}
 use Rattle.cq_balance.specs.declared.load.Move.{Move}
 use Rattle.cq_journal.specs.Records.{Journal}
 use Rattle.cq_history.specs.Journals.{Kinds, Step, none}
-use Rattle.cq_history.specs.Standing.{View, Enters, reads, AreReady, IsMadeIn, IsRefusedIn, LacksIdsIn, IsFaultIn, IsReadFault, IsWriteFault, IsExplained, EntersIn, Moves, MovesUnless, IsMovedIn, IsPlanned, Plans, EntersMoves, NoStep, StopsIn, FailsMove, IsCutOff, Rebalances, Runs, RunsUnless, StandsIn}
+use Rattle.cq_history.specs.Standing.{View, Enters, reads, AreReady, IsMadeIn, IsRefusedIn, LacksIdsIn, IsFaultIn, IsReadFault, IsWriteFault, IsExplained, EntersIn, Moves, MovesUnless, IsMovedIn, IsPlanned, Plans, EntersMoves, NoStep, StopsIn, FailsMove, Rebalances, Runs, RunsUnless, StandsIn}
 
 module _ (v w : View) (made : (g : ℕ) (P : List Step → Type 0) → v.made g P → w.made g P) (wherever : (P : Tables → Type 0) → v.wherever P → w.wherever P)
     (saw : (g : ℕ) (P : Journal → Type 0) → v.saw g P → w.saw g P) where

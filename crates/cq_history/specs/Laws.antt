@@ -1,5 +1,5 @@
 -- The laws.
-use Rattle.std.specs.Prelude.{◌-◌, ◌%◌, slice_get, ◌≡◌, ◌≢◌, ◌⊎◌, ⊤, ℕ, ◌+◌, ◌≤◌, ◌<◌, true, false, List, [], ◌∷◌, ◌++◌, length, nat_eq, ◌&&◌, if◌then◌else◌, Option, Some, None, codes}
+use Rattle.std.specs.Prelude.{◌-◌, ◌%◌, slice_get, ◌≡◌, ◌≢◌, ◌⊎◌, ⊤, ℕ, Bool, map, ◌+◌, ◌≤◌, ◌<◌, true, false, List, [], ◌∷◌, ◌++◌, length, nat_eq, ◌&&◌, if◌then◌else◌, Option, Some, None, codes}
 use Rattle.std.specs.List.{AllByRecursion, sum_by}
 use Rattle.std.specs.List.Sorted.{IsPermutation}
 use Rattle.cq_tree.specs.declared.write.ShardOp.{ShardOp}
@@ -48,10 +48,14 @@ use Rattle.cq_history.specs.Legality.{LeavesColumn, IsLegal, IsKeyed}
 use Rattle.cq_history.specs.Refusals.{is_alone}
 use Rattle.cq_demands.specs.Demands.{demands, rows_with}
 use Rattle.cq_demands.specs.JoinDemands.{is_plain, wants_in, AreWide, IsNarrowed}
-use Rattle.cq_history.specs.Standing.{most_rows, AreAmong, counted, reply_in, HasIds, IsReady, tag_of, copied_answer, rows_of_lines, SeesNodes, report_names, report_row, StandsIn, Stands}
+use Rattle.cq_history.specs.Standing.{most_rows, AreAmong, counted, reply_in, HasIds, IsReady, reads, tag_of, copied_answer, rows_of_lines, SeesNodes, report_names, report_row, StandsIn, Stands}
 use Rattle.cq_history.specs.Moves.{rows_held, move_fault}
+use Rattle.cq_history.specs.Room.{tables_in, short_at}
+use Rattle.cq_history.specs.Rebalances.{size_of, loads_in, read_for, plan_names, plan_row, Made, moves_of, node_after, rebalance_names, rebalance_row}
+use Rattle.cq_balance.specs.Greedy.{greedy}
+use Rattle.cq_balance.specs.declared.load.Move.{Move}
 use Rattle.cq_store.specs.Stores.{StoreState, Rose}
-use Rattle.cq_history.specs.Faults.{IsShardIn, IsOnNode, near, node_read, below, range_in, AccountsFor, NamesBelow}
+use Rattle.cq_history.specs.Faults.{is_distributed_group, IsShardIn, IsOnNode, near, node_read, below, range_in, AccountsFor, NamesBelow}
 use Rattle.cq_history.specs.Deeds.{Deed, first_seen, in_deed, Does, HasDeed, Grows, GoesOn, Follows, deed_over}
 use Rattle.cq_history.specs.Log.{who_of, AllStandFrom, AllDoneFrom, AllStand, IsWhole, IsLaidOut, IsConsistent, IsAnswered, next_who, answered_by}
 
@@ -395,6 +399,11 @@ ExplainIsAnswered = (rules : Rules) (run : Run) (e : Environment) (who : Who) (j
 abbrev pub in_one : ℕ → List EntryKind → Kinds
 in_one group kinds g = if nat_eq g group then kinds else []
 
+-- journals that grow by them
+abbrev pub GrowsInGroup : Type 0
+GrowsInGroup = (who : Who) (kinds : List EntryKind) (group : ℕ) (old new : List Journal) → length new ≡ length old → group < length old → journal_in new group ≡ with_entries who kinds (journal_in old group) →
+    ((g : ℕ) → nat_eq g group ≡ false → journal_in new g ≡ journal_in old g) → Grows who (in_one group kinds) old new
+
 -- the entries of a move that was given up, beside which nothing wrote
 abbrev pub IsGivenUp : ℕ → List EntryKind → Type 0
 IsGivenUp to kinds = (kinds ≡ entry.MoveStart to ∷ entry.MoveStop ∷ []) ⊎ (kinds ≡ entry.MoveStart to ∷ entry.CatchUp ∷ entry.MoveStop ∷ [])
@@ -433,6 +442,139 @@ MoveIsRefused = (rules : Rules) (run : Run) (e : Environment) (who : Who) (journ
     × ((nodes : ℕ → ℕ) (group : ℕ) (f : Fault) → IsFound rules e journals nodes shard from to group → move_fault run e.catalog e.retired nodes None group from to ≡ Some f →
     IsAnswered rules run e e who journals journals (Some (statement.Move shard from to)) (answer.Failed f)
     × IsAnswered rules run e e who journals journals (Some (statement.Move shard from to)) (answer.Failed fault.Memory))
+
+-- ---- rebalances
+
+-- a plan is the greedy one over the groups of these journals, each on its node and of its size
+pub record IsPlanOver (by_size : Bool) (run : Run) (c : Contents) (journals : List Journal) (nodes sizes : ℕ → ℕ) (moves : List Move) : Type 0 where
+  pub groups : c.groups ≤ length journals
+  pub on : (g : ℕ) → g < c.groups → nodes g ≡ node_of (journal_in journals g)
+  pub sized : (g : ℕ) → g < c.groups → sizes g ≡ size_of by_size c g (journal_in journals g)
+  pub greedy : moves ≡ greedy (loads_in c nodes sizes) run.workers
+
+-- the plan was shown
+abbrev pub PlanIsAnswered : Type 0
+PlanIsAnswered = (rules : Rules) (run : Run) (e : Environment) (who : Who) (old new : List Journal) (by_size : Bool) (nodes sizes : ℕ → ℕ) (moves : List Move) →
+    rules.refusal e (statement.RebalancePlan by_size) ≡ None → IsPlanOver by_size run e.catalog old nodes sizes moves →
+    Grows who (reads (read_for by_size e.catalog)) old new → length new ≡ length old →
+    IsAnswered rules run e e who old new (Some (statement.RebalancePlan by_size)) (answer.Table plan_names (map plan_row moves))
+
+-- why there is no plan, and the groups that were read by then: a group's store failed, after those before it were read; or memory ran out
+abbrev pub FailsPlan : Bool → Run → Contents → List Journal → List ℕ → Fault → Type 0
+FailsPlan by_size run c journals groups (fault.Worker node shard before after) =
+    (group : ℕ) × (groups ≡ below group (read_for by_size c)) × (among group (read_for by_size c) ≡ true) × IsShardIn c group shard
+    × (node ≡ node_read (near c run.workers (read_for by_size c)) (journal_in journals group)) × Rose before after
+FailsPlan by_size run c journals groups fault.Memory = AreAmong groups (read_for by_size c)
+FailsPlan by_size run c journals groups f = ⊥
+
+-- so the plan fails, and the rebalance that would follow it
+abbrev pub PlanFails : Type 0
+PlanFails = (rules : Rules) (run : Run) (e : Environment) (who : Who) (old new : List Journal) (by_size : Bool) (groups : List ℕ) (f : Fault) → e.catalog.groups ≤ length old →
+    FailsPlan by_size run e.catalog old groups f → Grows who (reads groups) old new → length new ≡ length old →
+    (rules.refusal e (statement.RebalancePlan by_size) ≡ None → IsAnswered rules run e e who old new (Some (statement.RebalancePlan by_size)) (answer.Failed f))
+    × (rules.refusal e (statement.Rebalance by_size) ≡ None → IsAnswered rules run e e who old new (Some (statement.Rebalance by_size)) (answer.Failed f))
+
+-- what a planned move is, behind those before it: of a distributed group that is on its first node by then, to another node
+pub record IsNextMove (run : Run) (c : Contents) (nodes : ℕ → ℕ) (made : List Made) (m : Move) : Type 0 where
+  pub known : m.group < c.groups
+  pub distributed : is_distributed_group c m.group ≡ true
+  pub on : m.from ≡ node_after nodes made m.group
+  pub away : m.from ≢ m.to
+  pub low : 1 ≤ m.to
+  pub high : 1 ≤ run.workers → m.to ≤ run.workers
+
+abbrev pub PlanGoesOn : Type 0
+PlanGoesOn = (by_size : Bool) (run : Run) (c : Contents) (journals : List Journal) (nodes sizes : ℕ → ℕ) (made : List Made) (next : Move) (more : List Move) →
+    IsPlanOver by_size run c journals nodes sizes (moves_of made ++ next ∷ more) → IsNextMove run c nodes made next
+
+-- the entries of a move that was made, beside which nothing wrote
+abbrev pub kinds_of_move : ℕ → List EntryKind
+kinds_of_move to = entry.MoveStart to ∷ entry.CatchUp ∷ entry.Cutover ∷ []
+
+-- these entries, and then more in one group
+abbrev pub then_in : Kinds → ℕ → List EntryKind → Kinds
+then_in kinds group more g = kinds g ++ in_one group more g
+
+-- the journal of a group behind these entries
+abbrev pub behind : Who → List Journal → Kinds → ℕ → Journal
+behind who old kinds g = with_entries who (kinds g) (journal_in old g)
+
+-- a group as a planned move finds it
+pub record IsMovable (c : Contents) (m : Move) (j : Journal) : Type 0 where
+  pub known : m.group < c.groups
+  pub on : node_of j ≡ m.from
+  pub away : m.from ≢ m.to
+  pub still : moving_of j ≡ None
+  pub distributed : j.opening ≢ 0
+
+-- a move that was made of such a group, and its report
+pub record IsMadeOver (c : Contents) (m : Made) (j : Journal) : Type 0 where
+  pub movable : IsMovable c m.move j
+  pub reports : m.report ≡ record { copied = rows_held c m.move.group j; caught = 0; last = 0 }
+
+-- moves that were made one after the other, behind the entries so far, and all entries then: each enters its own behind what stands in its group
+abbrev pub MovesInTurn : Contents → Who → List Journal → Kinds → List Made → Kinds → Type 0
+MovesInTurn c who old first [] kinds = (g : ℕ) → kinds g ≡ first g
+MovesInTurn c who old first (m ∷ made) kinds =
+    IsMadeOver c m (behind who old first m.move.group) × MovesInTurn c who old (then_in first m.move.group (kinds_of_move m.move.to)) made kinds
+
+-- so with one more
+abbrev pub MovesGoOn : Type 0
+MovesGoOn = (c : Contents) (who : Who) (old : List Journal) (first kinds : Kinds) (made : List Made) (m : Made) → MovesInTurn c who old first made kinds → IsMadeOver c m (behind who old kinds m.move.group) →
+    MovesInTurn c who old first (made ++ m ∷ []) (then_in kinds m.move.group (kinds_of_move m.move.to))
+
+-- each group is on the node that the moves tell, and none is moved any more
+abbrev pub MovesSettle : Type 0
+MovesSettle = (c : Contents) (who : Who) (old : List Journal) (groups : List ℕ) (kinds : Kinds) (made : List Made) (nodes : ℕ → ℕ) → ((g : ℕ) → g < c.groups → nodes g ≡ node_of (journal_in old g)) →
+    MovesInTurn c who old (reads groups) made kinds →
+    ((g : ℕ) → g < c.groups → node_after nodes made g ≡ node_of (behind who old kinds g))
+    × ((g : ℕ) → moving_of (journal_in old g) ≡ None → moving_of (behind who old kinds g) ≡ None)
+
+-- the group of a distributed table is opened on a node
+abbrev pub DistributedIsOpened : Type 0
+DistributedIsOpened = (run : Run) (c : Contents) (journals : List Journal) (g : ℕ) → IsLaidOut run c journals → is_distributed_group c g ≡ true → (journal_in journals g).opening ≢ 0
+
+-- so a next planned move can be made, where no group was moved and those of distributed tables were opened on nodes
+abbrev pub NextIsMovable : Type 0
+NextIsMovable = (by_size : Bool) (run : Run) (c : Contents) (who : Who) (old : List Journal) (nodes sizes : ℕ → ℕ) (made : List Made) (next : Move) (more : List Move) (kinds : Kinds) →
+    IsPlanOver by_size run c old nodes sizes (moves_of made ++ next ∷ more) → MovesInTurn c who old (reads (read_for by_size c)) made kinds →
+    ((g : ℕ) → g < c.groups → moving_of (journal_in old g) ≡ None) → ((g : ℕ) → is_distributed_group c g ≡ true → (journal_in old g).opening ≢ 0) →
+    IsMovable c next (behind who old kinds next.group)
+
+-- a move that was given up leaves the group where it was
+abbrev pub GivenUpSettles : Type 0
+GivenUpSettles = (who : Who) (old : List Journal) (kinds : Kinds) (group to : ℕ) (stopped : List EntryKind) → (stopped ≡ []) ⊎ IsGivenUp to stopped →
+    (g : ℕ) → (node_of (behind who old (then_in kinds group stopped) g) ≡ node_of (behind who old kinds g))
+    × (moving_of (behind who old kinds g) ≡ None → moving_of (behind who old (then_in kinds group stopped) g) ≡ None)
+
+-- all planned moves were made
+abbrev pub RebalanceIsAnswered : Type 0
+RebalanceIsAnswered = (rules : Rules) (run : Run) (e : Environment) (who : Who) (old new : List Journal) (by_size : Bool) (nodes sizes : ℕ → ℕ) (made : List Made) (kinds : Kinds) →
+    rules.refusal e (statement.Rebalance by_size) ≡ None → IsPlanOver by_size run e.catalog old nodes sizes (moves_of made) →
+    MovesInTurn e.catalog who old (reads (read_for by_size e.catalog)) made kinds → Grows who kinds old new → length new ≡ length old →
+    IsAnswered rules run e e who old new (Some (statement.Rebalance by_size)) (answer.Table rebalance_names (map rebalance_row made))
+
+-- a planned move of a group with this journal was begun and given up
+abbrev pub GivesUp : Contents → Move → Journal → List EntryKind → Type 0
+GivesUp c m j stopped = IsMovable c m j × IsGivenUp m.to stopped
+
+-- why a planned move wasn't made, behind these that were, and its entries: none, or those of a move that was given up
+abbrev pub FailsAlone : Run → Environment → (ℕ → ℕ) → List Made → Move → Journal → List EntryKind → Fault → Type 0
+FailsAlone run e nodes made m j stopped (fault.NoRoom node free needed) =
+    (stopped ≡ []) × (short_at run e.catalog e.retired (node_after nodes made) (length (tables_in e.catalog m.group)) (m.to - 1) ≡ Some (fault.NoRoom node free needed))
+FailsAlone run e nodes made m j stopped (fault.Worker node shard before after) = (stopped ≡ []) × IsShardIn e.catalog m.group shard × (node ≡ m.from) × Rose before after
+FailsAlone run e nodes made m j stopped (fault.Retired node shard before after) = GivesUp e.catalog m j stopped × IsShardIn e.catalog m.group shard × (node ≡ m.to) × Rose before after
+FailsAlone run e nodes made m j stopped fault.Memory = (stopped ≡ []) ⊎ GivesUp e.catalog m j stopped
+FailsAlone run e nodes made m j stopped f = ⊥
+
+-- a next planned move failed, behind those that were made
+abbrev pub RebalanceIsCutOff : Type 0
+RebalanceIsCutOff = (rules : Rules) (run : Run) (e : Environment) (who : Who) (old new : List Journal) (by_size : Bool) (nodes sizes : ℕ → ℕ) (made : List Made) (next : Move) (more : List Move)
+    (kinds : Kinds) (stopped : List EntryKind) (f : Fault) →
+    rules.refusal e (statement.Rebalance by_size) ≡ None → IsPlanOver by_size run e.catalog old nodes sizes (moves_of made ++ next ∷ more) →
+    MovesInTurn e.catalog who old (reads (read_for by_size e.catalog)) made kinds → FailsAlone run e nodes made next (behind who old kinds next.group) stopped f →
+    Grows who (then_in kinds next.group stopped) old new → length new ≡ length old →
+    IsAnswered rules run e (after e (Some (statement.Rebalance by_size)) (answer.Failed f)) who old new (Some (statement.Rebalance by_size)) (answer.Failed f)
 
 -- an entry that is of no move
 abbrev pub IsOfNoMove : EntryKind → Type 0

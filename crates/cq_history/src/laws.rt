@@ -4,6 +4,7 @@ ghost use Rattle.cq_history.specs.Laws.{OtherAccounts, FaultAccounts, NewAccount
 ghost use Rattle.cq_history.specs.Laws.{WantedSuffice, JoinsSuffice};
 ghost use Rattle.cq_history.specs.Laws.{LogBegins, LogGoesOn, AnswersGoOn, IdleIsAnswered, DeedIsAnswered, StaysLaidOut, CatalogGoesOn, LogStands};
 ghost use Rattle.cq_history.specs.Laws.{CopyIsAnswered};
+ghost use Rattle.cq_history.specs.Laws.{PlanIsAnswered, PlanFails, PlanGoesOn, GrowsInGroup, MovesGoOn, MovesSettle, DistributedIsOpened, NextIsMovable, GivenUpSettles, RebalanceIsAnswered, RebalanceIsCutOff};
 ghost use Rattle.cq_history.specs.Laws.{MadeIsAnswered, RefusedIsAnswered, LacksIsAnswered, ReadIsAnswered, LargeIsAnswered, ReadLacksMemory, ReadFails, WriteFails, WriteLacksMemory, ExplainIsAnswered, RefusalIsAnswered, OpensLaidOut, SeesAll, MoveIsAnswered, MoveIsRefused, OthersMoveNone, FailedKeepsCatalog, CatalogIsAnswered};
 
 /// The reply of a write over the undistributed database, by the replies of its parts in the groups that it touches; and what it
@@ -76,6 +77,17 @@ pub fn answer_laws()
     ensures sees { SeesAll }
     ensures moved { MoveIsAnswered }
     ensures move_refused { MoveIsRefused }
+    ensures planned { PlanIsAnswered }
+    ensures plan_fails { PlanFails }
+    ensures plan_on { PlanGoesOn }
+    ensures grows_in_group { GrowsInGroup }
+    ensures moves_on { MovesGoOn }
+    ensures settle { MovesSettle }
+    ensures opened { DistributedIsOpened }
+    ensures movable { NextIsMovable }
+    ensures given_up { GivenUpSettles }
+    ensures rebalanced { RebalanceIsAnswered }
+    ensures cut_off { RebalanceIsCutOff }
     ensures others { OthersMoveNone }
     ensures failed { FailedKeepsCatalog }
     ensures catalog { CatalogIsAnswered }
