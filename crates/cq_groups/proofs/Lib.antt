@@ -18,3 +18,4 @@ pub mod Judging
 pub mod Answering
 pub mod ShardLaws
 pub mod JoinLaws
+pub mod PartLaws

@@ -6,6 +6,7 @@ use Rattle.cq_groups.specs.Looking.{merged}
 use Rattle.cq_groups.proofs.Growth.{go_on_itself, as_many}
 use Rattle.cq_groups.proofs.QueryLaws.{query_lacks_memory, plan_there, plan_ascends, query_computed, computed_blames}
 use Rattle.cq_groups.proofs.JoinLaws.{plan_within, wants_safe, joined_computed}
+use Rattle.cq_groups.proofs.PartLaws.{parts_safe}
 use Rattle.cq_groups.proofs.ShardLaws.{shard_there, shard_safe, shard_answered}
 use Rattle.cq_groups.proofs.queries.answer_query.Goals as goal
 
@@ -43,6 +44,12 @@ look_and_compute-requires-clause-ascending g c =
 pub look_and_compute-requires-clause-safe : goal.look_and_compute-requires-clause-safe
 look_and_compute-requires-clause-safe g c =
     wants_safe c.args.catalog.now c.args.query.now c.args.groups.now.items c.requires.shaped c.requires.legal c.as_slice-in-None.result.now (c.as_slice-in-None.ensures ∙ c.in-Ok.ensures) c.in-Ok-wants_of.wants c.requires.computable
+
+pub look_and_compute-requires-clause-each : goal.look_and_compute-requires-clause-each
+look_and_compute-requires-clause-each g c =
+    let looks = c.as_slice-in-None.result.now in
+    parts_safe c.args.catalog.now c.args.query.now (captured_by c.args.groups.now.items looks)
+    (plan_within c.args.catalog.now c.args.query.now c.args.groups.now.items c.requires.shaped c.requires.legal looks (c.as_slice-in-None.ensures ∙ c.in-Ok.ensures)) c.in-Ok-wants_of.wants c.requires.computable
 
 pub returns-in_default-wants_of-clause-answered : goal.returns-in_default-wants_of-clause-answered
 returns-in_default-wants_of-clause-answered g c = λ run settings workers runs. query_lacks_memory run c.args.catalog.now settings c.args.who (journals_of c.args.groups.now.items) c.args.query.now
