@@ -19,3 +19,5 @@ pub mod Answering
 pub mod ShardLaws
 pub mod JoinLaws
 pub mod PartLaws
+pub mod HomeLaws
+pub mod KindLaws

@@ -1,12 +1,11 @@
 -- A query over what was read in each group, computed by a task for each.
 use Rattle.std.proofs.Common.{◌≡◌, ◌≤◌, ◌^◌, suc, inl, inr, ℕ, Bool, true, false, cond, List, [], ◌∷◌, ◌++◌, map, fold, length, refl, sym, ◌∙◌, ap, subst, arith, Some, None, Option, Result, Ok, Err, append-nil, append_assoc}
-use Rattle.std.specs.Prelude.{◌&&◌, nat_le, nat_eq, IfOk, IfErr}
+use Rattle.std.specs.Prelude.{◌&&◌, ◌||◌, nat_le, nat_eq, IfOk, IfErr}
 use Rattle.std.specs.List.{AllByRecursion, list_all}
 use Rattle.std.proofs.lemmas.Bool.{eq-eqb}
 use Rattle.std.proofs.lemmas.Bool.Decides.{eqb_tells}
 use Rattle.std.proofs.lemmas.List.{length-map}
-use Rattle.cq_tree.specs.declared.plan.Combine.{Combine}
-use Rattle.cq_tree.specs.declared.plan.Combine.TheVariants.{Nothing, RowsOnly, Groups}
+use Rattle.cq_tree.specs.declared.plan.Combine.TheVariants.{Nothing}
 use Rattle.cq_tree.specs.declared.query.FromTree.{FromTree, Table}
 use Rattle.cq_tree.specs.declared.query.Query.{Query, Query', out-Query}
 use Rattle.cq_tree.specs.declared.query.QueryError.{QueryError}
@@ -22,14 +21,14 @@ use Rattle.cq_task_laws.specs.Gathering.{IsNonEmpty, Serves}
 use Rattle.cq_tasks.specs.Execution.{IsOver, alone as table_alone, whole_of}
 use Rattle.cq_tasks.proofs.TableLaws.{no_results_of}
 use Rattle.cq_catalog.specs.Contents.{Contents}
-use Rattle.cq_answer.specs.declared.answer.Answer.{Answer}
+use Rattle.cq_outline.specs.Tasking.{combine_by}
 use Rattle.cq_history.specs.Computable.{column_bits, IsReadable}
 use Rattle.cq_history.specs.Refusals.{is_alone}
 use Rattle.cq_history.proofs.Lists.{two_ways}
 use Rattle.cq_demands.specs.JoinDemands.{Wants, narrow}
 use Rattle.cq_groups.specs.Reads.{IsComputable, Computes}
 use Rattle.cq_groups.specs.Looking.{is_of, with_rows, merged, gathered}
-use Rattle.cq_groups.specs.Tasks.{are_several, are_parts, parted_from, parted_table, parts_of, kind_of, IsComputableOver, IsRun, answer_by}
+use Rattle.cq_groups.specs.Tasks.{are_several, are_parts, parted_from, parted_table, parts_of, shares_by, kind_by, IsComputableOver, IsRun, answer_by}
 use Rattle.cq_groups.proofs.GatherLaws.{merged_rows}
 use Rattle.cq_groups.proofs.JoinLaws.{narrowed_within}
 use Rattle.cq_groups.proofs.StepLaws.{no_steps}
@@ -137,11 +136,18 @@ module _ (c : Contents) where
 
 -- ---- the way of combining
 
-pub kind_serves : (q : Query) (parts : List (List Row)) → IsNonEmpty parts → Serves (kind_of q) q [] parts
+pub grouped_serves : (q : Query) (parts : List (List Row)) → IsNonEmpty parts → Serves (combine_by 2 ((out-Query q).grouped || (out-Query q).distinct)) q [] parts
 unfolding out-Query denote.Hole.Carrier.out
-kind_serves (Query' cs ctes ss subs from filter_ true keys aggs having items shown distinct order limit offset names) parts some = (some, inl refl)
-kind_serves (Query' cs ctes ss subs from filter_ false keys aggs having items shown true order limit offset names) parts some = (some, inr refl)
-kind_serves (Query' cs ctes ss subs from filter_ false keys aggs having items shown false order limit offset names) parts some = (λ e. cc, λ e. cc)
+grouped_serves (Query' cs ctes ss subs from filter_ true keys aggs having items shown distinct order limit offset names) parts some = (some, inl refl)
+grouped_serves (Query' cs ctes ss subs from filter_ false keys aggs having items shown true order limit offset names) parts some = (some, inr refl)
+grouped_serves (Query' cs ctes ss subs from filter_ false keys aggs having items shown false order limit offset names) parts some = (λ e. cc, λ e. cc)
+
+pub never_nothing : (c : Contents) (q : Query) → kind_by c q ≡ Nothing → ⊥
+never_nothing c q e = by_test (shares_by c (out-Query q).from q) e
+  where
+    by_test : (b : Bool) → combine_by 2 b ≡ Nothing → ⊥
+    by_test true e = cc
+    by_test false e = cc
 
 pub some_parts : (seen : Tables) → 2 ≤ length seen → IsNonEmpty (parts_of seen)
 some_parts [] several = absurd (omega (arith, several))

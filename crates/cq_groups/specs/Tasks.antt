@@ -2,7 +2,6 @@
 use Rattle.std.specs.Prelude.{◌≡◌, ◌⊎◌, ◌^◌, ⊤, ℕ, List, [], ◌∷◌, map, length, Bool, true, ◌&&◌, ◌||◌, if◌then◌else◌, nat_le, Option, Some, None, Result, Ok, Err}
 use Rattle.std.specs.List.{list_all}
 use Rattle.cq_tree.specs.declared.plan.Combine.{Combine}
-use Rattle.cq_tree.specs.declared.plan.Combine.TheVariants.{RowsOnly, Groups}
 use Rattle.cq_tree.specs.declared.query.QueryError.{QueryError}
 use Rattle.cq_tree.specs.declared.query.QueryError.TheVariants as error
 use Rattle.cq_tree.specs.declared.query.FromTree.{FromTree, Table}
@@ -11,6 +10,11 @@ use Rattle.cq_meaning.specs.Values.{Row, Tables}
 use Rattle.cq_meaning.specs.Results.{results_of, Answers}
 use Rattle.cq_meaning.specs.Limits.{is_large}
 use Rattle.cq_meaning_laws.specs.WholeRules.{steps_of, no_results, has_large_step}
+use Rattle.cq_catalog.specs.Contents.{Contents}
+use Rattle.cq_catalog.specs.Placement.{place_at}
+use Rattle.cq_catalog.specs.declared.info.Place.{Place}
+use Rattle.cq_catalog.specs.declared.info.Place.TheVariants.{Distributed}
+use Rattle.cq_outline.specs.Tasking.{shares_rows, combine_by}
 use Rattle.cq_answer.specs.declared.answer.Answer.{Answer}
 use Rattle.cq_answer.specs.declared.answer.Answer.TheVariants as answer
 use Rattle.cq_answer.specs.declared.fault.What.TheVariants as what
@@ -41,9 +45,18 @@ parted_table q seen = if is_alone q then parted_from (out-Query q).from seen els
 abbrev pub parts_of : Tables → List (List Row)
 parts_of seen = map (λ (p : ℕ × List Row). p.1) seen
 
--- how the tasks' rows become those of a query: where it groups or has DISTINCT, they do once more
-abbrev pub kind_of : Query → Combine
-kind_of q = if (out-Query q).grouped || (out-Query q).distinct then Groups else RowsOnly
+-- whether tasks of a query over a table at this place can share rows. Where it isn't distributed, nothing is said of which rows a task reads
+abbrev pub shares_at : Place → Query → Bool
+shares_at (Distributed at colocation first_shard) q = shares_rows at q
+shares_at _ q = (out-Query q).grouped || (out-Query q).distinct
+
+abbrev pub shares_by : Contents → FromTree → Query → Bool
+shares_by c (Table t n) q = shares_at (place_at c t) q
+shares_by c f q = (out-Query q).grouped || (out-Query q).distinct
+
+-- how the rows of several tasks become those of a query
+abbrev pub kind_by : Contents → Query → Combine
+kind_by c q = combine_by 2 (shares_by c (out-Query q).from q)
 
 -- a query and the steps before it are safe over a part of a table
 abbrev pub IsComputableOver : Query → ℕ × List Row → Type 0

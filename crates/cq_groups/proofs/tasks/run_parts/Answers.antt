@@ -4,8 +4,7 @@ use Rattle.cq_meaning.specs.Safety.{IsSafeQuery}
 use Rattle.cq_task_laws.specs.Gathering.{Serves}
 use Rattle.cq_tasks.specs.Execution.{alone as table_alone, whole_of}
 use Rattle.cq_groups.specs.Looking.{merged}
-use Rattle.cq_groups.specs.Tasks.{parts_of, kind_of}
-use Rattle.cq_groups.proofs.PartLaws.{IsParted, parted_is, parts_are, safe_alone, each_safe, kind_serves, some_parts, run_of}
+use Rattle.cq_groups.proofs.PartLaws.{IsParted, parted_is, parts_are, safe_alone, each_safe, run_of}
 use Rattle.cq_groups.proofs.StepLaws.{no_steps}
 use Rattle.cq_groups.proofs.tasks.run_parts.Goals as goal
 
@@ -13,10 +12,7 @@ pub run_over_table-requires-clause-simple : goal.run_over_table-requires-clause-
 run_over_table-requires-clause-simple c = no_steps c.args.query.now (parted_is c.args.query.now c.args.seen c.args.table c.requires.parted).alone
 
 pub run_over_table-requires-clause-serves : goal.run_over_table-requires-clause-serves
-run_over_table-requires-clause-serves c =
-    let d : IsParted c.args.table c.args.query.now c.args.seen = parted_is c.args.query.now c.args.seen c.args.table c.requires.parted in
-    subst (λ k. Serves k c.args.query.now [] c.in-Ok.parts) (sym c.kind_of.ensures)
-    (subst (λ ps. Serves (kind_of c.args.query.now) c.args.query.now [] ps) (sym c.in-Ok.ensures) (kind_serves c.args.query.now (parts_of c.args.seen) (some_parts c.args.seen d.several)))
+run_over_table-requires-clause-serves c = subst (λ ps. Serves c.args.kind c.args.query.now [] ps) (sym c.in-Ok.ensures) c.requires.serves
 
 pub run_over_table-requires-clause-each : goal.run_over_table-requires-clause-each
 run_over_table-requires-clause-each c =
