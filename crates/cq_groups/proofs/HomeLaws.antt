@@ -1,6 +1,6 @@
 -- Parts of a distributed table, each with the rows of a group of its own: where a key, or an output, is a bare column of the class of its
 -- distribution column, no two parts share a group, or an output row.
-use Rattle.std.proofs.Common.{◌≡◌, ◌+◌, ◌≤◌, ◌<◌, suc, zero, inl, inr, ℕ, Bool, true, false, cond, List, [], ◌∷◌, ◌++◌, map, filter, take, length, refl, sym, ◌∙◌, ap, subst, arith, Some, None, Option, append-nil}
+use Rattle.std.proofs.Common.{◌≡◌, ◌+◌, ◌≤◌, ◌<◌, suc, zero, inl, inr, ℕ, Bool, true, false, List, [], ◌∷◌, ◌++◌, map, filter, take, length, refl, sym, ◌∙◌, ap, subst, arith, append-nil}
 use Rattle.std.specs.Prelude.{⊤, ◌⊎◌, ◌&&◌, ◌||◌, not, nat_lt, slice_index_or}
 use Rattle.std.specs.List.{AllByRecursion, list_any}
 use Rattle.cq_tree.specs.declared.expression.Cond.{Cond}
@@ -19,7 +19,6 @@ use Rattle.cq_meaning.specs.Queries.{item_rows}
 use Rattle.cq_meaning.proofs.RowLaws.{distinct_has}
 use Rattle.cq_task_laws.specs.Merging.{joined}
 use Rattle.cq_task_laws.specs.Gathering.{IsNonEmpty, ShareNo, Serves}
-use Rattle.cq_task_laws.proofs.LargeLaws.{groups_wide}
 use Rattle.cq_task_laws.proofs.Opened.{from_of}
 use Rattle.cq_task_laws.proofs.PartLaws.{mapped_has}
 use Rattle.cq_task_laws.proofs.SafeMerge.{at_has}

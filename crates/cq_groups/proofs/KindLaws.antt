@@ -1,15 +1,12 @@
 -- What was read in each group serves for the way in which the tasks' rows are combined.
-use Rattle.std.proofs.Common.{◌≡◌, ◌+◌, ◌<◌, ◌≤◌, inl, inr, ℕ, Bool, true, false, cond, List, [], ◌∷◌, ◌++◌, length, refl, sym, ◌∙◌, ap, subst, arith, Some, None, Option, slice_get}
-use Rattle.std.specs.Prelude.{◌||◌}
+use Rattle.std.proofs.Common.{◌≡◌, ◌+◌, ◌<◌, ◌≤◌, inl, inr, ℕ, true, List, [], ◌∷◌, ◌++◌, refl, sym, ◌∙◌, ap, subst, arith, Some, None, Option, slice_get}
 use Rattle.std.specs.List.{AllByRecursion}
 use Rattle.cq_tree.specs.declared.plan.Combine.{Combine}
-use Rattle.cq_tree.specs.declared.plan.Combine.TheVariants.{RowsOnly, Groups}
-use Rattle.cq_tree.specs.declared.query.FromTree.{FromTree, Table}
-use Rattle.cq_tree.specs.declared.query.Query.{Query, Query', out-Query}
+use Rattle.cq_tree.specs.declared.query.FromTree.{FromTree}
+use Rattle.cq_tree.specs.declared.query.Query.{Query, Query'}
 use Rattle.cq_tree.specs.declared.statement.Statement.TheVariants as statement
-use Rattle.cq_value.specs.declared.value.Value.{Value}
-use Rattle.cq_meaning.specs.Values.{Row, Tables}
-use Rattle.cq_meaning_laws.specs.WholeRules.{Step, steps_of}
+use Rattle.cq_meaning.specs.Values.{Tables}
+use Rattle.cq_meaning_laws.specs.WholeRules.{Step}
 use Rattle.cq_task_laws.specs.Gathering.{IsNonEmpty, Serves}
 use Rattle.cq_task_laws.proofs.Opened.{from_of, from_is}
 use Rattle.cq_tasks.specs.Execution.{IsOver}
