@@ -60,7 +60,7 @@ look_and_compute-requires-clause-serves g c =
     kind_serves c.args.catalog.now c.args.groups.now.items c.requires.shaped c.requires.legal c.in-Ok-wants_of.wants c.args.query.now c.as_slice-in-None.result.now (c.as_slice-in-None.ensures ∙ c.in-Ok.ensures) c.in-Ok-kind_of.kind c.in-Ok-kind_of.ensures
 
 pub returns-in_default-kind_of-clause-answered : goal.returns-in_default-kind_of-clause-answered
-returns-in_default-kind_of-clause-answered g c = λ run settings workers runs. query_lacks_memory run c.args.catalog.now settings c.args.who (journals_of c.args.groups.now.items) c.args.query.now
+returns-in_default-kind_of-clause-answered g c = λ run settings retired workers runs. query_lacks_memory run c.args.catalog.now settings retired c.args.who (journals_of c.args.groups.now.items) c.args.query.now
 
 pub returns-in_default-kind_of-clause-goes_on : goal.returns-in_default-kind_of-clause-goes_on
 returns-in_default-kind_of-clause-goes_on g c = go_on_itself g.S.Store.state c.args.groups.now.items c.requires.resting
