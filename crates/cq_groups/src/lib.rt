@@ -12,6 +12,7 @@ mod queries;
 mod reads;
 mod shard;
 mod staging;
+mod tasks;
 mod wanting;
 mod writes;
 
