@@ -1,19 +1,15 @@
 -- The loads of groups, as their rows are read one after the other.
-use Rattle.std.proofs.Common.{◌≡◌, inl, inr, ℕ, zero, suc, ◌+◌, ◌<◌, ◌≤◌, ◌^◌, Bool, true, false, List, [], ◌∷◌, ◌++◌, length, map, take, refl, sym, ap, ◌∙◌, subst, arith, Some, None, Option, slice_get, get_or}
-use Rattle.std.specs.List.{AllByRecursion, sum_by}
+use Rattle.std.proofs.Common.{◌≡◌, ℕ, ◌+◌, ◌<◌, ◌≤◌, ◌^◌, List, [], ◌∷◌, ◌++◌, length, map, take, refl, sym, ap, ◌∙◌, arith, slice_get, get_or}
 use Rattle.std.proofs.lemmas.List.{take_more, map-append}
-use Rattle.cq_value.specs.Sizes.{row_size}
 use Rattle.cq_tree.specs.declared.journal.Who.{Who}
-use Rattle.cq_tree.specs.declared.journal.EntryKind.TheVariants.{Read}
-use Rattle.cq_meaning.specs.Values.{Row, Tables}
+use Rattle.cq_meaning.specs.Values.{Tables}
 use Rattle.cq_demands.specs.JoinDemands.{narrow}
-use Rattle.cq_demands.proofs.Narrowed.{narrow_none}
 use Rattle.cq_planning.specs.Reaching.{IsAscendingFrom}
 use Rattle.cq_store.specs.Stores.{StoreState}
 use Rattle.cq_group.specs.declared.group.GroupState.{GroupState}
-use Rattle.cq_group.specs.Resting.{journals_of, AreResting, GoOn}
-use Rattle.cq_groups.specs.Reads.{Look, captured_of, captured_by, groups_in, CanLook, AreRead, Leaves}
-use Rattle.cq_groups.proofs.Growth.{got, got_below, go_on_itself}
+use Rattle.cq_group.specs.Resting.{AreResting, GoOn}
+use Rattle.cq_groups.specs.Reads.{Look, captured_of, groups_in, AreRead, Leaves}
+use Rattle.cq_groups.proofs.Growth.{got}
 use Rattle.cq_groups.proofs.ReadLaws.{ReadSoFar, read_none, read_more}
 use Rattle.cq_balance.specs.declared.load.Load.{Load}
 use Rattle.cq_rebalance.specs.Loads.{size_seen, node_of_group, node_there, load_at, total_of}

@@ -1,5 +1,5 @@
 -- What a plan over the shard groups of a catalogue comes to.
-use Rattle.std.specs.Prelude.{◌≡◌, ⊤, ℕ, Bool, List}
+use Rattle.std.specs.Prelude.{◌≡◌, ℕ, Bool, List}
 use Rattle.cq_tree.specs.declared.journal.Who.{Who}
 use Rattle.cq_catalog.specs.Contents.{Contents}
 use Rattle.cq_answer.specs.declared.fault.Fault.{Fault}
@@ -8,13 +8,12 @@ use Rattle.cq_balance.specs.declared.load.Load.{Load}
 use Rattle.cq_balance.specs.declared.load.Move.{Move}
 use Rattle.cq_history.specs.Run.{Run}
 use Rattle.cq_history.specs.Journals.{journal_in}
-use Rattle.cq_history.specs.Rebalances.{size_of, loads_in, read_for}
+use Rattle.cq_history.specs.Rebalances.{size_of, loads_in}
 use Rattle.cq_history.specs.Laws.{IsPlanOver, FailsPlan}
 use Rattle.cq_store.specs.Stores.{StoreState}
 use Rattle.cq_group.specs.declared.group.GroupState.{GroupState}
-use Rattle.cq_group.specs.declared.group.GroupError.{GroupError}
 use Rattle.cq_group.specs.Resting.{journals_of, HasFailed}
-use Rattle.cq_groups.specs.Reads.{AreRead, AreReadInPart, StopsReads}
+use Rattle.cq_groups.specs.Reads.{AreRead}
 use Rattle.cq_rebalance.specs.Loads.{node_there}
 
 -- how large each group is by its journal
