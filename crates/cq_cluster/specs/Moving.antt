@@ -125,11 +125,11 @@ pub record CanMove {X : Type 0} (state : X → StoreState) (group from to needed
   pub somewhere : 0 < to
   pub needs : needed ≡ length (outlines was)
 
--- the group of this number was moved, and its old stores are given back
-pub record HasMoved {X : Type 0} (state : X → StoreState) (who : Who) (group from to : ℕ) (r : MoveReport) (old new : Cluster X) : Type 0 where
+-- the group of this number was moved
+pub record IsMovedAt {X : Type 0} (state : X → StoreState) (who : Who) (group to : ℕ) (r : MoveReport) (old new : List (GroupState X)) : Type 0 where
   pub was : GroupState X
   pub is : GroupState X
-  pub changed : IsChangedAt group was is old.groups.items new.groups.items
+  pub changed : IsChangedAt group was is old new
   pub resting : IsResting state is
   pub still : moving_of (journal_of is) ≡ None
   pub tables : outlines is ≡ outlines was
@@ -137,7 +137,11 @@ pub record HasMoved {X : Type 0} (state : X → StoreState) (who : Who) (group f
   pub entries : entries_of is ≡ entries_of was ++ entries_by who (MoveStart to ∷ CatchUp ∷ Cutover ∷ [])
   pub node : is.node ≡ to
   pub report : r ≡ record { copied = rows_in (entries_of was) (outlines was); caught = 0; last = 0 }
-  pub back : IsLent state (from - 1) (length (stores_of was)) new.workers.items old.workers.items
+
+-- and its old stores, so many, are given back
+pub record HasMovedGroup {X : Type 0} (state : X → StoreState) (who : Who) (group from to needed : ℕ) (r : MoveReport) (old new : Cluster X) : Type 0 where
+  pub at : IsMovedAt state who group to r old.groups.items new.groups.items
+  pub back : IsLent state (from - 1) needed new.workers.items old.workers.items
   pub retired : new.retired.items ≡ old.retired.items
   pub catalog : new.catalog ≡ old.catalog
   pub nodes : new.nodes ≡ old.nodes
@@ -152,32 +156,24 @@ pub record HasRetired {X : Type 0} (state : X → StoreState) (who : Who) (node 
   pub upto : last.after ≡ after
   pub is : IsRetired state last
 
--- why a group wasn't moved, with the kinds of its new entries, and how many stores that were taken aren't given back: one that broke
-abbrev pub Stays : {X : Type 0} → (X → StoreState) → Who → ℕ → GroupState X → GroupState X → List EntryKind → ℕ → List (Retired X) → List (Retired X) → Fault → Type 0
-Stays state who to was is kinds lost old new (fault.Worker node shard before after) =
-    (kinds ≡ []) × (lost ≡ 0) × (new ≡ old) × Blames state (error.Worker node shard before after) (stores_of was) (stores_of is)
-Stays state who to was is kinds lost old new (fault.Retired node shard before after) =
-    IsGivenUp to kinds × (lost ≡ 1) × (node ≡ to) × Rose before after × Contains (shards_in (outlines was)) shard × HasRetired state who node before after old new
-Stays state who to was is kinds lost old new fault.Memory = ((kinds ≡ []) ⊎ IsGivenUp to kinds) × (lost ≡ 0) × (new ≡ old)
-Stays state who to was is kinds lost old new f = ⊥
+-- why a group wasn't moved, with the kinds of its new entries
+abbrev pub Keeps : {X : Type 0} → (X → StoreState) → ℕ → GroupState X → GroupState X → List EntryKind → Fault → Type 0
+Keeps state to was is kinds (fault.Worker node shard before after) = (kinds ≡ []) × Blames state (error.Worker node shard before after) (stores_of was) (stores_of is)
+Keeps state to was is kinds (fault.Retired node shard before after) = IsGivenUp to kinds × (node ≡ to) × Rose before after × Contains (shards_in (outlines was)) shard
+Keeps state to was is kinds fault.Memory = (kinds ≡ []) ⊎ IsGivenUp to kinds
+Keeps state to was is kinds f = ⊥
 
--- the group of this number wasn't moved, and the stores that were taken for it, so many, are given back
-pub record HasStayed {X : Type 0} (state : X → StoreState) (who : Who) (group to taken : ℕ) (f : Fault) (old new : Cluster X) : Type 0 where
+-- the group of this number wasn't moved
+pub record IsKeptAt {X : Type 0} (state : X → StoreState) (who : Who) (group to : ℕ) (f : Fault) (old new : List (GroupState X)) : Type 0 where
   pub was : GroupState X
   pub is : GroupState X
-  pub changed : IsChangedAt group was is old.groups.items new.groups.items
+  pub changed : IsChangedAt group was is old new
   pub on : GroupGoesOn state was is
   pub resting : IsResting state is
   pub still : moving_of (journal_of is) ≡ None
   pub kinds : List EntryKind
   pub entries : entries_of is ≡ entries_of was ++ entries_by who kinds
-  pub given : ℕ
-  pub lost : ℕ
-  pub all : given + lost ≡ taken
-  pub back : IsLent state (to - 1) given new.workers.items old.workers.items
-  pub cause : Stays state who to was is kinds lost old.retired.items new.retired.items f
-  pub catalog : new.catalog ≡ old.catalog
-  pub nodes : new.nodes ≡ old.nodes
+  pub cause : Keeps state to was is kinds f
 
 -- ---- a move that is given up
 
@@ -216,6 +212,10 @@ pub record GivesUp {X : Type 0} (state : X → StoreState) (who : Who) (to taken
   pub all : given + lost ≡ taken
   pub back : IsLent state (to - 1) given new.workers.items old.workers.items
   pub retired : Loses state who lost old.retired.items new.retired.items f
-  pub groups : new.groups.items ≡ old.groups.items
   pub catalog : new.catalog ≡ old.catalog
   pub nodes : new.nodes ≡ old.nodes
+
+-- the group wasn't moved, and the stores that were taken for it are given back so
+pub record HasKeptGroup {X : Type 0} (state : X → StoreState) (who : Who) (group to taken : ℕ) (f : Fault) (old new : Cluster X) : Type 0 where
+  pub at : IsKeptAt state who group to f old.groups.items new.groups.items
+  pub up : GivesUp state who to taken f old new

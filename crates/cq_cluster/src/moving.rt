@@ -1,4 +1,4 @@
-ghost use Rattle.std.specs.Prelude.{◌≡◌, ◌+◌, ◌-◌, ◌<◌, ◌≤◌, List, [], ◌∷◌, ◌++◌, None, Some, All, OnOk, OnErr, IfOk, IfErr, length, slice_get, vec_len, vec_capacity};
+ghost use Rattle.std.specs.Prelude.{◌≡◌, ◌+◌, ◌-◌, ◌<◌, ◌≤◌, List, [], ◌∷◌, ◌++◌, ℕ, None, Some, All, OnOk, OnErr, IfOk, IfErr, length, slice_get, vec_len, vec_capacity};
 ghost use Rattle.cq_answer.specs.declared.answered.Answered.{Answered};
 ghost use Rattle.cq_answer.specs.declared.answered.Settings.{Settings};
 ghost use Rattle.cq_history.specs.Log.{IsAnswered};
@@ -10,14 +10,14 @@ ghost use Rattle.cq_tree.specs.declared.statement.Statement.TheVariants.{Move};
 ghost use Rattle.cq_group.specs.Incoming.{AreSpareOn};
 ghost use Rattle.cq_cluster.specs.Accounts.{AreAccounted, IsNext, Retires};
 ghost use Rattle.cq_cluster.specs.Cluster.{HasStores, IsSound, KeepsStores, journals, run_of};
-ghost use Rattle.cq_cluster.specs.Moving.{CanGive, CanMove, CanRetire, CanTake, GivesUp, HasMoved, HasRetired, HasStayed, IsLent, IsMovable, SomeFailed, environment_at, fault_told, move_answer, move_refusal, no_node, refusal_in, tables_of, too_few};
+ghost use Rattle.cq_cluster.specs.Moving.{CanGive, CanMove, CanRetire, CanTake, GivesUp, HasMovedGroup, HasRetired, HasKeptGroup, IsKeptAt, IsLent, IsMovable, IsMovedAt, Loses, SomeFailed, environment_at, fault_told, move_answer, move_refusal, no_node, refusal_in, tables_of, too_few};
 ghost use Rattle.cq_cluster.specs.Steps.{AllWait, IsStoreOf, Lacks};
 
 use crate::cluster::Cluster;
 use crate::retired::Retired;
 use crate::worker::release_all;
 use cq_answer::Fault;
-use cq_group::{Gate, MoveWhy};
+use cq_group::{Gate, GroupState, MoveWhy};
 use cq_move::{MoveReport, Moved, NotMoved, move_group, take_broken};
 use cq_store::{Store, TakeError, Worker};
 use cq_tree::Who;
@@ -144,6 +144,33 @@ fn retire<S: Store>(
     });
 }
 
+/// Retires the store by which a move ended early, if it did, and leaves the others. Takes no memory.
+fn retire_by<S: Store>(
+    retired: &mut Vec<Retired<S>>,
+    stores: &mut Vec<S>,
+    who: Who,
+    to: u32,
+    fault: &Fault,
+)
+    requires room { vec_len retired.old < vec_capacity retired.old }
+    requires on { All (λ s. IsStoreOf to (S.state s)) stores.old.items }
+    requires retire { CanRetire S.state to stores.old.items fault.now }
+    ensures lost { (lost : ℕ) × (length stores.new.items + lost ≡ length stores.old.items) × Loses S.state who lost retired.old.items retired.new.items fault.now }
+    ensures on { All (λ s. IsStoreOf to (S.state s)) stores.new.items }
+    ensures fewer { length stores.new.items ≤ length stores.old.items }
+{
+    let Fault::Retired {
+        shard,
+        before,
+        after,
+        ..
+    } = fault
+    else {
+        return;
+    };
+    retire(retired, stores, who, to, *shard, *before, *after);
+}
+
 /// What a move that ended early is answered: where it had begun, a store that failed is retired.
 #[tactic(auto, unfolding(crate::specs::Moving::fault_told))]
 fn fault_of(why: MoveWhy, begun: bool) -> Fault
@@ -177,6 +204,40 @@ fn fault_of(why: MoveWhy, begun: bool) -> Fault
         MoveWhy::SameNode { node } => Fault::SameNode { node },
         MoveWhy::Memory => Fault::Memory,
     }
+}
+
+/// How many tables a group has.
+fn count_tables<S>(groups: &Vec<GroupState<S>>, group: u32) -> u64
+    requires { group < length groups.now.items }
+    ensures { result ≡ tables_of (slice_get groups.now.items group) }
+{
+    groups[group as usize].tables.len() as u64
+}
+
+/// Moves one group of several, for which there is one spare store of the other node for each of its tables.
+///
+/// Errors: a store of the group failed; a store that was given failed behind MoveStart; want of memory.
+fn move_at<S: Store, G: Gate>(
+    alloc: Global,
+    gate: &G,
+    groups: &mut Vec<GroupState<S>>,
+    who: Who,
+    group: u32,
+    from: u32,
+    to: u32,
+    stores: Vec<S>,
+) -> Result<Moved<S>, NotMoved<S>>
+    requires can { CanMove S.state group from to (length stores.items) groups.old.items }
+    requires spare { AreSpareOn S.state to stores.items }
+    ensures moved { IfOk result (λ m. IsMovedAt S.state who group to m.report groups.old.items groups.new.items) }
+    ensures old { IfOk result (λ m. All (λ s. IsStoreOf from (S.state s)) m.stores.items) }
+    ensures many { IfOk result (λ m. length m.stores.items ≡ length stores.items) }
+    ensures kept { IfErr result (λ e. IsKeptAt S.state who group to (fault_told e.begun e.why) groups.old.items groups.new.items) }
+    ensures back { IfErr result (λ e. All (λ s. IsStoreOf to (S.state s)) e.stores.items) }
+    ensures all { IfErr result (λ e. length e.stores.items ≡ length stores.items) }
+    ensures broken { IfErr result (λ e. CanRetire S.state to e.stores.items (fault_told e.begun e.why)) }
+{
+    move_group(alloc, gate, &mut groups[group as usize], who, from, to, stores)
 }
 
 impl<S: Store> Cluster<S> {
@@ -231,7 +292,7 @@ impl<S: Store> Cluster<S> {
         if self.retired.reserve(1).is_err() {
             return Err(NoMemory);
         }
-        let needed = self.groups[group as usize].tables.len() as u64;
+        let needed = count_tables(&self.groups, group);
         take_of(&mut self.workers, to, needed)
     }
 
@@ -244,6 +305,7 @@ impl<S: Store> Cluster<S> {
         requires retire { CanRetire S.state to failed.stores.items (fault_told failed.begun failed.why) }
         ensures told { result ≡ fault_told failed.begun failed.why }
         ensures settled { GivesUp S.state who to (length failed.stores.items) result self.old self.new }
+        ensures groups { self.new.groups ≡ self.old.groups }
     {
         let NotMoved {
             why,
@@ -251,23 +313,7 @@ impl<S: Store> Cluster<S> {
             mut stores,
         } = failed;
         let fault = fault_of(why, begun);
-        if let Fault::Retired {
-            node,
-            shard,
-            before,
-            after,
-        } = fault
-        {
-            retire(
-                &mut self.retired,
-                &mut stores,
-                who,
-                node,
-                shard,
-                before,
-                after,
-            );
-        }
+        retire_by(&mut self.retired, &mut stores, who, to, &fault);
         give_to(&mut self.workers, to, stores);
         fault
     }
@@ -291,10 +337,10 @@ impl<S: Store> Cluster<S> {
         requires back { CanGive S.state from (length stores.items) self.old.workers.items }
         requires give { CanGive S.state to (length stores.items) self.old.workers.items }
         requires room { vec_len self.old.retired < vec_capacity self.old.retired }
-        ensures moved { IfOk result (λ r. HasMoved S.state who group from to r self.old self.new) }
-        ensures stayed { IfErr result (λ f. HasStayed S.state who group to (length stores.items) f self.old self.new) }
+        ensures moved { IfOk result (λ r. HasMovedGroup S.state who group from to (length stores.items) r self.old self.new) }
+        ensures stayed { IfErr result (λ f. HasKeptGroup S.state who group to (length stores.items) f self.old self.new) }
     {
-        match move_group(alloc, gate, &mut self.groups[group as usize], who, from, to, stores) {
+        match move_at(alloc, gate, &mut self.groups, who, group, from, to, stores) {
             Ok(Moved { report, stores }) => {
                 give_to(&mut self.workers, from, stores);
                 Ok(report)

@@ -1,0 +1,128 @@
+-- The stores of a move of one group: which of them broke, and on which node they are.
+use Rattle.std.proofs.Common.{◌≡◌, ◌≢◌, ◌⊎◌, inl, inr, ℕ, zero, suc, ◌+◌, ◌-◌, ◌<◌, ◌≤◌, Bool, true, false, cond, List, [], ◌∷◌, ◌++◌, length, map, refl, sym, ap, subst, ◌∙◌, arith, All, Some, None, Option, slice_get}
+use Rattle.std.specs.Prelude.{nat_eq, nat_le, ◌&&◌, find, Contains}
+use Rattle.std.specs.List.{AllByRecursion, AllZip}
+use Rattle.std.proofs.lemmas.List.Elements.{All-head, All-tail, All-nil, All-cons}
+use Rattle.cq_answer.specs.declared.fault.Fault.{Fault}
+use Rattle.cq_answer.specs.declared.fault.Fault.TheVariants as fault
+use Rattle.cq_history.proofs.Lists.{two_ways}
+use Rattle.cq_tree.specs.declared.journal.Who.{Who}
+use Rattle.cq_store.specs.Stores.{StoreState, Becomes, Rose}
+use Rattle.cq_group.specs.declared.group.GroupState.{GroupState}
+use Rattle.cq_group.specs.declared.start.MoveWhy.{MoveWhy}
+use Rattle.cq_group.specs.declared.start.MoveWhy.TheVariants as why
+use Rattle.cq_group.specs.Calls.{GoesOn, GroupGoesOn, Lifted, SomeZip}
+use Rattle.cq_group.specs.Groups.{outlines, entries_of, stores_of}
+use Rattle.cq_group.specs.Incoming.{AreSpareOn, CanStart, RefusesMove}
+use Rattle.cq_move.specs.declared.mover.NotMoved.{NotMoved}
+use Rattle.cq_move.specs.Outcomes.{Broke, EndsMove, HasBroken, IsRefused, IsStopped, IsTried, entries_by}
+use Rattle.cq_move.specs.Taking.{is_broken, without_first}
+use Rattle.cq_tree.specs.declared.journal.EntryKind.{EntryKind}
+use Rattle.cq_history.specs.Laws.{IsGivenUp}
+use Rattle.cq_cluster.specs.declared.retired.Retired.{Retired}
+use Rattle.cq_cluster.specs.Moving.{CanRetire, HasFailedOften, Keeps, Loses, SomeFailed, fault_told}
+use Rattle.cq_cluster.specs.Steps.{IsStoreOf}
+
+broken_tells : (shard after a b : ℕ) → (nat_eq a shard && nat_le after b) ≡ true → (a ≡ shard) × (after ≤ b)
+broken_tells shard after a b is = grind arith
+
+tells_broken : (shard after a b : ℕ) → a ≡ shard → after ≤ b → (nat_eq a shard && nat_le after b) ≡ true
+tells_broken shard after a b e le = grind arith
+
+module _ {X : Type 0} (state : X → StoreState) where
+  abbrev test : ℕ → ℕ → X → Bool
+  test shard after x = is_broken shard after (state x)
+
+  -- the store that is taken out
+  pub record IsTakenOut (P : X → Type 0) (shard after : ℕ) (xs : List X) : Type 0 where
+    pub first : X
+    pub found : find (λ x. is_broken shard after (state x)) xs ≡ Some first
+    pub is : HasFailedOften shard after (state first)
+    pub own : P first
+    pub count : length (without_first (λ x. is_broken shard after (state x)) xs) + 1 ≡ length xs
+    pub others : All P (without_first (λ x. is_broken shard after (state x)) xs)
+
+  pub taken_out : (P : X → Type 0) (shard after : ℕ) (xs : List X) → All P xs → SomeFailed state shard after xs → IsTakenOut P shard after xs
+  taken_out P shard after [] all some = absurd some
+  taken_out P shard after (x ∷ xs) all some = elim (two_ways (is_broken shard after (state x))) [
+    | inl y ↦ record {
+      first = x;
+      found = ap (λ b. cond b (Some x) (find (λ v. is_broken shard after (state v)) xs)) y;
+      is = broken_tells shard after (state x).shard (state x).faults y;
+      own = All-head P x xs all;
+      count = ap (λ b. length (cond b xs (x ∷ without_first (λ v. is_broken shard after (state v)) xs)) + 1) y ∙ (let e : length xs + 1 ≡ length (x ∷ xs) = omega arith in e);
+      others = subst (λ b. All P (cond b xs (x ∷ without_first (λ v. is_broken shard after (state v)) xs))) (sym y) (All-tail P x xs all);
+    }
+    | inr n ↦
+        let more = taken_out P shard after xs (All-tail P x xs all) (elim some [
+          | inl h ↦ absurd (let bad : true ≡ false = sym (tells_broken shard after (state x).shard (state x).faults h.0 h.1) ∙ n in cc)
+          | inr h ↦ h
+        ]) in
+        record {
+          first = more.first;
+          found = ap (λ b. cond b (Some x) (find (λ v. is_broken shard after (state v)) xs)) n ∙ more.found;
+          is = more.is;
+          own = more.own;
+          count = ap (λ b. length (cond b xs (x ∷ without_first (λ v. is_broken shard after (state v)) xs)) + 1) n ∙ (let count = more.count in let e : length (x ∷ without_first (λ v. is_broken shard after (state v)) xs) + 1 ≡ length (x ∷ xs) = omega (arith, count) in e);
+          others = subst (λ b. All P (cond b xs (x ∷ without_first (λ v. is_broken shard after (state v)) xs))) (sym n) (All-cons P x (without_first (λ v. is_broken shard after (state v)) xs) (All-head P x xs all) more.others);
+        }
+  ]
+
+  -- a fault by which none is retired
+  pub loses_none : (who : Who) (retired : List (Retired X)) (f : Fault) → ((node shard before after : ℕ) → f ≡ fault.Retired node shard before after → ⊥) → Loses state who 0 retired retired f
+  loses_none who retired (fault.Retired node shard before after) other = absurd (other node shard before after refl)
+  loses_none who retired f other = (refl, refl)
+
+  -- ---- the node of stores that go on
+
+  pub on_zip : (R : StoreState → StoreState → Type 0) (node : ℕ) (xs ys : List X) → ((s t : StoreState) → R s t → t.node ≡ s.node) → AllByRecursion (λ (x : X). (state x).node ≡ node) xs → AllZip (Lifted state R) xs ys → All (λ (y : X). IsStoreOf node (state y)) ys
+  on_zip R node [] [] keep on zip = All-nil (λ (y : X). IsStoreOf node (state y))
+  on_zip R node [] (y ∷ ys) keep on zip = absurd zip
+  on_zip R node (x ∷ xs) [] keep on zip = absurd zip
+  on_zip R node (x ∷ xs) (y ∷ ys) keep on zip = All-cons (λ (v : X). IsStoreOf node (state v)) y ys (keep (state x) (state y) zip.0 ∙ on.0) (on_zip R node xs ys keep on.1 zip.1)
+
+  pub spare_nodes : (node : ℕ) (xs : List X) → AreSpareOn state node xs → AllByRecursion (λ (x : X). (state x).node ≡ node) xs
+  spare_nodes node [] all = tt
+  spare_nodes node (x ∷ xs) all = (all.0.1, spare_nodes node xs all.1)
+
+  pub some_failed : (node shard before after : ℕ) (xs ys : List X) → SomeZip (Lifted state (Broke node shard before after)) xs ys → SomeFailed state shard after ys
+  some_failed node shard before after [] ys some = absurd some
+  some_failed node shard before after (x ∷ xs) [] some = absurd some
+  some_failed node shard before after (x ∷ xs) (y ∷ ys) some = elim some [ inl b ↦ inl (b.of_shard, b.to) | inr more ↦ inr (some_failed node shard before after xs ys more) ]
+
+  some_rose : (node shard before after : ℕ) (xs ys : List X) → SomeZip (Lifted state (Broke node shard before after)) xs ys → Rose before after
+  some_rose node shard before after [] ys some = absurd some
+  some_rose node shard before after (x ∷ xs) [] some = absurd some
+  some_rose node shard before after (x ∷ xs) (y ∷ ys) some = elim some [ inl b ↦ b.rose | inr more ↦ some_rose node shard before after xs ys more ]
+
+  -- ---- why a group wasn't moved
+
+  -- one that can be moved isn't refused for its node
+  pub kept_refused : (was is : GroupState X) (to from : ℕ) (w : MoveWhy) → CanStart was to from → RefusesMove state was is to from w → Keeps state to was is [] (fault_told false w)
+  kept_refused was is to from (why.Moving by) can h = absurd (let no : None ≡ Some by = sym can.free ∙ h in cc)
+  kept_refused was is to from (why.NotThere node) can h = absurd (h.2 (h.1 ∙ can.there))
+  kept_refused was is to from (why.SameNode node) can h = absurd (can.other (sym h.2 ∙ h.3))
+  kept_refused was is to from (why.Worker node shard before after) can h = (refl, h.1)
+  kept_refused was is to from why.Memory can h = inl refl
+
+  pub retire_refused : (to : ℕ) (xs : List X) (w : MoveWhy) → CanRetire state to xs (fault_told false w)
+  retire_refused to xs (why.Moving by) = tt
+  retire_refused to xs (why.NotThere node) = tt
+  retire_refused to xs (why.SameNode node) = tt
+  retire_refused to xs (why.Worker node shard before after) = tt
+  retire_refused to xs why.Memory = tt
+
+  -- a move that began ended by a store that was given for it, or for want of memory
+  pub kept_stopped : (was is : GroupState X) (to : ℕ) (kinds : List EntryKind) (given back : List X) (w : MoveWhy) → IsGivenUp to kinds → EndsMove state (outlines was) to w given back → Keeps state to was is kinds (fault_told true w)
+  kept_stopped was is to kinds given back (why.Moving by) up h = absurd h
+  kept_stopped was is to kinds given back (why.NotThere node) up h = absurd h
+  kept_stopped was is to kinds given back (why.SameNode node) up h = absurd h
+  kept_stopped was is to kinds given back (why.Worker node shard before after) up h = (up, h.there, some_rose node shard before after given back h.broken, h.of_table)
+  kept_stopped was is to kinds given back why.Memory up h = inr up
+
+  pub retire_stopped : (was : GroupState X) (to : ℕ) (given back : List X) (w : MoveWhy) → EndsMove state (outlines was) to w given back → CanRetire state to back (fault_told true w)
+  retire_stopped was to given back (why.Moving by) h = absurd h
+  retire_stopped was to given back (why.NotThere node) h = absurd h
+  retire_stopped was to given back (why.SameNode node) h = absurd h
+  retire_stopped was to given back (why.Worker node shard before after) h = (h.there, some_rose node shard before after given back h.broken, some_failed node shard before after given back h.broken)
+  retire_stopped was to given back why.Memory h = tt
