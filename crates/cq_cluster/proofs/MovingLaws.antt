@@ -63,6 +63,10 @@ set_there [] k a b s = cc
 set_there (x ∷ xs) zero a b s = refl
 set_there (x ∷ xs) (suc k) a b s = set_there xs k a b s
 
+-- how many stores are out of the list at a place, those of groups and those that are retired
+abbrev pub out_of : {X : Type 0} → List ℕ → List (GroupState X) → ℕ → ℕ
+out_of retired groups place = held place groups + everywhere groups + retired_of (place + 1) retired
+
 module _ {X : Type 0} (state : X → StoreState) where
   -- ---- spare stores
 
@@ -119,10 +123,6 @@ module _ {X : Type 0} (state : X → StoreState) where
       pub same_length : length workers ≡ length entry
       pub used : (place : ℕ) (w : Worker X) → place < nodes → slice_get workers place ≡ Some w → IsWorkerAt state (whole_at entry place) (out place) place w
       pub unused : (place : ℕ) → nodes ≤ place → slice_get workers place ≡ slice_get entry place
-
-    -- how many are out of the list at a place, of groups and retired stores
-    abbrev pub out_of : List ℕ → List (GroupState X) → ℕ → ℕ
-    out_of retired groups place = held place groups + everywhere groups + retired_of (place + 1) retired
 
     pub are_out : (retired : List ℕ) (groups : List (GroupState X)) (workers : List (Worker X)) → AreWorkers state nodes entry retired groups workers → AreOut (out_of retired groups) workers
     are_out retired groups workers are = record { same_length = are.same_length; used = are.used; unused = are.unused }

@@ -1,7 +1,9 @@
 -- The stores of a move of one group: which of them broke, and on which node they are.
-use Rattle.std.proofs.Common.{◌≡◌, ◌≢◌, ◌⊎◌, inl, inr, ℕ, zero, suc, ◌+◌, ◌-◌, ◌<◌, ◌≤◌, Bool, true, false, cond, List, [], ◌∷◌, ◌++◌, length, map, refl, sym, ap, subst, ◌∙◌, arith, All, Some, None, Option, slice_get}
+use Rattle.std.proofs.Common.{◌≡◌, ◌≢◌, ◌⊎◌, inl, inr, ℕ, zero, suc, ◌+◌, ◌-◌, ◌<◌, ◌≤◌, Bool, true, false, cond, List, [], ◌∷◌, ◌++◌, length, map, refl, sym, ap, subst, ◌∙◌, arith, All, Some, None, Option, slice_get, length-set, append-nil}
 use Rattle.std.specs.Prelude.{nat_eq, nat_le, ◌&&◌, find, Contains}
-use Rattle.std.specs.List.{AllByRecursion, AllZip}
+use Rattle.std.specs.List.{AllByRecursion, AllZip, flat_map}
+use Rattle.std.proofs.Math.ListN.{set}
+use Rattle.std.proofs.lemmas.Bool.Decides.{eqb_tells}
 use Rattle.std.proofs.lemmas.List.Elements.{All-head, All-tail, All-nil, All-cons}
 use Rattle.cq_answer.specs.declared.fault.Fault.{Fault}
 use Rattle.cq_answer.specs.declared.fault.Fault.TheVariants as fault
@@ -12,16 +14,24 @@ use Rattle.cq_group.specs.declared.group.GroupState.{GroupState}
 use Rattle.cq_group.specs.declared.start.MoveWhy.{MoveWhy}
 use Rattle.cq_group.specs.declared.start.MoveWhy.TheVariants as why
 use Rattle.cq_group.specs.Calls.{GoesOn, GroupGoesOn, Lifted, SomeZip}
-use Rattle.cq_group.specs.Groups.{outlines, entries_of, stores_of}
+use Rattle.cq_group.specs.declared.group.GroupTable.{GroupTable}
+use Rattle.cq_group.specs.Groups.{AreReplicasFrom, IsTableKept, copies_of, entries_of, journal_of, node_at, outlines, stores_of}
+use Rattle.cq_group.specs.Resting.{IsResting}
+use Rattle.cq_journal.specs.Stations.{moving_of}
+use Rattle.cq_value.specs.declared.schema.Shape.{Shape}
+use Rattle.cq_tree.specs.declared.journal.Entry.{Entry}
+use Rattle.cq_tree.specs.declared.journal.EntryKind.TheVariants.{MoveStart, CatchUp, MoveStop}
 use Rattle.cq_group.specs.Incoming.{AreSpareOn, CanStart, RefusesMove}
 use Rattle.cq_move.specs.declared.mover.NotMoved.{NotMoved}
-use Rattle.cq_move.specs.Outcomes.{Broke, EndsMove, HasBroken, IsRefused, IsStopped, IsTried, entries_by}
+use Rattle.cq_move.specs.Outcomes.{Broke, EndsMove, EntersStop, HasBroken, IsRefused, IsStopped, IsTried, entries_by}
 use Rattle.cq_move.specs.Taking.{is_broken, without_first}
 use Rattle.cq_tree.specs.declared.journal.EntryKind.{EntryKind}
 use Rattle.cq_history.specs.Laws.{IsGivenUp}
 use Rattle.cq_cluster.specs.declared.retired.Retired.{Retired}
-use Rattle.cq_cluster.specs.Moving.{CanRetire, HasFailedOften, Keeps, Loses, SomeFailed, fault_told}
+use Rattle.cq_cluster.specs.Moving.{CanRetire, HasFailedOften, IsChangedAt, IsKeptAt, Keeps, Loses, SomeFailed, fault_told}
 use Rattle.cq_cluster.specs.Steps.{IsStoreOf}
+use Rattle.cq_cluster.proofs.ListLaws.{got_other}
+use Rattle.cq_cluster.proofs.MovingLaws.{set_there}
 
 broken_tells : (shard after a b : ℕ) → (nat_eq a shard && nat_le after b) ≡ true → (a ≡ shard) × (after ≤ b)
 broken_tells shard after a b is = grind arith
@@ -126,3 +136,78 @@ module _ {X : Type 0} (state : X → StoreState) where
   retire_stopped was to given back (why.SameNode node) h = absurd h
   retire_stopped was to given back (why.Worker node shard before after) h = (h.there, some_rose node shard before after given back h.broken, some_failed node shard before after given back h.broken)
   retire_stopped was to given back why.Memory h = tt
+
+  -- ---- the group among the others
+
+  pub changed_at : (k : ℕ) (was is : GroupState X) (groups : List (GroupState X)) → slice_get groups k ≡ Some was → IsChangedAt k was is groups (set groups k is)
+  changed_at k was is groups s = record { count = length-set groups k is; there = s; here = set_there groups k was is s; others = λ at apart. got_other groups k is at apart }
+
+  module _ (was is : GroupState X) (who : Who) (group to from : ℕ) (given : List X) (e : NotMoved X) (can : CanStart was to from) (refused : e.begun ≡ false → IsRefused state was is to from given e) (stopped : e.begun ≡ true → IsStopped state was is who to from given e) where
+    pub kept_at : (old new : List (GroupState X)) → IsChangedAt group was is old new → GroupGoesOn state was is → IsResting state is → moving_of (journal_of is) ≡ None → IsKeptAt state who group to (fault_told e.begun e.why) old new
+    kept_at old new ch on rest still = elim (two_ways e.begun) [
+      | inl y ↦
+          let h = stopped y in
+          let kinds = kinds_of h.entries in
+          record {
+            was = was;
+            is = is;
+            changed = ch;
+            on = on;
+            resting = rest;
+            still = still;
+            kinds = kinds.0;
+            entries = kinds.1;
+            cause = subst (λ b. Keeps state to was is kinds.0 (fault_told b e.why)) (sym y) (kept_stopped was is to kinds.0 given e.stores.items e.why kinds.2 h.why);
+          }
+      | inr n ↦
+          let h = refused n in
+          record {
+            was = was;
+            is = is;
+            changed = ch;
+            on = on;
+            resting = rest;
+            still = still;
+            kinds = [];
+            entries = h.entries ∙ sym (append-nil (entries_of was));
+            cause = subst (λ b. Keeps state to was is [] (fault_told b e.why)) (sym n) (kept_refused was is to from e.why can h.why);
+          }
+    ]
+      where
+        kinds_of : EntersStop who to (entries_of was) (entries_of is) → (kinds : List EntryKind) × (entries_of is ≡ entries_of was ++ entries_by who kinds) × IsGivenUp to kinds
+        kinds_of (inl h) = (MoveStart to ∷ MoveStop ∷ [], h, inl refl)
+        kinds_of (inr h) = (MoveStart to ∷ CatchUp ∷ MoveStop ∷ [], h, inr refl)
+
+    pub retire_at : CanRetire state to e.stores.items (fault_told e.begun e.why)
+    retire_at = elim (two_ways e.begun) [
+      | inl y ↦ subst (λ b. CanRetire state to e.stores.items (fault_told b e.why)) (sym y) (retire_stopped was to given e.stores.items e.why (stopped y).why)
+      | inr n ↦ subst (λ b. CanRetire state to e.stores.items (fault_told b e.why)) (sym n) (retire_refused to e.stores.items e.why)
+    ]
+
+  -- ---- the stores of a group that is on one node
+
+  replica_nodes : (node : ℕ) (es : List Entry) (table : ℕ) (shape : Shape) (shard : ℕ) (place : ℕ) (xs : List X) → 0 < node → AreReplicasFrom place node es table shape shard (map state xs) → AllByRecursion (λ (x : X). (state x).node ≡ node) xs
+  replica_nodes node es table shape shard place [] some all = tt
+  replica_nodes node es table shape shard place (x ∷ xs) some all =
+      let own : node_at node place ≡ node = elim (eqb_tells node 0) [ inl y ↦ absurd (omega (arith, y.1, some)) | inr z ↦ ap (λ b. cond b (place + 1) node) z.0 ] in
+      (all.0.of_node ∙ own, replica_nodes node es table shape shard (place + 1) xs some all.1)
+
+  both_all : (P : X → Type 0) (xs ys : List X) → AllByRecursion P xs → AllByRecursion P ys → AllByRecursion P (xs ++ ys)
+  both_all P [] ys p q = q
+  both_all P (x ∷ xs) ys p q = (p.0, both_all P xs ys p.1 q)
+
+  table_nodes : (node copies : ℕ) (es : List Entry) (ts : List (GroupTable X)) → 0 < node → AllByRecursion (IsTableKept state node copies es) ts → AllByRecursion (λ (x : X). (state x).node ≡ node) (flat_map (λ (t : GroupTable X). t.stores.items) ts)
+  table_nodes node copies es [] some all = tt
+  table_nodes node copies es (t ∷ ts) some all =
+      both_all (λ (x : X). (state x).node ≡ node) t.stores.items (flat_map (λ (u : GroupTable X). u.stores.items) ts)
+      (replica_nodes node es t.table t.shape t.shard 0 t.stores.items some all.0.replicas) (table_nodes node copies es ts some all.1)
+
+  pub stores_nodes : (g : GroupState X) (node : ℕ) → IsResting state g → g.node ≡ node → 0 < node → AllByRecursion (λ (x : X). (state x).node ≡ node) (stores_of g)
+  stores_nodes g node rest at some = subst (λ n. AllByRecursion (λ (x : X). (state x).node ≡ n) (stores_of g)) at (table_nodes g.node (copies_of g) (entries_of g) g.tables.items (omega (arith, at, some)) rest.kept.tables)
+
+  -- stores of a node that go on, or were tried, are of that node
+  pub on_still : (node : ℕ) (xs ys : List X) → AllByRecursion (λ (x : X). (state x).node ≡ node) xs → AllZip (Lifted state GoesOn) xs ys → All (λ (y : X). IsStoreOf node (state y)) ys
+  on_still node xs ys on zip = on_zip GoesOn node xs ys (λ s t h. ap (λ (v : StoreState). v.node) h.state) on zip
+
+  pub on_tried : (node : ℕ) (xs ys : List X) → AllByRecursion (λ (x : X). (state x).node ≡ node) xs → AllZip (Lifted state IsTried) xs ys → All (λ (y : X). IsStoreOf node (state y)) ys
+  on_tried node xs ys on zip = on_zip IsTried node xs ys (λ s t h. ap (λ (v : StoreState). v.node) h.state) on zip

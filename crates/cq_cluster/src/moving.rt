@@ -237,7 +237,10 @@ fn move_at<S: Store, G: Gate>(
     ensures all { IfErr result (λ e. length e.stores.items ≡ length stores.items) }
     ensures broken { IfErr result (λ e. CanRetire S.state to e.stores.items (fault_told e.begun e.why)) }
 {
-    move_group(alloc, gate, &mut groups[group as usize], who, from, to, stores)
+    match move_group(alloc, gate, &mut groups[group as usize], who, from, to, stores) {
+        Ok(moved) => Ok(moved),
+        Err(failed) => Err(failed),
+    }
 }
 
 impl<S: Store> Cluster<S> {
