@@ -66,7 +66,7 @@ place_tells node from to none = elim (eqb_tells node from) [
   | inr n ↦ absurd (some_none (fault.NotThere node) (place_fault node from to) (rw n.0 refl) none)
 ]
 
-retired_more : (node last : ℕ) (retired : List ℕ) → retired_of node (retired ++ last ∷ []) ≡ retired_of node retired + cond (nat_eq node last) 1 0
+pub retired_more : (node last : ℕ) (retired : List ℕ) → retired_of node (retired ++ last ∷ []) ≡ retired_of node retired + cond (nat_eq node last) 1 0
 retired_more node last retired = ap (λ (v : List ℕ). length v) (filter-append (nat_eq node) retired (last ∷ [])) ∙ length-append (filter (nat_eq node) retired) (filter (nat_eq node) (last ∷ []))
     ∙ ap (λ n. retired_of node retired + n) (elim (two_ways (nat_eq node last)) [ inl y ↦ rw y refl | inr n ↦ rw n refl ])
 
@@ -111,7 +111,7 @@ module _ {X : Type 0} (state : X → StoreState) where
     pub from_used : (0 < from) × (from ≤ cl.nodes)
     from_used = let node = found.of.node in let at = placed.0 in (omega (arith, node.some, at), omega (arith, node.few, at))
 
-    resting : IsResting state found.g
+    pub resting : IsResting state found.g
     resting = record { kept = found.of.kept; quiet = found.of.quiet; placed = found.of.placed }
 
     pub needs : needed ≡ length (outlines found.g)

@@ -1,9 +1,10 @@
 -- The stores of a move of one group: which of them broke, and on which node they are.
-use Rattle.std.proofs.Common.{◌≡◌, ◌≢◌, ◌⊎◌, inl, inr, ℕ, zero, suc, ◌+◌, ◌-◌, ◌<◌, ◌≤◌, Bool, true, false, cond, List, [], ◌∷◌, ◌++◌, length, map, refl, sym, ap, subst, ◌∙◌, arith, All, Some, None, Option, slice_get, length-set, append-nil}
+use Rattle.std.proofs.Common.{◌≡◌, ◌≢◌, ◌⊎◌, inl, inr, ℕ, zero, suc, ◌+◌, ◌-◌, ◌<◌, ◌≤◌, Bool, true, false, cond, List, [], ◌∷◌, ◌++◌, length, map, get_or, refl, sym, ap, subst, ◌∙◌, arith, All, Some, None, Option, slice_get, length-set, append-nil}
 use Rattle.std.specs.Prelude.{nat_eq, nat_le, ◌&&◌, find, Contains}
 use Rattle.std.specs.List.{AllByRecursion, AllZip, flat_map}
 use Rattle.std.proofs.Math.ListN.{set}
 use Rattle.std.proofs.lemmas.Bool.Decides.{eqb_tells}
+use Rattle.std.proofs.lemmas.Option.{slice_get_read, slice_get_within}
 use Rattle.std.proofs.lemmas.List.Elements.{All-head, All-tail, All-nil, All-cons}
 use Rattle.cq_answer.specs.declared.fault.Fault.{Fault}
 use Rattle.cq_answer.specs.declared.fault.Fault.TheVariants as fault
@@ -28,7 +29,7 @@ use Rattle.cq_move.specs.Taking.{is_broken, without_first}
 use Rattle.cq_tree.specs.declared.journal.EntryKind.{EntryKind}
 use Rattle.cq_history.specs.Laws.{IsGivenUp}
 use Rattle.cq_cluster.specs.declared.retired.Retired.{Retired}
-use Rattle.cq_cluster.specs.Moving.{CanRetire, HasFailedOften, IsChangedAt, IsKeptAt, Keeps, Loses, SomeFailed, fault_told}
+use Rattle.cq_cluster.specs.Moving.{CanMove, CanRetire, HasFailedOften, IsChangedAt, IsKeptAt, Keeps, Loses, SomeFailed, fault_told}
 use Rattle.cq_cluster.specs.Steps.{IsStoreOf}
 use Rattle.cq_cluster.proofs.ListLaws.{got_other}
 use Rattle.cq_cluster.proofs.MovingLaws.{set_there}
@@ -211,3 +212,20 @@ module _ {X : Type 0} (state : X → StoreState) where
 
   pub on_tried : (node : ℕ) (xs ys : List X) → AllByRecursion (λ (x : X). (state x).node ≡ node) xs → AllZip (Lifted state IsTried) xs ys → All (λ (y : X). IsStoreOf node (state y)) ys
   on_tried node xs ys on zip = on_zip IsTried node xs ys (λ s t h. ap (λ (v : StoreState). v.node) h.state) on zip
+
+  -- ---- a group that can be moved, where it is read
+
+  pub record IsStartable (from to n : ℕ) (g : GroupState X) : Type 0 where
+    pub can : CanStart g to from
+    pub resting : IsResting state g
+    pub at : g.node ≡ from
+    pub some : 0 < from
+    pub needs : n ≡ length (outlines g)
+
+  pub startable : (group from to n : ℕ) (groups : List (GroupState X)) (g : GroupState X) → CanMove state group from to n groups → slice_get groups group ≡ Some g → IsStartable from to n g
+  startable group from to n groups g can s =
+      let same : can.was ≡ g = (let e : Some can.was ≡ Some g = sym can.there ∙ s in cc) in
+      subst (IsStartable from to n) same (record { can = record { free = can.still; there = can.at; other = can.other }; resting = can.resting; at = can.at; some = can.some; needs = can.needs })
+
+  pub read_there : (group from to n : ℕ) (groups : List (GroupState X)) (g : GroupState X) → CanMove state group from to n groups → g ≡ get_or groups group g → slice_get groups group ≡ Some g
+  read_there group from to n groups g can is = slice_get_read groups (length groups) group g refl (slice_get_within groups group can.was can.there) is
