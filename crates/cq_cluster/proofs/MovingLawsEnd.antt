@@ -1,5 +1,5 @@
 -- The answers and the accounts of a move of a shard's group.
-use Rattle.std.proofs.Common.{◌≡◌, ◌≢◌, ◌⊎◌, inl, inr, ℕ, zero, suc, ◌+◌, ◌-◌, ◌<◌, ◌≤◌, Bool, true, false, cond, List, [], ◌∷◌, ◌++◌, length, map, refl, sym, ap, subst, ◌∙◌, arith, Some, None, Option, slice_get, Result, Ok, Err, append-nil}
+use Rattle.std.proofs.Common.{◌≡◌, ◌≢◌, ◌⊎◌, inl, inr, ℕ, zero, suc, ◌+◌, ◌-◌, ◌<◌, ◌≤◌, Bool, true, false, cond, List, [], ◌∷◌, ◌++◌, length, map, refl, sym, ap, subst, ◌∙◌, arith, Some, None, Option, slice_get, Result, Ok, Err, IfOk, IfErr, append-nil}
 use Rattle.std.specs.Prelude.{⊤, nat_eq, nat_lt, ◌||◌}
 use Rattle.std.specs.List.{AllByRecursion}
 use Rattle.std.proofs.lemmas.Bool.Decides.{eqb_tells}
@@ -42,7 +42,7 @@ use Rattle.cq_cluster.specs.Moving.{HasKeptGroup, HasMovedGroup, IsChangedAt, Is
 use Rattle.cq_cluster.proofs.AnswerLaws.{answer_is_accounted, other_is_accounted, outlines_in_group, shards_in_group}
 use Rattle.cq_cluster.proofs.GroupLaws.{rests}
 use Rattle.cq_cluster.proofs.MovingLawsAnswers.{answered_there, rows_there}
-use Rattle.cq_cluster.proofs.MovingLawsDone.{IsTaken, after_kept, after_moved, blamed, both_of, go_on_at, holds_in, kept_change, kept_from, kept_moved, kept_was, moved_change, retires_kept, stay_at}
+use Rattle.cq_cluster.proofs.MovingLawsDone.{IsAfter, IsTaken, after_kept, after_moved, blamed, both_of, go_on_at, holds_in, kept_change, kept_from, kept_moved, kept_was, moved_change, retires_kept, stay_at}
 use Rattle.cq_cluster.proofs.MovingLawsGroups.{IsFoundAt, grows_at}
 use Rattle.cq_cluster.proofs.MovingLawsRoom.{found, from_used, resting}
 use Rattle.cq_cluster.proofs.MovingLawsStores.{stores_nodes}
@@ -202,3 +202,28 @@ module _ {X : Type 0} (state : X → StoreState) where
           subst (λ (c : Contents). AreAccounted state c (answers ++ a ∷ []) new.groups.items) (sym (h.up.catalog ∙ t.catalog))
           (answer_is_accounted state cl new.groups.items who answers a m.sound (go_on_at state group h.at.was h.at.is cl.groups.items new.groups.items (rests state cl m.sound) change h.at.on h.at.resting)
           (stay_at state group h.at.was h.at.is cl.groups.items new.groups.items change (kept_moved state h.at.was h.at.is who to h.at.kinds f h.at.entries h.at.cause)) (named a is) next all)
+
+  -- ---- the whole call
+
+  -- what a call that found the group leaves
+  pub record IsEnded (cl new : Cluster X) (who : Who) (shard from to : ℕ) (result : Result MoveReport Fault) : Type 0 where
+    pub after : IsAfter state cl new
+    pub answered : (rules : Rules) (initial settings : Settings) (entry : List (Worker X)) → HasStores state entry cl → rules.refusal (environment_at cl settings) (statement.Move shard from to) ≡ None →
+        IsAnswered rules (run_of cl.nodes initial entry) (environment_at cl settings) (environment_at new settings) who (journals cl) (journals new) (Some (statement.Move shard from to)) (move_answer result)
+    pub retires : Retires who (move_answer result) cl.retired.items new.retired.items
+    pub accounted : (answers : List Answered) (a : Answered) → a.answer ≡ move_answer result → IsNext who a answers cl.groups.items → AreAccounted state cl.catalog answers cl.groups.items → AreAccounted state new.catalog (answers ++ a ∷ []) new.groups.items
+
+  pub ended : MoveIsAnswered → (cl mid new : Cluster X) (shard group from to n : ℕ) (who : Who) → IsMovable state cl shard group from to → IsTaken state cl mid group to → n ≡ tables_of (slice_get cl.groups.items group) → (result : Result MoveReport Fault) →
+      IfOk result (λ r. HasMovedGroup state who group from to n r mid new) → IfErr result (λ f. HasKeptGroup state who group to n f mid new) → IsEnded cl new who shard from to result
+  ended law cl mid new shard group from to n who m t taken (Ok r) moved kept = record {
+    after = after_moved state cl mid new shard group from to n who m t taken r moved;
+    answered = answered_moved cl mid new shard group from to n who m t taken r moved law;
+    retires = moved.retired ∙ t.retired;
+    accounted = accounted_moved cl mid new shard group from to n who m t taken r moved;
+  }
+  ended law cl mid new shard group from to n who m t taken (Err f) moved kept = record {
+    after = after_kept state cl mid new shard group from to n who m t taken f kept;
+    answered = answered_kept cl mid new shard group from to n who m t taken f kept law;
+    retires = retires_kept state cl mid new shard group from to n who m t taken f kept;
+    accounted = accounted_kept cl mid new shard group from to n who m t taken f kept;
+  }

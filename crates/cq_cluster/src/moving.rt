@@ -18,6 +18,7 @@ use crate::retired::Retired;
 use crate::worker::release_all;
 use cq_answer::Fault;
 use cq_group::{Gate, GroupState, MoveWhy};
+use cq_history::answer_laws;
 use cq_move::{MoveReport, Moved, NotMoved, move_group, take_broken};
 use cq_store::{Store, TakeError, Worker};
 use cq_tree::Who;
@@ -378,6 +379,7 @@ impl<S: Store> Cluster<S> {
         ensures retires { Retires who (move_answer result) self.old.retired.items self.new.retired.items }
         ensures accounted { (answers : List Answered) (a : Answered) → a.answer ≡ move_answer result → IsNext who a answers self.old.groups.items → AreAccounted S.state self.old.catalog answers self.old.groups.items → AreAccounted S.state self.new.catalog (answers ++ a ∷ []) self.new.groups.items }
     {
+        answer_laws();
         let group = match self.find_move(shard, from, to) {
             Ok(group) => group,
             Err(refused) => return Err(refused),
