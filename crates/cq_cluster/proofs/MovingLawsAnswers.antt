@@ -1,15 +1,12 @@
 -- What a move of a shard's group is answered, and what stays true of the cluster after it.
-use Rattle.std.proofs.Common.{◌≡◌, ◌≢◌, ◌⊎◌, inl, inr, ℕ, zero, suc, ◌+◌, ◌-◌, ◌<◌, ◌≤◌, Bool, true, false, cond, List, [], ◌∷◌, ◌++◌, length, map, get_or, refl, sym, ap, subst, ◌∙◌, arith, Some, None, Option, slice_get, Result, Ok, Err}
-use Rattle.std.specs.Prelude.{nat_eq, nat_lt, ◌||◌, Contains}
-use Rattle.std.specs.List.{AllByRecursion, AllZip, sum_by}
-use Rattle.std.proofs.lemmas.Bool.Decides.{eqb_tells}
-use Rattle.std.proofs.lemmas.List.{length-map, map-append}
-use Rattle.cq_value.specs.declared.value.Value.{Value}
+use Rattle.std.proofs.Common.{◌≡◌, ◌⊎◌, inl, inr, ℕ, ◌+◌, ◌-◌, ◌<◌, ◌≤◌, cond, List, [], ◌∷◌, length, refl, sym, ap, subst, ◌∙◌, arith, Some, None, Option, slice_get}
+use Rattle.std.specs.Prelude.{nat_eq, nat_lt, ◌||◌}
+use Rattle.std.specs.List.{AllByRecursion, sum_by}
+use Rattle.std.proofs.lemmas.List.{length-map}
 use Rattle.cq_value.specs.Tables.{rows_of}
 use Rattle.cq_tree.specs.declared.journal.Who.{Who}
 use Rattle.cq_tree.specs.declared.journal.Entry.{Entry}
 use Rattle.cq_tree.specs.declared.journal.EntryKind.{EntryKind}
-use Rattle.cq_tree.specs.declared.journal.EntryKind.TheVariants.{MoveStart, CatchUp, Cutover}
 use Rattle.cq_tree.specs.declared.statement.Statement.TheVariants as statement
 use Rattle.cq_answer.specs.declared.answer.Answer.{Answer}
 use Rattle.cq_answer.specs.declared.answer.Answer.TheVariants as answer
@@ -23,33 +20,29 @@ use Rattle.cq_journal.specs.Journals.{replay}
 use Rattle.cq_journal.specs.Records.{Journal}
 use Rattle.cq_journal.specs.Stations.{node_of, moving_of}
 use Rattle.cq_planning.specs.Database.{shape_in}
-use Rattle.cq_planning.specs.Touched.{numbers}
 use Rattle.cq_history.specs.Deeds.{Grows}
 use Rattle.cq_history.specs.Journals.{held_in, journal_in}
-use Rattle.cq_history.specs.Laws.{IsFound, IsGivenUp, MoveIsAnswered, MoveIsRefused, MovesAlone, in_one}
+use Rattle.cq_history.specs.Laws.{IsFound, MoveIsAnswered, MoveIsRefused, MovesAlone, in_one}
 use Rattle.cq_history.specs.Log.{IsAnswered}
 use Rattle.cq_history.specs.Looks.{has_shard}
-use Rattle.cq_history.specs.Moves.{move_fault, node_fault, place_fault, rows_held}
-use Rattle.cq_history.specs.Room.{free_at, retired_of, short_at, stores_on, tables_in}
+use Rattle.cq_history.specs.Moves.{move_fault, place_fault, rows_held}
+use Rattle.cq_history.specs.Room.{free_at, short_at, tables_in}
 use Rattle.cq_history.specs.Run.{Environment, Rules, Run, after}
 use Rattle.cq_history.proofs.Lists.{two_ways}
 use Rattle.cq_store.specs.Stores.{StoreState}
 use Rattle.cq_store.specs.declared.worker.Worker.{Worker}
 use Rattle.cq_group.specs.declared.group.GroupState.{GroupState}
-use Rattle.cq_group.specs.Groups.{Outline, entries_of, journal_of, outlines, stores_of}
+use Rattle.cq_group.specs.Groups.{Outline, entries_of, journal_of, outlines}
 use Rattle.cq_group.specs.Incoming.{rows_in}
 use Rattle.cq_group.specs.Resting.{journals_of}
 use Rattle.cq_cluster.specs.declared.cluster.Cluster.{Cluster}
-use Rattle.cq_cluster.specs.declared.retired.Retired.{Retired}
-use Rattle.cq_cluster.specs.Cluster.{AreGroups, AreWorkers, HasStores, IsCovered, IsGroupOf, IsReferenced, IsShardOf, IsSound, everywhere, held, journals, node_in, retired_nodes, run_of, stores_in, whole_at}
-use Rattle.cq_cluster.specs.Accounts.{AnswerIsAccounted, AreAccounted, IsNext, MoveRetires, MovedIsAccounted, OtherIsAccounted, Retires, StayMoved, moved_by}
-use Rattle.cq_cluster.specs.Accounts as accounts
-use Rattle.cq_cluster.specs.Moving.{IsMovable, environment_at, move_answer, move_refusal, no_node, refusal_at, refusal_in, tables_of, too_few}
+use Rattle.cq_cluster.specs.Cluster.{AreGroups, HasStores, IsCovered, IsReferenced, IsShardOf, IsSound, journals, node_in, retired_nodes, run_of, stores_in}
+use Rattle.cq_cluster.specs.Moving.{IsMovable, environment_at, move_refusal, no_node, refusal_at, refusal_in, tables_of, too_few}
 use Rattle.cq_cluster.proofs.CountLaws.{sum_more, sum_of_passing}
 use Rattle.cq_cluster.proofs.HeldLaws.{counted, held_on, shards_of_covered, table_numbers}
 use Rattle.cq_cluster.proofs.ListLaws.{item_at}
-use Rattle.cq_cluster.proofs.MovingLawsGroups.{IsFoundAt, found_at, group_given, journal_of_item, node_there, stores_count}
-use Rattle.cq_cluster.proofs.MovingLawsRoom.{below_of, found, from_used, needs, no_node_tells, placed, used}
+use Rattle.cq_cluster.proofs.MovingLawsGroups.{IsFoundAt, found_at, journal_of_item, node_there, stores_count}
+use Rattle.cq_cluster.proofs.MovingLawsRoom.{below_of, found}
 
 -- ---- the rows of a group
 

@@ -1,51 +1,34 @@
 -- A cluster after a move of a shard's group, whatever that came to.
-use Rattle.std.proofs.Common.{◌≡◌, ◌≢◌, ◌⊎◌, inl, inr, ℕ, zero, suc, ◌+◌, ◌-◌, ◌<◌, ◌≤◌, Bool, true, false, cond, List, [], ◌∷◌, ◌++◌, length, map, get_or, refl, sym, ap, subst, ◌∙◌, arith, Some, None, Option, slice_get, Result, Ok, Err, append-nil}
+use Rattle.std.proofs.Common.{◌≡◌, inl, inr, ℕ, zero, suc, ◌+◌, ◌-◌, ◌<◌, cond, List, [], ◌∷◌, ◌++◌, length, map, refl, sym, ap, subst, ◌∙◌, arith, Some, slice_get, append-nil}
 use Rattle.std.specs.Prelude.{nat_eq, slice_index_or}
 use Rattle.std.specs.List.{AllByRecursion, AllZip, Contains}
 use Rattle.std.proofs.lemmas.Bool.Decides.{eqb_tells}
-use Rattle.std.proofs.lemmas.List.{length-map, map-append}
+use Rattle.std.proofs.lemmas.List.{map-append}
 use Rattle.cq_tree.specs.declared.journal.Who.{Who}
 use Rattle.cq_tree.specs.declared.journal.EntryKind.{EntryKind}
-use Rattle.cq_tree.specs.declared.journal.EntryKind.TheVariants.{MoveStart, CatchUp, Cutover}
-use Rattle.cq_tree.specs.declared.statement.Statement.TheVariants as statement
-use Rattle.cq_answer.specs.declared.answer.Answer.{Answer}
 use Rattle.cq_answer.specs.declared.answer.Answer.TheVariants as answer
-use Rattle.cq_answer.specs.declared.answered.Answered.{Answered}
-use Rattle.cq_answer.specs.declared.answered.Settings.{Settings}
 use Rattle.cq_answer.specs.declared.fault.Fault.{Fault}
 use Rattle.cq_answer.specs.declared.fault.Fault.TheVariants as fault
-use Rattle.cq_history.specs.Deeds.{Grows}
-use Rattle.cq_history.specs.Faults.{IsShardIn}
-use Rattle.cq_history.specs.Laws.{IsGivenUp, MoveIsAnswered, MoveIsRefused, MovesAlone, in_one}
-use Rattle.cq_history.specs.Log.{IsAnswered}
+use Rattle.cq_history.specs.Laws.{IsGivenUp}
 use Rattle.cq_history.specs.Room.{retired_of}
-use Rattle.cq_history.specs.Run.{Environment, Rules, Run, after}
-use Rattle.cq_history.specs.Standing.{report_names, report_row}
-use Rattle.cq_store.specs.Stores.{StoreState, Becomes, Rose}
+use Rattle.cq_history.specs.Run.{after}
+use Rattle.cq_store.specs.Stores.{StoreState, Rose}
 use Rattle.cq_store.specs.declared.worker.Worker.{Worker}
 use Rattle.cq_group.specs.declared.group.GroupState.{GroupState}
-use Rattle.cq_group.specs.declared.group.GroupError.TheVariants as error
-use Rattle.cq_group.specs.Calls.{Blames, Failed, GoesOn, GroupGoesOn, Lifted, SomeZip}
-use Rattle.cq_group.specs.Groups.{IsSteady, Outline, entries_of, journal_of, outlines, stores_of}
-use Rattle.cq_group.specs.Incoming.{rows_in}
-use Rattle.cq_group.specs.Resting.{AreResting, GoOn, IsResting, journals_of}
+use Rattle.cq_group.specs.Calls.{Failed, GoesOn, GroupGoesOn, Lifted, SomeZip}
+use Rattle.cq_group.specs.Groups.{Outline, entries_of, journal_of, outlines, stores_of}
+use Rattle.cq_group.specs.Resting.{AreResting, GoOn, IsResting}
 use Rattle.cq_move.specs.declared.mover.MoveReport.{MoveReport}
 use Rattle.cq_move.specs.Outcomes.{entries_by, shards_in}
 use Rattle.cq_cluster.specs.declared.cluster.Cluster.{Cluster}
 use Rattle.cq_cluster.specs.declared.retired.Retired.{Retired}
-use Rattle.cq_cluster.specs.Accounts.{AreAccounted, IsNext, NamesFailed, NamesNone, Retires, StayMoved, moved_by}
-use Rattle.cq_cluster.specs.Accounts as accounts
-use Rattle.cq_cluster.specs.Cluster.{AreGroups, AreWorkers, HasStores, IsRetired, IsSound, KeepsStores, journals, retired_nodes, run_of}
-use Rattle.cq_cluster.specs.Moving.{GivesUp, HasKeptGroup, HasMovedGroup, HasRetired, IsChangedAt, IsKeptAt, IsLent, IsMovable, IsMovedAt, Keeps, Loses, environment_at, move_answer, tables_of}
-use Rattle.cq_cluster.proofs.AnswerLaws.{answer_is_accounted, other_is_accounted, outlines_in_group, shards_in_group}
-use Rattle.cq_cluster.proofs.GroupLaws.{rests}
-use Rattle.cq_cluster.proofs.ListLaws.{item_at, zip_length}
-use Rattle.cq_cluster.proofs.MovingLawsAnswers.{answered_there, rows_there}
-use Rattle.cq_cluster.proofs.MovingLawsGroups.{IsFoundAt, IsNextOf, grows_at, groups_next, stores_count}
+use Rattle.cq_cluster.specs.Accounts.{Retires, StayMoved, moved_by}
+use Rattle.cq_cluster.specs.Cluster.{AreGroups, AreWorkers, HasStores, IsRetired, IsSound, KeepsStores, retired_nodes}
+use Rattle.cq_cluster.specs.Moving.{HasKeptGroup, HasMovedGroup, IsChangedAt, IsLent, IsMovable, Keeps, Loses, tables_of}
+use Rattle.cq_cluster.proofs.ListLaws.{zip_length}
+use Rattle.cq_cluster.proofs.MovingLawsGroups.{groups_next, stores_count}
 use Rattle.cq_cluster.proofs.MovingLawsRoom.{found, from_used, needs, placed, resting, retired_more, used, workers_kept, workers_moved}
-use Rattle.cq_cluster.proofs.MovingLawsStores.{stores_nodes}
-use Rattle.cq_cluster.proofs.NextLaws.{moved_made, moved_stopped, moved_stopped_late}
-use Rattle.cq_cluster.proofs.RetiringLaws.{move_retires, moved_is_accounted, names_failed_none, retired_names_none}
+use Rattle.cq_cluster.proofs.NextLaws.{moved_stopped, moved_stopped_late}
 
 -- ---- lists
 

@@ -1,8 +1,7 @@
 -- The answers and the accounts of a move of a shard's group.
-use Rattle.std.proofs.Common.{◌≡◌, ◌≢◌, ◌⊎◌, inl, inr, ℕ, zero, suc, ◌+◌, ◌-◌, ◌<◌, ◌≤◌, Bool, true, false, cond, List, [], ◌∷◌, ◌++◌, length, map, refl, sym, ap, subst, ◌∙◌, arith, Some, None, Option, slice_get, Result, Ok, Err, IfOk, IfErr, append-nil}
+use Rattle.std.proofs.Common.{◌≡◌, inl, inr, ℕ, ◌-◌, cond, List, [], ◌∷◌, ◌++◌, refl, sym, ap, subst, ◌∙◌, Some, None, Option, slice_get, Result, Ok, Err, IfOk, IfErr, append-nil}
 use Rattle.std.specs.Prelude.{⊤, nat_eq, nat_lt, ◌||◌}
 use Rattle.std.specs.List.{AllByRecursion}
-use Rattle.std.proofs.lemmas.Bool.Decides.{eqb_tells}
 use Rattle.std.proofs.lemmas.List.{length-map}
 use Rattle.cq_tree.specs.declared.journal.Who.{Who}
 use Rattle.cq_tree.specs.declared.journal.EntryKind.{EntryKind}
@@ -18,7 +17,7 @@ use Rattle.cq_catalog.specs.Contents.{Contents}
 use Rattle.cq_catalog.specs.Placement.{group_of_shard}
 use Rattle.cq_catalog.specs.Refusals.{first_of}
 use Rattle.cq_history.specs.Faults.{IsShardIn}
-use Rattle.cq_history.specs.Laws.{IsGivenUp, MoveIsAnswered, MovesAlone}
+use Rattle.cq_history.specs.Laws.{MoveIsAnswered, MovesAlone}
 use Rattle.cq_history.specs.Log.{IsAnswered}
 use Rattle.cq_history.specs.Moves.{place_fault, rows_held}
 use Rattle.cq_history.specs.Run.{Environment, Rules, after}
@@ -26,19 +25,17 @@ use Rattle.cq_history.specs.Standing.{report_row}
 use Rattle.cq_history.proofs.Lists.{two_ways}
 use Rattle.cq_store.specs.Stores.{StoreState}
 use Rattle.cq_store.specs.declared.worker.Worker.{Worker}
-use Rattle.cq_value.specs.declared.value.Value.{Value}
 use Rattle.cq_group.specs.declared.group.GroupState.{GroupState}
-use Rattle.cq_group.specs.Groups.{Outline, entries_of, journal_of, outlines, stores_of}
+use Rattle.cq_group.specs.Groups.{entries_of, journal_of, outlines, stores_of}
 use Rattle.cq_group.specs.Incoming.{rows_in}
 use Rattle.cq_group.specs.Resting.{IsResting}
 use Rattle.cq_journal.specs.Records.{Journal}
 use Rattle.cq_move.specs.Outcomes.{entries_by}
 use Rattle.cq_move.specs.declared.mover.MoveReport.{MoveReport}
 use Rattle.cq_cluster.specs.declared.cluster.Cluster.{Cluster}
-use Rattle.cq_cluster.specs.declared.retired.Retired.{Retired}
 use Rattle.cq_cluster.specs.Accounts.{AreAccounted, IsNext, NamesFailed, NamesNone, Retires, moved_by}
-use Rattle.cq_cluster.specs.Cluster.{HasStores, IsSound, journals, node_in, retired_nodes, run_of, stores_in}
-use Rattle.cq_cluster.specs.Moving.{HasKeptGroup, HasMovedGroup, IsChangedAt, IsMovable, Keeps, environment_at, move_answer, move_refusal, no_node, refusal_at, refusal_in, tables_of, too_few}
+use Rattle.cq_cluster.specs.Cluster.{HasStores, journals, node_in, retired_nodes, run_of, stores_in}
+use Rattle.cq_cluster.specs.Moving.{HasKeptGroup, HasMovedGroup, IsChangedAt, IsMovable, Keeps, environment_at, move_answer, move_refusal, no_node, refusal_at, tables_of, too_few}
 use Rattle.cq_cluster.proofs.AnswerLaws.{answer_is_accounted, other_is_accounted, outlines_in_group, shards_in_group}
 use Rattle.cq_cluster.proofs.GroupLaws.{rests}
 use Rattle.cq_cluster.proofs.MovingLawsAnswers.{answered_there, rows_there}

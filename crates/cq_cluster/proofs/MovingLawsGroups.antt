@@ -1,7 +1,7 @@
 -- The group of a shard that is moved, the groups and their journals after that, and how many stores they have.
-use Rattle.std.proofs.Common.{◌≡◌, ◌≢◌, ◌⊎◌, inl, inr, ℕ, zero, suc, ◌+◌, ◌-◌, ◌<◌, ◌≤◌, Bool, true, false, cond, List, [], ◌∷◌, ◌++◌, length, map, get_or, refl, sym, ap, subst, ◌∙◌, arith, Some, None, Option, IsSome, slice_get, length-append}
+use Rattle.std.proofs.Common.{◌≡◌, ◌≢◌, inl, inr, ℕ, zero, suc, ◌+◌, ◌-◌, ◌<◌, ◌≤◌, Bool, true, false, cond, List, [], ◌∷◌, ◌++◌, length, map, refl, sym, ap, subst, ◌∙◌, arith, Some, None, Option, IsSome, slice_get, length-append}
 use Rattle.std.specs.Prelude.{nat_eq, nat_le, nat_lt, ◌&&◌, slice_index_or}
-use Rattle.std.specs.List.{AllByRecursion, AllZip, flat_map}
+use Rattle.std.specs.List.{AllByRecursion, flat_map}
 use Rattle.std.proofs.Math.ListN.{set}
 use Rattle.std.proofs.lemmas.Bool.Decides.{eqb_tells}
 use Rattle.std.proofs.lemmas.List.{length-map}
@@ -11,7 +11,7 @@ use Rattle.cq_tree.specs.declared.journal.Who.{Who}
 use Rattle.cq_tree.specs.declared.journal.Entry.{Entry}
 use Rattle.cq_tree.specs.declared.journal.EntryKind.{EntryKind}
 use Rattle.cq_catalog.specs.Contents.{Contents, first_group_in, count_in}
-use Rattle.cq_catalog.specs.Placement.{place_at, group_in, group_of_shard}
+use Rattle.cq_catalog.specs.Placement.{group_in, group_of_shard}
 use Rattle.cq_catalog.specs.Refusals.{first_of}
 use Rattle.cq_catalog.specs.Whole.{IsWhole}
 use Rattle.cq_catalog.specs.declared.info.Colocation.{Colocation}
@@ -23,20 +23,17 @@ use Rattle.cq_journal.specs.Stations.{moving_of}
 use Rattle.cq_history.specs.Deeds.{IsFresh, Grows}
 use Rattle.cq_history.specs.Journals.{journal_in, with_entries}
 use Rattle.cq_history.specs.Laws.{in_one}
-use Rattle.cq_history.proofs.Lists.{two_ways}
 use Rattle.cq_history.proofs.Entries.{index_beyond}
 use Rattle.cq_history.proofs.Script.{with_none}
 use Rattle.cq_store.specs.Stores.{StoreState}
 use Rattle.cq_group.specs.declared.group.GroupTable.{GroupTable}
 use Rattle.cq_group.specs.declared.group.GroupState.{GroupState}
-use Rattle.cq_group.specs.Calls.{GoesOn, GroupGoesOn, Lifted}
 use Rattle.cq_group.specs.Groups.{IsTableKept, Outline, outline, outlines, shape_at, entries_of, stores_of, journal_of, copies_of}
 use Rattle.cq_group.specs.Resting.{IsResting, journals_of}
 use Rattle.cq_move.specs.Outcomes.{entries_by}
-use Rattle.cq_cluster.specs.declared.cluster.Cluster.{Cluster}
-use Rattle.cq_cluster.specs.Cluster.{AreGroups, IsCovered, IsGroupOf, IsReferenced, IsReferenceGroup, IsShardOf, IsSound, IsUsed, everywhere, held, node_in, node_of_item}
+use Rattle.cq_cluster.specs.Cluster.{AreGroups, IsCovered, IsGroupOf, IsShardOf, IsUsed, everywhere, held, node_in, node_of_item}
 use Rattle.cq_cluster.specs.Moving.{IsChangedAt}
-use Rattle.cq_cluster.proofs.ListLaws.{got_after, got_other, item_at}
+use Rattle.cq_cluster.proofs.ListLaws.{got_other, item_at}
 use Rattle.cq_cluster.proofs.MovingLaws.{same_items, set_there}
 
 -- ---- the group of a shard

@@ -1,14 +1,11 @@
 -- What is there for a move that nothing refuses, and what the workers have after it.
-use Rattle.std.proofs.Common.{◌≡◌, ◌≢◌, ◌⊎◌, inl, inr, ℕ, zero, suc, ◌+◌, ◌-◌, ◌<◌, ◌≤◌, Bool, true, false, cond, List, [], ◌∷◌, ◌++◌, length, map, get_or, refl, sym, ap, subst, ◌∙◌, arith, All, Some, None, Option, slice_get, length-append}
+use Rattle.std.proofs.Common.{◌≡◌, ◌≢◌, inl, inr, ℕ, zero, suc, ◌+◌, ◌-◌, ◌<◌, ◌≤◌, false, cond, List, [], ◌∷◌, ◌++◌, length, refl, sym, ap, subst, ◌∙◌, arith, All, Some, None, Option, slice_get, length-append}
 use Rattle.std.specs.Prelude.{nat_eq, nat_lt, ◌||◌, filter}
-use Rattle.std.specs.List.{AllByRecursion, AllZip}
 use Rattle.std.proofs.lemmas.Bool.Decides.{eqb_tells}
-use Rattle.std.proofs.lemmas.List.{length-map, map-append}
+use Rattle.std.proofs.lemmas.List.{length-map}
 use Rattle.std.proofs.lemmas.List.Elements.{filter-append}
-use Rattle.cq_tree.specs.declared.journal.Who.{Who}
 use Rattle.cq_answer.specs.declared.fault.Fault.{Fault}
 use Rattle.cq_answer.specs.declared.fault.Fault.TheVariants as fault
-use Rattle.cq_catalog.specs.Contents.{Contents}
 use Rattle.cq_catalog.specs.Refusals.{first_of}
 use Rattle.cq_history.specs.Moves.{place_fault}
 use Rattle.cq_history.specs.Room.{retired_of}
@@ -17,16 +14,12 @@ use Rattle.cq_store.specs.Stores.{StoreState}
 use Rattle.cq_store.specs.Workers.{room}
 use Rattle.cq_store.specs.declared.worker.Worker.{Worker}
 use Rattle.cq_group.specs.declared.group.GroupState.{GroupState}
-use Rattle.cq_group.specs.Calls.{GoesOn, Lifted}
 use Rattle.cq_group.specs.Groups.{outline, outlines, stores_of}
 use Rattle.cq_group.specs.Resting.{IsResting}
-use Rattle.cq_move.specs.declared.mover.MoveReport.{MoveReport}
 use Rattle.cq_cluster.specs.declared.cluster.Cluster.{Cluster}
-use Rattle.cq_cluster.specs.declared.retired.Retired.{Retired}
-use Rattle.cq_cluster.specs.Cluster.{AreWorkers, HasStores, IsRetired, IsUsed, IsWaiting, IsWorkerAt, KeepsStores, everywhere, held, node_in, retired_nodes, stores_in, whole_at}
-use Rattle.cq_cluster.specs.Steps.{AllWait}
-use Rattle.cq_cluster.specs.Moving.{CanGive, CanMove, CanTake, GivesUp, HasKeptGroup, HasMovedGroup, HasRetired, IsChangedAt, IsLent, IsMovable, IsWaitingAt, Loses, no_node, tables_of, too_few}
-use Rattle.cq_cluster.proofs.ListLaws.{item_at, there, zip_length}
+use Rattle.cq_cluster.specs.Cluster.{AreWorkers, IsWaiting, everywhere, held, node_in, stores_in}
+use Rattle.cq_cluster.specs.Moving.{CanGive, CanMove, CanTake, IsChangedAt, IsLent, IsMovable, IsWaitingAt, no_node, tables_of, too_few}
+use Rattle.cq_cluster.proofs.ListLaws.{item_at}
 use Rattle.cq_cluster.proofs.MovingLaws.{AreOut, are_out, are_workers, given_out, lent_out, out_of}
 use Rattle.cq_cluster.proofs.MovingLawsGroups.{IsFoundAt, everywhere_changed, found_at, held_changed, node_there, own_elsewhere, own_here, stores_count}
 

@@ -1,6 +1,6 @@
 -- The stores of a move of one group: which of them broke, and on which node they are.
-use Rattle.std.proofs.Common.{◌≡◌, ◌≢◌, ◌⊎◌, inl, inr, ℕ, zero, suc, ◌+◌, ◌-◌, ◌<◌, ◌≤◌, Bool, true, false, cond, List, [], ◌∷◌, ◌++◌, length, map, get_or, refl, sym, ap, subst, ◌∙◌, arith, All, Some, None, Option, slice_get, length-set, append-nil}
-use Rattle.std.specs.Prelude.{nat_eq, nat_le, ◌&&◌, find, Contains}
+use Rattle.std.proofs.Common.{◌≡◌, inl, inr, ℕ, ◌+◌, ◌<◌, ◌≤◌, Bool, true, false, cond, List, [], ◌∷◌, ◌++◌, length, map, get_or, refl, sym, ap, subst, ◌∙◌, arith, All, Some, None, slice_get, length-set, append-nil}
+use Rattle.std.specs.Prelude.{nat_eq, nat_le, ◌&&◌, find}
 use Rattle.std.specs.List.{AllByRecursion, AllZip, flat_map}
 use Rattle.std.proofs.Math.ListN.{set}
 use Rattle.std.proofs.lemmas.Bool.Decides.{eqb_tells}
@@ -10,7 +10,7 @@ use Rattle.cq_answer.specs.declared.fault.Fault.{Fault}
 use Rattle.cq_answer.specs.declared.fault.Fault.TheVariants as fault
 use Rattle.cq_history.proofs.Lists.{two_ways}
 use Rattle.cq_tree.specs.declared.journal.Who.{Who}
-use Rattle.cq_store.specs.Stores.{StoreState, Becomes, Rose}
+use Rattle.cq_store.specs.Stores.{StoreState, Rose}
 use Rattle.cq_group.specs.declared.group.GroupState.{GroupState}
 use Rattle.cq_group.specs.declared.start.MoveWhy.{MoveWhy}
 use Rattle.cq_group.specs.declared.start.MoveWhy.TheVariants as why
@@ -24,7 +24,7 @@ use Rattle.cq_tree.specs.declared.journal.Entry.{Entry}
 use Rattle.cq_tree.specs.declared.journal.EntryKind.TheVariants.{MoveStart, CatchUp, MoveStop}
 use Rattle.cq_group.specs.Incoming.{AreSpareOn, CanStart, RefusesMove}
 use Rattle.cq_move.specs.declared.mover.NotMoved.{NotMoved}
-use Rattle.cq_move.specs.Outcomes.{Broke, EndsMove, EntersStop, HasBroken, IsRefused, IsStopped, IsTried, entries_by}
+use Rattle.cq_move.specs.Outcomes.{Broke, EndsMove, EntersStop, IsRefused, IsStopped, IsTried, entries_by}
 use Rattle.cq_move.specs.Taking.{is_broken, without_first}
 use Rattle.cq_tree.specs.declared.journal.EntryKind.{EntryKind}
 use Rattle.cq_history.specs.Laws.{IsGivenUp}

@@ -27,8 +27,7 @@ use Rattle.cq_group.specs.Groups.{outlines, entries_of, stores_of, journal_of}
 use Rattle.cq_group.specs.Incoming.{IsExchanged, rows_in}
 use Rattle.cq_group.specs.Resting.{IsResting}
 use Rattle.cq_move.specs.declared.mover.MoveReport.{MoveReport}
-use Rattle.cq_move.specs.declared.mover.NotMoved.{NotMoved}
-use Rattle.cq_move.specs.Outcomes.{entries_by, shards_in, HasBroken}
+use Rattle.cq_move.specs.Outcomes.{entries_by, shards_in}
 use Rattle.cq_cluster.specs.declared.cluster.Cluster.{Cluster}
 use Rattle.cq_cluster.specs.declared.retired.Retired.{Retired}
 use Rattle.cq_cluster.specs.Cluster.{IsRetired, IsSound, node_in, retired_nodes, stores_in}

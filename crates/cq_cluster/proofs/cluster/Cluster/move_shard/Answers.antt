@@ -1,12 +1,9 @@
-use Rattle.std.proofs.Common.{◌≡◌, ◌+◌, ◌<◌, ◌≤◌, length, sym, subst, ap, ◌∙◌, arith, refl, List}
+use Rattle.std.proofs.Common.{length, ap, arith, refl}
 use Rattle.cq_answer.specs.declared.fault.Fault.TheVariants as fault
 use Rattle.cq_answer.specs.declared.answer.Answer.TheVariants as answer
-use Rattle.cq_store.specs.declared.worker.Worker.{Worker}
-use Rattle.cq_group.specs.declared.group.GroupState.{GroupState}
 use Rattle.cq_cluster.proofs.MovingLawsAnswers.{refused_there}
-use Rattle.cq_cluster.proofs.MovingLawsDone.{keeps_after, sound_after_move}
+use Rattle.cq_cluster.proofs.MovingLawsDone.{IsTaken, keeps_after, sound_after_move}
 use Rattle.cq_cluster.proofs.MovingLawsEnd.{accounted_same, answered_none, ended, memory_unnamed, refusal_unnamed}
-use Rattle.cq_cluster.proofs.MovingLawsGroups.{IsFoundAt}
 use Rattle.cq_cluster.proofs.MovingLawsRoom.{can_move, can_take, found, give_to_new, give_to_old}
 use Rattle.cq_cluster.proofs.cluster.Cluster.move_shard.Goals as goal
 
@@ -61,7 +58,7 @@ move_on-requires-clause-give g c κs within =
 pub returns-clause-sound : goal.returns-clause-sound
 returns-clause-sound g c =
     let taken = c.in-Ok-take_for.ensures in
-    let t = record { lent = taken.ok; groups = ap (λ v. v.items) taken.groups; retired = taken.retired; catalog = taken.catalog; nodes = taken.nodes } in
+    let t : IsTaken g.S.Store.state c.args.self.now c.take_for.new.self c.in-Ok.group c.args.to = record { lent = taken.ok; groups = ap (λ v. v.items) taken.groups; retired = taken.retired; catalog = taken.catalog; nodes = taken.nodes } in
     let end = ended g.S.Store.state c.answer_laws.ensures.moved c.args.self.now c.take_for.new.self c.move_on.new.self c.args.shard c.in-Ok.group c.args.from c.args.to (length c.in-Ok-take_for.stores.items) c.args.who c.in-Ok.ensures.ok t taken.count c.move_on.result
     c.move_on.ensures.moved c.move_on.ensures.stayed in
     sound_after_move g.S.Store.state c.args.self.now c.move_on.new.self c.requires.sound end.after
@@ -69,7 +66,7 @@ returns-clause-sound g c =
 pub returns-clause-stores : goal.returns-clause-stores
 returns-clause-stores g c =
     let taken = c.in-Ok-take_for.ensures in
-    let t = record { lent = taken.ok; groups = ap (λ v. v.items) taken.groups; retired = taken.retired; catalog = taken.catalog; nodes = taken.nodes } in
+    let t : IsTaken g.S.Store.state c.args.self.now c.take_for.new.self c.in-Ok.group c.args.to = record { lent = taken.ok; groups = ap (λ v. v.items) taken.groups; retired = taken.retired; catalog = taken.catalog; nodes = taken.nodes } in
     let end = ended g.S.Store.state c.answer_laws.ensures.moved c.args.self.now c.take_for.new.self c.move_on.new.self c.args.shard c.in-Ok.group c.args.from c.args.to (length c.in-Ok-take_for.stores.items) c.args.who c.in-Ok.ensures.ok t taken.count c.move_on.result
     c.move_on.ensures.moved c.move_on.ensures.stayed in
     keeps_after g.S.Store.state c.args.self.now c.move_on.new.self end.after
@@ -77,7 +74,7 @@ returns-clause-stores g c =
 pub returns-clause-catalog : goal.returns-clause-catalog
 returns-clause-catalog g c =
     let taken = c.in-Ok-take_for.ensures in
-    let t = record { lent = taken.ok; groups = ap (λ v. v.items) taken.groups; retired = taken.retired; catalog = taken.catalog; nodes = taken.nodes } in
+    let t : IsTaken g.S.Store.state c.args.self.now c.take_for.new.self c.in-Ok.group c.args.to = record { lent = taken.ok; groups = ap (λ v. v.items) taken.groups; retired = taken.retired; catalog = taken.catalog; nodes = taken.nodes } in
     let end = ended g.S.Store.state c.answer_laws.ensures.moved c.args.self.now c.take_for.new.self c.move_on.new.self c.args.shard c.in-Ok.group c.args.from c.args.to (length c.in-Ok-take_for.stores.items) c.args.who c.in-Ok.ensures.ok t taken.count c.move_on.result
     c.move_on.ensures.moved c.move_on.ensures.stayed in
     end.after.catalog
@@ -85,7 +82,7 @@ returns-clause-catalog g c =
 pub returns-clause-answered : goal.returns-clause-answered
 returns-clause-answered g c =
     let taken = c.in-Ok-take_for.ensures in
-    let t = record { lent = taken.ok; groups = ap (λ v. v.items) taken.groups; retired = taken.retired; catalog = taken.catalog; nodes = taken.nodes } in
+    let t : IsTaken g.S.Store.state c.args.self.now c.take_for.new.self c.in-Ok.group c.args.to = record { lent = taken.ok; groups = ap (λ v. v.items) taken.groups; retired = taken.retired; catalog = taken.catalog; nodes = taken.nodes } in
     let end = ended g.S.Store.state c.answer_laws.ensures.moved c.args.self.now c.take_for.new.self c.move_on.new.self c.args.shard c.in-Ok.group c.args.from c.args.to (length c.in-Ok-take_for.stores.items) c.args.who c.in-Ok.ensures.ok t taken.count c.move_on.result
     c.move_on.ensures.moved c.move_on.ensures.stayed in
     end.answered
@@ -93,7 +90,7 @@ returns-clause-answered g c =
 pub returns-clause-retires : goal.returns-clause-retires
 returns-clause-retires g c =
     let taken = c.in-Ok-take_for.ensures in
-    let t = record { lent = taken.ok; groups = ap (λ v. v.items) taken.groups; retired = taken.retired; catalog = taken.catalog; nodes = taken.nodes } in
+    let t : IsTaken g.S.Store.state c.args.self.now c.take_for.new.self c.in-Ok.group c.args.to = record { lent = taken.ok; groups = ap (λ v. v.items) taken.groups; retired = taken.retired; catalog = taken.catalog; nodes = taken.nodes } in
     let end = ended g.S.Store.state c.answer_laws.ensures.moved c.args.self.now c.take_for.new.self c.move_on.new.self c.args.shard c.in-Ok.group c.args.from c.args.to (length c.in-Ok-take_for.stores.items) c.args.who c.in-Ok.ensures.ok t taken.count c.move_on.result
     c.move_on.ensures.moved c.move_on.ensures.stayed in
     end.retires
@@ -101,7 +98,7 @@ returns-clause-retires g c =
 pub returns-clause-accounted : goal.returns-clause-accounted
 returns-clause-accounted g c =
     let taken = c.in-Ok-take_for.ensures in
-    let t = record { lent = taken.ok; groups = ap (λ v. v.items) taken.groups; retired = taken.retired; catalog = taken.catalog; nodes = taken.nodes } in
+    let t : IsTaken g.S.Store.state c.args.self.now c.take_for.new.self c.in-Ok.group c.args.to = record { lent = taken.ok; groups = ap (λ v. v.items) taken.groups; retired = taken.retired; catalog = taken.catalog; nodes = taken.nodes } in
     let end = ended g.S.Store.state c.answer_laws.ensures.moved c.args.self.now c.take_for.new.self c.move_on.new.self c.args.shard c.in-Ok.group c.args.from c.args.to (length c.in-Ok-take_for.stores.items) c.args.who c.in-Ok.ensures.ok t taken.count c.move_on.result
     c.move_on.ensures.moved c.move_on.ensures.stayed in
     end.accounted
