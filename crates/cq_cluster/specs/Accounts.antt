@@ -1,5 +1,5 @@
 -- How the counts of faults of the groups' stores account for the answers that name stores.
-use Rattle.std.specs.Prelude.{◌≡◌, ◌<◌, ℕ, Bool, true, false, nat_lt, List, [], ◌∷◌, ◌++◌, filter, fold, Some, slice_get}
+use Rattle.std.specs.Prelude.{◌≡◌, ◌≢◌, ◌<◌, ℕ, Bool, true, false, nat_lt, List, [], ◌∷◌, ◌++◌, length, map, filter, fold, Some, slice_get}
 use Rattle.std.specs.List.{AllByRecursion, AllZip}
 use Rattle.cq_answer.specs.declared.answer.Answer.{Answer}
 use Rattle.cq_answer.specs.declared.answer.Answer.TheVariants as answer
@@ -8,27 +8,32 @@ use Rattle.cq_answer.specs.declared.fault.Fault.TheVariants as fault
 use Rattle.cq_catalog.specs.Contents.{Contents}
 use Rattle.cq_tree.specs.declared.journal.Who.{Who}
 use Rattle.cq_tree.specs.declared.journal.Entry.{Entry}
+use Rattle.cq_tree.specs.declared.journal.EntryKind.{EntryKind}
 use Rattle.cq_tree.specs.declared.journal.EntryKind.TheVariants.{Cutover}
+use Rattle.cq_tree.specs.declared.statement.Statement.TheVariants as statement
 use Rattle.cq_journal.specs.Records.{Journal}
+use Rattle.cq_journal.specs.Stations.{moving_of}
 use Rattle.cq_history.specs.Faults.{AccountsFor, NamesBelow, IsShardIn}
 use Rattle.cq_history.specs.Journals.{journal_in}
 use Rattle.cq_history.specs.Log.{who_of}
+use Rattle.cq_history.specs.Run.{Environment, after}
 use Rattle.cq_store.specs.Stores.{StoreState}
 use Rattle.cq_store.specs.declared.worker.Worker.{Worker}
 use Rattle.cq_group.specs.declared.group.GroupState.{GroupState}
-use Rattle.cq_group.specs.Groups.{stores_of, entries_of}
+use Rattle.cq_group.specs.Groups.{stores_of, entries_of, journal_of}
 use Rattle.cq_group.specs.Resting.{GoOn, HasFailed}
 use Rattle.cq_cluster.specs.declared.cluster.Cluster.{Cluster}
 use Rattle.cq_cluster.specs.declared.retired.Retired.{Retired}
 use Rattle.cq_cluster.specs.Cluster.{IsSound}
 
--- the number of the statement that moved a group last, by its entries: 0 where none did
-abbrev pub mover_of : ℕ → Entry → ℕ
-mover_of n (record { who = who; kind = Cutover }) = who.statement
-mover_of n e = n
+-- the statement that moved a group last, after an entry of this kind: that of the entry where the group was moved by it
+abbrev pub mover_after : ℕ → ℕ → EntryKind → ℕ
+mover_after last statement Cutover = statement
+mover_after last statement kind = last
 
+-- the number of the statement that moved a group last, by its entries: 0 where none did
 abbrev pub moved_by : List Entry → ℕ
-moved_by es = fold mover_of 0 es
+moved_by es = fold (λ n (e : Entry). mover_after n e.who.statement e.kind) 0 es
 
 -- the answers to statements after this one
 abbrev pub later_than : ℕ → List Answered → List Answered
@@ -60,9 +65,12 @@ AllAccounted {X} state nodes c journals answers workers =
 -- ---- retired stores
 
 -- an answer that tells of a store which is retired
+abbrev pub tells_retired : Answer → Bool
+tells_retired (answer.Failed (fault.Retired node shard before after)) = true
+tells_retired a = false
+
 abbrev pub is_retiring : Answered → Bool
-is_retiring (record { session = session; statement = statement; settings = settings; bound = bound; answer = answer.Failed (fault.Retired node shard before after) }) = true
-is_retiring a = false
+is_retiring a = tells_retired a.answer
 
 -- a store that was retired stands for such an answer: of the statement that tells of it, on this node and with these counts
 abbrev pub StandsFor : {X : Type 0} → Answered → Retired X → Type 0
@@ -92,6 +100,10 @@ NamesFailed state a old new = (node shard before after : ℕ) → a ≡ answer.F
 abbrev pub StayMoved : {X : Type 0} → List (GroupState X) → List (GroupState X) → Type 0
 StayMoved {X} old new = (i : ℕ) (g h : GroupState X) → slice_get old i ≡ Some g → slice_get new i ≡ Some h → moved_by (entries_of h) ≡ moved_by (entries_of g)
 
+-- and no move of a group began or ended
+abbrev pub StayStill : {X : Type 0} → List (GroupState X) → List (GroupState X) → Type 0
+StayStill {X} old new = (i : ℕ) (g h : GroupState X) → slice_get old i ≡ Some g → slice_get new i ≡ Some h → moving_of (journal_of h) ≡ moving_of (journal_of g)
+
 -- groups that went on account for one more answer, which names no store but one that failed
 abbrev pub AnswerIsAccounted : {X : Type 0} → (X → StoreState) → Type 0
 AnswerIsAccounted {X} state = (cl : Cluster X) (new : List (GroupState X)) (who : Who) (answers : List Answered) (a : Answered) → IsSound state cl → GoOn state cl.groups.items new → StayMoved cl.groups.items new →
@@ -101,3 +113,32 @@ AnswerIsAccounted {X} state = (cl : Cluster X) (new : List (GroupState X)) (who 
 -- and groups that stay account for one that names no store
 abbrev pub OtherIsAccounted : {X : Type 0} → (X → StoreState) → Type 0
 OtherIsAccounted {X} state = (c : Contents) (groups : List (GroupState X)) (who : Who) (answers : List Answered) (a : Answered) → NamesNone a.answer → IsNext who a answers groups → AreAccounted state c answers groups → AreAccounted state c (answers ++ a ∷ []) groups
+
+-- one group was moved by this statement, and the others are as they were
+pub record HasMoved {X : Type 0} (who : Who) (place : ℕ) (old new : List (GroupState X)) : Type 0 where
+  pub count : length new ≡ length old
+  pub moved : (g : GroupState X) → slice_get new place ≡ Some g → moved_by (entries_of g) ≡ who.statement
+  pub others : (i : ℕ) → i ≢ place → slice_get new i ≡ slice_get old i
+
+-- groups of which one was moved account for the answer to that, which names no store: no answer has named one of the moved group since
+abbrev pub MovedIsAccounted : {X : Type 0} → (X → StoreState) → Type 0
+MovedIsAccounted {X} state = (c : Contents) (old new : List (GroupState X)) (who : Who) (place : ℕ) (answers : List Answered) (a : Answered) → HasMoved who place old new → NamesNone a.answer → IsNext who a answers old →
+    AreAccounted state c answers old → AreAccounted state c (answers ++ a ∷ []) new
+
+-- an answer that tells of a retired store names none
+abbrev pub RetiredNamesNone : Type 0
+RetiredNamesNone = (node shard before after : ℕ) → NamesNone (answer.Failed (fault.Retired node shard before after))
+
+-- the retired stores stay those that answers tell of
+abbrev pub RetiresOn : Type 0 → Type 0
+RetiresOn X = (answers : List Answered) (who : Who) (a : Answered) (old new : List (Retired X)) → who_of a ≡ who → Retires who a.answer old new → AreRetired answers old → AreRetired (answers ++ a ∷ []) new
+
+-- the environment after a move has the nodes of the stores that are retired then, and nothing else of it changes
+abbrev pub MoveRetires : Type 0 → Type 0
+MoveRetires X = (e : Environment) (who : Who) (shard from to : ℕ) (a : Answer) (old new : List (Retired X)) → e.retired ≡ map (λ (r : Retired X). r.node) old → Retires who a old new →
+    after e (Some (statement.Move shard from to)) a ≡ record e { retired = map (λ (r : Retired X). r.node) new }
+
+-- and so has that after a rebalance
+abbrev pub RebalanceRetires : Type 0 → Type 0
+RebalanceRetires X = (e : Environment) (who : Who) (by_size : Bool) (a : Answer) (old new : List (Retired X)) → e.retired ≡ map (λ (r : Retired X). r.node) old → Retires who a old new →
+    after e (Some (statement.Rebalance by_size)) a ≡ record e { retired = map (λ (r : Retired X). r.node) new }

@@ -1,4 +1,3 @@
-pub mod Room
 pub mod Cluster
 pub mod Steps
 pub mod Ending
