@@ -90,11 +90,7 @@ fn take_spare<S: Store>(worker: &mut Worker<S>, n: u64) -> Result<Vec<S>, NoMemo
 }
 
 /// Takes so many spare stores of a node. `Err`: nothing is taken.
-fn take_of<S: Store>(
-    workers: &mut Vec<Worker<S>>,
-    node: u32,
-    n: u64,
-) -> Result<Vec<S>, NoMemory>
+fn take_of<S: Store>(workers: &mut Vec<Worker<S>>, node: u32, n: u64) -> Result<Vec<S>, NoMemory>
     requires { CanTake S.state node n workers.old.items }
     ensures count { IfOk result (λ t. length t.items ≡ n) }
     ensures spare { IfOk result (λ t. AreSpareOn S.state node t.items) }
@@ -238,7 +234,15 @@ fn move_at<S: Store, G: Gate>(
     ensures all { IfErr result (λ e. length e.stores.items ≡ length stores.items) }
     ensures broken { IfErr result (λ e. CanRetire S.state to e.stores.items (fault_told e.begun e.why)) }
 {
-    match move_group(alloc, gate, &mut groups[group as usize], who, from, to, stores) {
+    match move_group(
+        alloc,
+        gate,
+        &mut groups[group as usize],
+        who,
+        from,
+        to,
+        stores,
+    ) {
         Ok(moved) => Ok(moved),
         Err(failed) => Err(failed),
     }
