@@ -144,7 +144,7 @@ placed_below c n p e apart = by_item (slice_get c.tables n) refl
 -- ---- the tables of a group are those that have a shard in it
 
 module _ {X : Type 0} (state : X → StoreState) (nodes : ℕ) (c : Contents) (groups : List (GroupState X)) (all : AreGroups state nodes c groups) where
-  shards_of_covered : (h : ℕ) (g : GroupState X) (was : IsCovered c h) → slice_get groups h ≡ Some g → ArePassing (has_shard c h) (length c.tables) (table_numbers (outlines g))
+  pub shards_of_covered : (h : ℕ) (g : GroupState X) (was : IsCovered c h) → slice_get groups h ≡ Some g → ArePassing (has_shard c h) (length c.tables) (table_numbers (outlines g))
   shards_of_covered h g was s =
       let at = all.each was.colocation was.i was.co g was.there was.within (subst (λ n. slice_get groups n ≡ Some g) was.is s) in
       record {

@@ -26,3 +26,10 @@ pub mod CreatingLaws
 pub mod GroupLaws
 pub mod LendingLaws
 pub mod ReferenceLaws
+pub mod MovingLaws
+pub mod MovingLawsAnswers
+pub mod MovingLawsDone
+pub mod MovingLawsEnd
+pub mod MovingLawsGroups
+pub mod MovingLawsRoom
+pub mod MovingLawsStores

@@ -4,3 +4,4 @@ pub mod Ending
 pub mod Closing
 pub mod References
 pub mod Accounts
+pub mod Moving

@@ -9,6 +9,7 @@ mod creating;
 mod distribute;
 mod laws;
 mod making;
+mod moving;
 mod opening;
 mod reference;
 mod retired;
