@@ -1,5 +1,5 @@
 -- What the plan of a rebalance is answered.
-use Rattle.std.proofs.Common.{◌≡◌, inl, inr, ℕ, ◌≤◌, List, [], map, length, refl, sym, ap, ◌∙◌, subst, arith, Some, None, Result, Ok, Err, IfOk, IfErr, OnOk}
+use Rattle.std.proofs.Common.{◌≡◌, inl, inr, ℕ, ◌≤◌, Bool, List, [], map, length, refl, sym, ap, ◌∙◌, subst, arith, Some, None, Result, Ok, Err, IfOk, IfErr, OnOk}
 use Rattle.cq_tree.specs.declared.journal.Who.{Who}
 use Rattle.cq_tree.specs.declared.statement.Statement.TheVariants as statement
 use Rattle.cq_answer.specs.declared.answer.Answer.{Answer}
@@ -22,6 +22,7 @@ use Rattle.cq_group.specs.Resting.{journals_of, GoOn, HasFailed}
 use Rattle.cq_groups.specs.Reads.{AreRead}
 use Rattle.cq_groups.proofs.Growth.{as_many}
 use Rattle.cq_rebalance.specs.Loads.{node_there}
+use Rattle.cq_rebalance.proofs.PlanLaws.{not_begun}
 use Rattle.cq_rebalance.specs.Planning.{sizes_in, StopsPlan, ArePlanned}
 use Rattle.cq_cluster.specs.Accounts.{NamesFailed, Retires}
 use Rattle.cq_cluster.specs.declared.retired.Retired.{Retired}
@@ -80,3 +81,7 @@ pub plan_no_copy : (planned : Result (List Move) Fault) (a : Answer) → ShowsPl
 plan_no_copy (Ok moves) a (inl shown) = subst IsNoCopy (sym shown) tt
 plan_no_copy (Ok moves) a (inr shown) = subst IsNoCopy (sym shown) tt
 plan_no_copy (Err f) a shown = subst IsNoCopy (sym shown) tt
+
+-- memory ran out before a group was read
+pub plan_not_begun : {X : Type 0} (state : X → StoreState) (by_size : Bool) (c : Contents) (nodes : ℕ) (who : Who) (groups : List (GroupState X)) → IsPlanMade state by_size c nodes who groups groups (Err fault.Memory)
+plan_not_begun state by_size c nodes who groups = record { moves = tt; entries = tt; failed = not_begun c who groups groups state by_size nodes refl }
