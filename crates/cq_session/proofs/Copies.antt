@@ -1,5 +1,5 @@
 -- A text with its data: what it stands for, and how its answer is written.
-use Rattle.std.proofs.Common.{◌≡◌, ◌⊎◌, inl, inr, ℕ, Bool, true, false, List, [], ◌∷◌, ◌++◌, Option, None, Some, Result, Ok, Err, refl, sym, ◌∙◌, ap, subst}
+use Rattle.std.proofs.Common.{nat_lt, ◌≡◌, ◌⊎◌, inl, inr, ℕ, Bool, true, false, List, [], ◌∷◌, ◌++◌, Option, None, Some, Result, Ok, Err, refl, sym, ◌∙◌, ap, subst}
 use Rattle.std.specs.Prelude.{slice_get}
 use Rattle.std.specs.List.{AllByRecursion}
 use Rattle.cq_tree.specs.declared.journal.Who.{Who}
@@ -233,7 +233,7 @@ module _ (answers : List Answered) (a b : Answered) where
 -- so the counts of faults account for it
 pub accounted_with : {X : Type 0} (state : X → StoreState) (c : Contents) (answers : List Answered) (a : Answered) (copied : Bool) (given : Answer) (groups : List (GroupState X)) → a.answer ≡ tagged copied given →
     AreAccounted state c (answers ++ record a { answer = given } ∷ []) groups → AreAccounted state c (answers ++ a ∷ []) groups
-accounted_with state c answers a copied given groups is h =
+accounted_with {X = X} state c answers a copied given groups is h =
     let b : Answered = record a { answer = given } in
     let same : (node shard : ℕ) → range_in node shard a.answer ≡ range_in node shard given = λ node shard. ap (range_in node shard) is ∙ range_tagged node shard copied given in
     record {

@@ -17,7 +17,7 @@ use Rattle.cq_coordinator.specs.Coordination.{environment, journals}
 use Rattle.cq_session.proofs.texts.respond.Goals as goal
 
 pub answer-answer-requires-clause-computable : goal.answer-answer-requires-clause-computable
-answer-answer-requires-clause-computable g c =
+answer-answer-requires-clause-computable g c = λ lifetimes outlive.
     let tables = c.args.coordinator.now.cluster.catalog.tables in
     computable_with c.args.coordinator.now.cluster.catalog c.args.text.now c.args.copied.now c.in-Ok.read.statement (reading_of c.args.text.now tables) c.requires.sound.whole c.requires.columns
     c.read_with_data.ensures.means c.in-Ok.ensures.ok
@@ -70,7 +70,7 @@ returns-in-Err-clause-accounted g c = λ answers a is next all.
 
 pub returns-in-Err-clause-retires : goal.returns-in-Err-clause-retires
 returns-in-Err-clause-retires g c =
-    none_retired c.args.who c.in-Err.fault _ (unread_names_none c.in-Err.fault c.args.text.now c.args.copied.now c.args.coordinator.now.cluster.catalog.tables c.in-Err.ensures.err)
+    none_retired c.args.who c.in-Err.fault _ _ refl (unread_names_none c.in-Err.fault c.args.text.now c.args.copied.now c.args.coordinator.now.cluster.catalog.tables c.in-Err.ensures.err)
 
 pub returns-in-Ok-clause-means : goal.returns-in-Ok-clause-means
 returns-in-Ok-clause-means g c = c.read_with_data.ensures.means
