@@ -174,9 +174,12 @@ module _ {X : Type 0} (initial : Settings) (entry : List (Worker X)) (settings :
         let all = numbers 0 c.groups in
         let free = not_refused (distribution_refusal c table column count beside settings.shard_count) (room_fault run c (retired_nodes old) (node_in old.groups.items) (shards_at run.workers (node_in old.groups.items) (opened_by c d)) ∷ []) allowed in
         made_of (distributed_by c d) s (answer.Table names rows) made
-        (catalog_is_answered rules run (before c) who (journals old) (journals new) all s (answer.Table names rows) whole
-        (λ g. refl, node_in old.groups.items, sees_all c who (journals old) (node_in old.groups.items) none told.on,
-        subst (λ (o : Option Fault). Yields o (IsNotice (codes "create_distributed_table")) (answer.Table names rows)) (sym allowed) notice)
+        (catalog_is_answered rules run (before c) who (journals old) (journals new) all s (answer.Table names rows) whole (
+          λ g. refl,
+          node_in old.groups.items,
+          sees_all c who (journals old) (node_in old.groups.items) none told.on,
+          subst (λ (o : Option Fault). Yields o (IsNotice (codes "create_distributed_table")) (answer.Table names rows)) (sym allowed) notice,
+        )
         (looks (before c) (journals old) told.there) ((catalog_goes_on c whole).1 table column count beside settings.shard_count free) grows
         (subst (λ (v : Contents). OpensGroups run c v (journals new)) made opens))
 
@@ -197,9 +200,12 @@ module _ {X : Type 0} (initial : Settings) (entry : List (Worker X)) (settings :
         let s : Statement = statement.Reference table in
         let free = not_refused (reference_refusal c table) (room_fault run c (retired_nodes old) (node_in old.groups.items) (λ at. 1) ∷ []) allowed in
         made_of (with_reference c table) s (answer.Table names rows) made
-        (catalog_is_answered rules run (before c) who (journals old) (journals new) (numbers 0 c.groups) s (answer.Table names rows) whole
-        (λ g. refl, node_in old.groups.items, sees_all c who (journals old) (node_in old.groups.items) none told.on,
-        subst (λ (o : Option Fault). Yields o (IsNotice (codes "create_reference_table")) (answer.Table names rows)) (sym allowed) notice)
+        (catalog_is_answered rules run (before c) who (journals old) (journals new) (numbers 0 c.groups) s (answer.Table names rows) whole (
+          λ g. refl,
+          node_in old.groups.items,
+          sees_all c who (journals old) (node_in old.groups.items) none told.on,
+          subst (λ (o : Option Fault). Yields o (IsNotice (codes "create_reference_table")) (answer.Table names rows)) (sym allowed) notice,
+        )
         (looks (before c) (journals old) told.there) ((catalog_goes_on c whole).2 table free) grows (subst (λ (v : Contents). OpensGroups run c v (journals new)) made opens))
 
     pub not_referenced_in : Told → (f : Fault) → (f ≡ fault.Memory) ⊎ (referencing ≡ Some f) → new.catalog ≡ old.catalog → journals new ≡ journals old →

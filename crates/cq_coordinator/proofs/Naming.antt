@@ -21,20 +21,20 @@ use Rattle.cq_tree.specs.declared.journal.Who.{Who}
 abbrev NameNone : Option Fault → Type 0
 NameNone o = (f : Fault) → o ≡ Some f → NamesNoStore f
 
+failed_same : (f g : Fault) → answer.Failed f ≡ answer.Failed g → f ≡ g
+failed_same f g e = cc
+
 pub none_named : (a : Answer) (f : Fault) → a ≡ answer.Failed f → NamesNoStore f → NamesNone a
 none_named a f is unnamed node shard before after e =
     let same : answer.Failed f ≡ answer.Failed (fault.Worker node shard before after) = sym is ∙ e in
     let names : true ≡ false = subst NamesNoStore (failed_same f (fault.Worker node shard before after) same) unnamed in
     absurd (cc)
 
-failed_same : (f g : Fault) → answer.Failed f ≡ answer.Failed g → f ≡ g
-failed_same f g e = cc
-
 -- and no store was retired
-pub none_retired : {X : Type 0} (who : Who) (f : Fault) (retired : List (Retired X)) → NamesNoStore f → Retires who (answer.Failed f) retired retired
-none_retired who (fault.Worker node shard before after) retired unnamed = refl
-none_retired who (fault.Retired node shard before after) retired unnamed = absurd (cc)
-none_retired who f retired unnamed = refl
+pub none_retired : {X : Type 0} (who : Who) (f : Fault) (old new : List (Retired X)) → new ≡ old → NamesNoStore f → Retires who (answer.Failed f) old new
+none_retired who (fault.Worker node shard before after) old new same unnamed = same
+none_retired who (fault.Retired node shard before after) old new same unnamed = absurd (let no : true ≡ false = unnamed in cc)
+none_retired who f old new same unnamed = same
 
 pub memory_named : NamesNoStore fault.Memory
 memory_named = refl

@@ -1,5 +1,5 @@
 -- Why a bound statement doesn't run.
-use Rattle.std.proofs.Common.{◌≡◌, inl, ℕ, false, List, [], refl, arith, Some, None, Option}
+use Rattle.std.proofs.Common.{◌≡◌, ◌<◌, inl, ℕ, false, List, [], refl, arith, Some, None, Option}
 use Rattle.cq_tree.specs.declared.journal.Who.{Who}
 use Rattle.cq_tree.specs.declared.statement.Statement.{Statement}
 use Rattle.cq_tree.specs.declared.statement.Statement.TheVariants as statement
@@ -23,6 +23,7 @@ use Rattle.cq_history.specs.Laws.{look_at}
 use Rattle.cq_history.specs.Refusals.{is_built, unless_built, refusal_in, rules}
 use Rattle.cq_history.proofs.Answering.{sees as looked_in}
 use Rattle.cq_history.proofs.Explaining.{among_numbers}
+use Rattle.cq_cluster.proofs.MovingLawsGroups.{covered_by, group_given}
 use Rattle.cq_coordinator.proofs.DefinitionAnswers.{AreTold, still}
 
 pub not_built : (e : Environment) (s : Statement) → refusal_of e.settings.repartition e.catalog s ≡ None → is_built e.catalog s ≡ false → refusal_in e s ≡ Some fault.NotBuilt
@@ -52,7 +53,7 @@ module _ (run : Run) (e : Environment) (who : Who) (journals : List Journal) (no
   moves : SeesNodes e.catalog seen nodes → (shard from to : ℕ) (group : Option ℕ) → group_of_shard e.catalog shard ≡ group → IsMovedIn run e seen shard from to group (answer.Failed fault.Memory)
   moves sees shard from to None is = (λ g. refl, tt)
   moves sees shard from to (Some group) is =
-      let there = shard_there e.catalog whole shard group is in record {
+      let there : group < e.catalog.groups = group_given e.catalog group whole (covered_by e.catalog shard group is) in record {
         nodes = nodes;
         mover = moving_of (journal_in journals group);
         there = there;

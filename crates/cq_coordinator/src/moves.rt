@@ -27,14 +27,14 @@ struct ReportTable {
     rows: Rows,
 }
 
-/// A row of so many zeros as a report has numbers.
+/// A row of a zero for each number of a report.
 fn zeros(alloc: Global) -> Result<Row, NoMemory>
     ensures { IfOk result (λ row. row ≡ report_row (record { copied = 0; caught = 0; last = 0 })) }
 {
     let mut row = Row::new(alloc);
-    for _ in 0..3 {
-        row.put(Value::Int(0))?;
-    }
+    row.put(Value::Int(0))?;
+    row.put(Value::Int(0))?;
+    row.put(Value::Int(0))?;
     Ok(row)
 }
 

@@ -1,4 +1,4 @@
-use Rattle.std.proofs.Common.{sym, ◌∙◌}
+use Rattle.std.proofs.Common.{refl, sym, ◌∙◌}
 use Rattle.cq_answer.specs.declared.fault.Fault.TheVariants as fault
 use Rattle.cq_history.specs.Refusals.{rules}
 use Rattle.cq_history.proofs.Answering.{refusal_is_answered}
