@@ -1,7 +1,7 @@
 -- What a planned move of a shard group needs, and what stays true of the cluster after it.
-use Rattle.std.proofs.Common.{◌≡◌, ◌≢◌, ◌⊎◌, inl, inr, ℕ, zero, suc, ◌+◌, ◌-◌, ◌<◌, ◌≤◌, false, cond, List, [], ◌∷◌, ◌++◌, length, refl, sym, ap, subst, ◌∙◌, arith, Some, None, Option, slice_get, Result, Ok, Err, IfOk, IfErr, append-nil}
-use Rattle.std.specs.Prelude.{nat_eq, nat_lt, ◌||◌, not}
-use Rattle.std.specs.List.{AllByRecursion}
+use Rattle.std.proofs.Common.{◌≡◌, ◌≢◌, ◌⊎◌, inl, inr, ℕ, zero, suc, ◌+◌, ◌-◌, ◌<◌, ◌≤◌, Bool, true, false, cond, List, [], ◌∷◌, ◌++◌, length, refl, sym, ap, subst, ◌∙◌, arith, Some, None, Option, slice_get, Result, Ok, Err, IfOk, IfErr, append-nil}
+use Rattle.std.specs.Prelude.{nat_eq, nat_lt, ◌||◌, ◌&&◌, not}
+use Rattle.std.specs.List.{AllByRecursion, list_any}
 use Rattle.std.proofs.lemmas.Bool.{le-ltb}
 use Rattle.std.proofs.lemmas.Bool.Decides.{eqb_tells}
 use Rattle.std.proofs.lemmas.List.{length-map}
@@ -12,15 +12,20 @@ use Rattle.cq_answer.specs.declared.answered.Settings.{Settings}
 use Rattle.cq_answer.specs.declared.fault.Fault.{Fault}
 use Rattle.cq_answer.specs.declared.fault.Fault.TheVariants as fault
 use Rattle.cq_catalog.specs.Contents.{Contents}
+use Rattle.cq_catalog.specs.Placement.{place_at}
 use Rattle.cq_catalog.specs.Refusals.{first_of}
+use Rattle.cq_catalog.specs.declared.info.Colocation.{Colocation}
 use Rattle.cq_journal.specs.Records.{Journal}
 use Rattle.cq_journal.specs.Stations.{node_of, moving_of}
 use Rattle.cq_history.specs.Deeds.{Grows}
-use Rattle.cq_history.specs.Faults.{AccountsFor}
+use Rattle.cq_history.specs.Faults.{AccountsFor, is_distributed_group}
+use Rattle.cq_history.specs.Looks.{has_shard}
 use Rattle.cq_history.specs.Laws.{FailsAlone, IsMovable, in_one}
 use Rattle.cq_history.specs.Moves.{Report, place_fault, rows_held}
 use Rattle.cq_history.specs.Room.{free_at, is_on, short_at, stores_on, tables_in}
 use Rattle.cq_history.proofs.Lists.{two_ways, all_at, all_weaker, filter_none}
+use Rattle.cq_planning.specs.Routing.{is_distributed_place}
+use Rattle.cq_planning.specs.Touched.{numbers}
 use Rattle.cq_store.specs.Stores.{StoreState}
 use Rattle.cq_store.specs.declared.worker.Worker.{Worker}
 use Rattle.cq_group.specs.declared.group.GroupState.{GroupState}
@@ -34,11 +39,16 @@ use Rattle.cq_cluster.specs.Moving.{HasKeptGroup, HasMovedGroup, IsChangedAt, Is
 use Rattle.cq_cluster.specs.Planned.{AccountsFailed, AccountsOn, CanBePlanned, HasFailedIn, IsMadeIn, journal_at, move_of, report_of}
 use Rattle.cq_cluster.proofs.AnswerLaws.{account_none}
 use Rattle.cq_cluster.proofs.CountLaws.{sum_alike}
+use Rattle.cq_cluster.proofs.HeldLaws.{has_shard_by}
 use Rattle.cq_cluster.proofs.ListLaws.{item_at}
 use Rattle.cq_cluster.proofs.MovingLawsAnswers.{nodes_told, rows_there, short_there, tables_there}
 use Rattle.cq_cluster.proofs.MovingLawsDone.{IsAfter, IsTaken, after_kept, after_moved, kept_change, moved_change, moved_was, retires_kept}
 use Rattle.cq_cluster.proofs.MovingLawsEnd.{accounted_kept, accounted_same, alone_by, has_moved, memory_unnamed, rows_are}
-use Rattle.cq_cluster.proofs.MovingLawsGroups.{IsFoundAt, found_group, grows_at, journal_of_item}
+use Rattle.cq_cluster.proofs.MovingLawsGroups.{IsFoundAt, found_group, group_given, grows_at, journal_of_item}
+
+both_true : (a b : Bool) → (a && b) ≡ true → (a ≡ true) × (b ≡ true)
+both_true true b h = (refl, h)
+both_true false b h = cc
 
 -- ---- what a check of the stores tells
 
@@ -108,6 +118,32 @@ module _ {X : Type 0} (state : X → StoreState) where
   )
 
   -- ---- before the move
+
+  -- the group of a distributed table was opened on a node
+  module _ (cl : Cluster X) (sound : IsSound state cl) (g : ℕ) where
+    opened_at : (colocation i : ℕ) (co : Colocation) → slice_get cl.catalog.colocations colocation ≡ Some co → i < co.count → g ≡ co.first_group + i → (journal_at cl g).opening ≢ 0
+    opened_at colocation i co there within is none =
+        let was : IsCovered cl.catalog g = record { colocation = colocation; i = i; co = co; there = there; within = within; is = is } in
+        let below = group_given cl.catalog g sound.whole was in
+        let item = item_at cl.groups.items g (omega (arith, below, sound.groups.count)) in
+        let opening = (sound.groups.each colocation i co item.0 there within (subst (λ n. slice_get cl.groups.items n ≡ Some item.0) is item.1)).opening in
+        let at = ap (λ (j : Journal). j.opening) (journal_of_item cl.groups.items g item.0 item.1) in
+        omega (arith, none, at, opening)
+
+    opened_by : (ts : List ℕ) → list_any (λ table. is_distributed_place (place_at cl.catalog table) && has_shard cl.catalog g table) ts ≡ true → (journal_at cl g).opening ≢ 0
+    opened_by [] h = cc
+    opened_by (t ∷ ts) h = elim (two_ways (is_distributed_place (place_at cl.catalog t) && has_shard cl.catalog g t)) [
+      | inl y ↦
+          let two = both_true (is_distributed_place (place_at cl.catalog t)) (has_shard cl.catalog g t) y in
+          elim (has_shard_by cl.catalog g t two.1) [
+            | inl p ↦ opened_at p.colocation p.i p.co p.there p.within p.is
+            | inr p ↦ absurd (let bad : false ≡ true = sym (ap is_distributed_place p.placed) ∙ two.0 in cc)
+          ]
+      | inr n ↦ opened_by ts (rw n at h)
+    ]
+
+    pub distributed_opened : is_distributed_group cl.catalog g ≡ true → (journal_at cl g).opening ≢ 0
+    distributed_opened h = opened_by (numbers 0 (length cl.catalog.tables)) h
 
   module _ (cl : Cluster X) (group from to : ℕ) (sound : IsSound state cl) (p : CanBePlanned cl group from to) where
     pub group_there : group < length cl.groups.items
