@@ -1,5 +1,5 @@
 -- What the plan of a rebalance is answered.
-use Rattle.std.proofs.Common.{◌≡◌, inl, inr, ℕ, ◌≤◌, Bool, List, [], map, length, refl, sym, ap, ◌∙◌, subst, arith, Some, None, Result, Ok, Err, IfOk, IfErr, OnOk}
+use Rattle.std.proofs.Common.{◌≡◌, inl, inr, ℕ, ◌≤◌, Bool, List, length, refl, sym, ◌∙◌, subst, Some, None, Result, Ok, Err, IfOk, IfErr, OnOk}
 use Rattle.cq_tree.specs.declared.journal.Who.{Who}
 use Rattle.cq_tree.specs.declared.statement.Statement.TheVariants as statement
 use Rattle.cq_answer.specs.declared.answer.Answer.{Answer}
@@ -11,14 +11,14 @@ use Rattle.cq_balance.specs.declared.load.Move.{Move}
 use Rattle.cq_journal.specs.Records.{Journal}
 use Rattle.cq_catalog.specs.Contents.{Contents}
 use Rattle.cq_history.specs.Run.{Run, Environment}
-use Rattle.cq_history.specs.Rebalances.{read_for, plan_names, plan_row}
+use Rattle.cq_history.specs.Rebalances.{read_for}
 use Rattle.cq_history.specs.Refusals.{rules, refusal_in}
 use Rattle.cq_history.specs.Laws.{FailsPlan}
 use Rattle.cq_history.specs.Log.{IsAnswered}
 use Rattle.cq_history.proofs.Rebalancing.{plan_is_answered, plan_fails}
 use Rattle.cq_store.specs.Stores.{StoreState}
 use Rattle.cq_group.specs.declared.group.GroupState.{GroupState}
-use Rattle.cq_group.specs.Resting.{journals_of, GoOn, HasFailed}
+use Rattle.cq_group.specs.Resting.{journals_of, GoOn}
 use Rattle.cq_groups.specs.Reads.{AreRead}
 use Rattle.cq_groups.proofs.Growth.{as_many}
 use Rattle.cq_rebalance.specs.Loads.{node_there}

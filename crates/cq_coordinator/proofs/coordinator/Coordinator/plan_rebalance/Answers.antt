@@ -1,8 +1,6 @@
-use Rattle.std.proofs.Common.{◌≡◌, ℕ, refl, sym, ◌∙◌, Err, Some}
-use Rattle.cq_answer.specs.declared.answered.Settings.{Settings}
+use Rattle.std.proofs.Common.{refl, sym, ◌∙◌, Err}
 use Rattle.cq_answer.specs.declared.answer.Answer.TheVariants as answer
 use Rattle.cq_answer.specs.declared.fault.Fault.TheVariants as fault
-use Rattle.cq_store.specs.declared.worker.Worker.{Worker}
 use Rattle.cq_tree.specs.declared.statement.Statement.TheVariants as statement
 use Rattle.cq_groups.proofs.Growth.{go_on_itself}
 use Rattle.cq_cluster.specs.Cluster.{run_of, retired_nodes}
