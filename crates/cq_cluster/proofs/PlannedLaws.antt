@@ -1,7 +1,7 @@
 -- What a planned move of a shard group needs, and what stays true of the cluster after it.
-use Rattle.std.proofs.Common.{◌≡◌, ◌≢◌, ◌⊎◌, inl, inr, ℕ, zero, suc, ◌+◌, ◌-◌, ◌<◌, ◌≤◌, Bool, true, false, cond, List, [], ◌∷◌, ◌++◌, length, refl, sym, ap, subst, ◌∙◌, arith, Some, None, Option, slice_get, Result, Ok, Err, IfOk, IfErr, append-nil}
-use Rattle.std.specs.Prelude.{nat_eq, nat_lt, ◌||◌, ◌&&◌, not}
-use Rattle.std.specs.List.{AllByRecursion, list_any}
+use Rattle.std.proofs.Common.{◌≡◌, ◌≢◌, ◌⊎◌, inl, inr, ℕ, zero, suc, ◌+◌, ◌-◌, ◌<◌, ◌≤◌, Bool, true, false, cond, List, [], ◌∷◌, ◌++◌, length, get_or, refl, sym, ap, subst, ◌∙◌, arith, Some, None, Option, slice_get, Result, Ok, Err, IfOk, IfErr, append-nil}
+use Rattle.std.specs.Prelude.{IsTrue, nat_eq, nat_lt, ◌||◌, ◌&&◌, not}
+use Rattle.std.specs.List.{AllByRecursion, AllZip, list_any}
 use Rattle.std.proofs.lemmas.Bool.{le-ltb}
 use Rattle.std.proofs.lemmas.Bool.Decides.{eqb_tells}
 use Rattle.std.proofs.lemmas.List.{length-map}
@@ -18,7 +18,7 @@ use Rattle.cq_catalog.specs.declared.info.Colocation.{Colocation}
 use Rattle.cq_journal.specs.Records.{Journal}
 use Rattle.cq_journal.specs.Stations.{node_of, moving_of}
 use Rattle.cq_history.specs.Deeds.{Grows}
-use Rattle.cq_history.specs.Faults.{AccountsFor, is_distributed_group}
+use Rattle.cq_history.specs.Faults.{AccountsFor, Climbs, Range, ranges_of, is_distributed_group}
 use Rattle.cq_history.specs.Looks.{has_shard}
 use Rattle.cq_history.specs.Laws.{FailsAlone, IsMovable, in_one}
 use Rattle.cq_history.specs.Moves.{Report, place_fault, rows_held}
@@ -29,18 +29,19 @@ use Rattle.cq_planning.specs.Touched.{numbers}
 use Rattle.cq_store.specs.Stores.{StoreState}
 use Rattle.cq_store.specs.declared.worker.Worker.{Worker}
 use Rattle.cq_group.specs.declared.group.GroupState.{GroupState}
+use Rattle.cq_group.specs.Calls.{GoesOn, Lifted}
 use Rattle.cq_group.specs.Groups.{entries_of, journal_of, outlines, stores_of}
-use Rattle.cq_group.specs.Resting.{journals_of}
+use Rattle.cq_group.specs.Resting.{GoOn, journals_of}
 use Rattle.cq_move.specs.declared.mover.MoveReport.{MoveReport}
 use Rattle.cq_cluster.specs.declared.cluster.Cluster.{Cluster}
-use Rattle.cq_cluster.specs.Accounts.{AreAccounted, HasMoved, IsNext, NamesNone, Retires, later_than, moved_by}
+use Rattle.cq_cluster.specs.Accounts.{AreAccounted, HasMoved, IsNext, NamesNone, Retires, StayMoved, later_than, moved_by}
 use Rattle.cq_cluster.specs.Cluster.{HasStores, IsCovered, IsSound, journals, node_in, retired_nodes, run_of, stores_in}
 use Rattle.cq_cluster.specs.Moving.{HasKeptGroup, HasMovedGroup, IsChangedAt, IsMovableGroup, Keeps, environment_at, no_node, refusal_in, tables_of, too_few}
 use Rattle.cq_cluster.specs.Planned.{AccountsFailed, AccountsOn, CanBePlanned, HasFailedIn, IsMadeIn, journal_at, move_of, report_of}
 use Rattle.cq_cluster.proofs.AnswerLaws.{account_none}
 use Rattle.cq_cluster.proofs.CountLaws.{sum_alike}
 use Rattle.cq_cluster.proofs.HeldLaws.{has_shard_by}
-use Rattle.cq_cluster.proofs.ListLaws.{item_at}
+use Rattle.cq_cluster.proofs.ListLaws.{item_at, there}
 use Rattle.cq_cluster.proofs.MovingLawsAnswers.{nodes_told, rows_there, short_there, tables_there}
 use Rattle.cq_cluster.proofs.MovingLawsDone.{IsAfter, IsTaken, after_kept, after_moved, kept_change, moved_change, moved_was, retires_kept}
 use Rattle.cq_cluster.proofs.MovingLawsEnd.{accounted_kept, accounted_same, alone_by, has_moved, memory_unnamed, rows_are}
@@ -113,6 +114,51 @@ module _ {X : Type 0} (state : X → StoreState) where
             subst (λ (v : List Answered). AllByRecursion (λ (x : X). AccountsFor v (state x)) (stores_of g)) (sym no) (account_none state (stores_of g))
         | inr z ↦ all.stores i g (sym (has.others i z.1) ∙ at)
       ];
+      below = all.below;
+    },
+  )
+
+  -- ---- groups that go on, as they are read
+
+  climbs_up : (low : ℕ) (rs : List Range) (c d : ℕ) → c ≤ d → Climbs low rs c → Climbs low rs d
+  climbs_up low [] c d le h = omega (arith, le, h)
+  climbs_up low (r ∷ rs) c d le h = (h.0, h.1, climbs_up r.1 rs c d le h.2)
+
+  account_on : (answers : List Answered) (s t : StoreState) → GoesOn s t → AccountsFor answers s → AccountsFor answers t
+  account_on answers s t on h =
+      let node : t.node ≡ s.node = ap (λ (v : StoreState). v.node) on.state in
+      let shard : t.shard ≡ s.shard = ap (λ (v : StoreState). v.shard) on.state in
+      let steady : t.steady ≡ s.steady = ap (λ (v : StoreState). v.steady) on.state in
+      let same : ranges_of t.node t.shard answers ≡ ranges_of s.node s.shard answers = ap (λ k. ranges_of k t.shard answers) node ∙ ap (λ k. ranges_of s.node k answers) shard in
+      record {
+        climbs = subst (λ rs. Climbs 0 rs t.faults) (sym same) (climbs_up 0 (ranges_of s.node s.shard answers) s.faults t.faults on.counts h.climbs);
+        steady = λ k. same ∙ h.steady (subst IsTrue steady k);
+      }
+
+  account_zip : (answers : List Answered) (xs ys : List X) → AllZip (Lifted state GoesOn) xs ys → AllByRecursion (λ (x : X). AccountsFor answers (state x)) xs → AllByRecursion (λ (x : X). AccountsFor answers (state x)) ys
+  account_zip answers [] [] on all = tt
+  account_zip answers [] (y ∷ ys) on all = absurd on
+  account_zip answers (x ∷ xs) [] on all = absurd on
+  account_zip answers (x ∷ xs) (y ∷ ys) on all = (account_on answers (state x) (state y) on.0 all.0, account_zip answers xs ys on.1 all.1)
+
+  pub reading_goes_on : (c : Contents) (old new : List (GroupState X)) (who : Who) (answers : List Answered) (a : Answered) → GoOn state old new → StayMoved old new → IsNext who a answers old → AreAccounted state c answers old →
+      IsNext who a answers new × AreAccounted state c answers new
+  reading_goes_on c old new who answers a go stay next all = (
+    record {
+      is = next.is;
+      answered = next.answered;
+      moved = all_from (λ (g : GroupState X). moved_by (entries_of g) ≤ who.statement) new (λ i h now.
+          let at = there old new i h h go.count now in
+          let low = all_at (λ (v : GroupState X). moved_by (entries_of v) ≤ who.statement) old i (get_or old i h) next.moved at in
+          let same = stay i (get_or old i h) h at now in
+          omega (arith, low, same));
+    },
+    record {
+      stores = λ i h now.
+          let at = there old new i h h go.count now in
+          let g = get_or old i h in
+          subst (λ k. AllByRecursion (λ (x : X). AccountsFor (later_than k answers) (state x)) (stores_of h)) (sym (stay i g h at now))
+          (account_zip (later_than (moved_by (entries_of g)) answers) (stores_of g) (stores_of h) (go.each i g h at now).0.stores (all.stores i g at));
       below = all.below;
     },
   )
