@@ -63,8 +63,8 @@ module _ {X : Type 0} (state : X → StoreState) where
       subst (λ (c : Contents). AreAccounted state c (answers ++ a ∷ []) new.groups.items) (sym catalog)
       (answer_is_accounted state cl new.groups.items who answers a sound go (read_unmoved who stops.groups cl.groups.items new.groups.items stops.reads)
       (λ node shard before after e.
-          let told : answer.Failed f ≡ answer.Failed (fault.Worker node shard before after) = sym is ∙ e in
-          stops.blamed node shard before after (let same : f ≡ fault.Worker node shard before after = cc in same)) next all)
+      let told : answer.Failed f ≡ answer.Failed (fault.Worker node shard before after) = sym is ∙ e in
+      stops.blamed node shard before after (let same : f ≡ fault.Worker node shard before after = cc in same)) next all)
 
   pub memory_stops : (by_size : Bool) (c : Contents) (nodes : ℕ) (who : Who) (old new : List (GroupState X)) → AreRead who (read_for by_size c) old new → StopsPlan state by_size c nodes who old new fault.Memory
   memory_stops by_size c nodes who old new grows = record {

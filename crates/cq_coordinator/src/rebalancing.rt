@@ -108,7 +108,14 @@ impl<S: Store> Coordinator<S> {
             Err(fault) => return Answer::Failed(fault),
         };
         let Plan { moves, mut rows } = begun;
-        match make_moves(alloc, gate, &mut self.cluster, who, moves.as_slice(), &mut rows) {
+        match make_moves(
+            alloc,
+            gate,
+            &mut self.cluster,
+            who,
+            moves.as_slice(),
+            &mut rows,
+        ) {
             Ok(()) => Answer::Table { names, rows },
             Err(fault) => Answer::Failed(fault),
         }
