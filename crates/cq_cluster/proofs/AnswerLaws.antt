@@ -2,7 +2,7 @@
 use Rattle.std.proofs.Common.{◌≡◌, ◌≢◌, ◌⊎◌, inl, inr, ℕ, ◌+◌, ◌<◌, ◌≤◌, false, cond, List, [], ◌∷◌, ◌++◌, length, get_or, map, refl, sym, ap, subst, ◌∙◌, arith, Some, None, Option, slice_get}
 use Rattle.std.specs.Prelude.{nat_eq, nat_lt, ⊤}
 use Rattle.std.specs.List.{AllByRecursion, AllZip, flat_map}
-use Rattle.std.proofs.lemmas.Bool.{lt-ltb}
+use Rattle.std.proofs.lemmas.Bool.{le-ltb, lt-ltb}
 use Rattle.std.proofs.lemmas.Bool.Decides.{eqb_tells}
 use Rattle.cq_value.specs.declared.schema.Shape.{Shape}
 use Rattle.cq_tree.specs.declared.journal.Entry.{Entry}
@@ -21,7 +21,7 @@ use Rattle.cq_catalog.specs.declared.info.TableInfo.{TableInfo}
 use Rattle.cq_history.specs.Faults.{IsShardIn, range_in, AccountsFor, NamesBelow}
 use Rattle.cq_history.specs.Laws.{StoreGoesOn}
 use Rattle.cq_history.proofs.Faults.{other_accounts, fault_accounts}
-use Rattle.cq_history.proofs.Lists.{two_ways, all_at, all_append, all_weaker}
+use Rattle.cq_history.proofs.Lists.{two_ways, all_at, all_append, all_more, all_weaker, filter_none}
 use Rattle.cq_store.specs.Stores.{StoreState}
 use Rattle.cq_group.specs.declared.group.GroupTable.{GroupTable}
 use Rattle.cq_group.specs.declared.group.GroupState.{GroupState}
@@ -283,19 +283,37 @@ later_more n (b ∷ answers) a h = elim (two_ways (nat_lt n b.statement)) [
   | inr z ↦ rw z (later_more n answers a h)
 ]
 
+-- no answer is later than the statement of the next one
+pub later_none : {X : Type 0} (who : Who) (a : Answered) (answers : List Answered) (groups : List (GroupState X)) → IsNext who a answers groups → later_than who.statement (answers ++ a ∷ []) ≡ []
+later_none who a answers groups next =
+    filter_none (λ (b : Answered). nat_lt who.statement b.statement) (answers ++ a ∷ [])
+    (all_weaker (λ (b : Answered). b.statement ≤ who.statement) (λ (b : Answered). nat_lt who.statement b.statement ≡ false) (λ b le. le-ltb who.statement b.statement le) (answers ++ a ∷ [])
+    (all_more (λ (b : Answered). b.statement ≤ who.statement) answers a
+    (all_weaker (λ (b : Answered). b.statement < who.statement) (λ (b : Answered). b.statement ≤ who.statement) (λ b low. omega (arith, low)) answers next.answered) (let is = next.is in omega (arith, is))))
+
 module _ {X : Type 0} (state : X → StoreState) where
-  -- the next answer comes after the last move of each group
-  pub next_later : (who : Who) (a : Answered) (answers : List Answered) (groups : List (GroupState X)) (i : ℕ) (g : GroupState X) → IsNext who a answers groups → slice_get groups i ≡ Some g →
+  -- each count accounts for no answers
+  pub account_none : (xs : List X) → AllByRecursion (λ (x : X). AccountsFor [] (state x)) xs
+  account_none [] = tt
+  account_none (x ∷ xs) = (record { climbs = omega arith; steady = λ k. refl }, account_none xs)
+
+  -- the next answer comes after the last move of a group that this statement didn't move
+  next_later : (who : Who) (a : Answered) (answers : List Answered) (groups : List (GroupState X)) (i : ℕ) (g : GroupState X) → IsNext who a answers groups → slice_get groups i ≡ Some g → moved_by (entries_of g) ≢ who.statement →
       later_than (moved_by (entries_of g)) (answers ++ a ∷ []) ≡ later_than (moved_by (entries_of g)) answers ++ a ∷ []
-  next_later who a answers groups i g next at =
-      let low = all_at (λ (v : GroupState X). moved_by (entries_of v) < who.statement) groups i g next.moved at in
-      later_more (moved_by (entries_of g)) answers a (omega (arith, low, next.is))
+  next_later who a answers groups i g next at apart =
+      let low = all_at (λ (v : GroupState X). moved_by (entries_of v) ≤ who.statement) groups i g next.moved at in
+      later_more (moved_by (entries_of g)) answers a (omega (arith, low, next.is, apart))
 
   -- a group's stores, which account for one more answer
   group_more : (who : Who) (a : Answered) (answers : List Answered) (groups : List (GroupState X)) (i : ℕ) (g h : GroupState X) → IsNext who a answers groups → slice_get groups i ≡ Some g → moved_by (entries_of h) ≡ moved_by (entries_of g) →
       Account state (later_than (moved_by (entries_of g)) answers ++ a ∷ []) (stores_of h) → GroupAccounts state (answers ++ a ∷ []) h
   group_more who a answers groups i g h next at stay account =
-      subst (λ (v : List Answered). Account state v (stores_of h)) (sym (ap (λ n. later_than n (answers ++ a ∷ [])) stay ∙ next_later who a answers groups i g next at)) account
+      elim (eqb_tells (moved_by (entries_of g)) who.statement) [
+        | inl y ↦
+            let no : later_than (moved_by (entries_of h)) (answers ++ a ∷ []) ≡ [] = ap (λ n. later_than n (answers ++ a ∷ [])) (stay ∙ y.1) ∙ later_none who a answers groups next in
+            subst (λ (v : List Answered). Account state v (stores_of h)) (sym no) (account_none (stores_of h))
+        | inr z ↦ subst (λ (v : List Answered). Account state v (stores_of h)) (sym (ap (λ n. later_than n (answers ++ a ∷ [])) stay ∙ next_later who a answers groups i g next at z.1)) account
+      ]
 
 module _ {X : Type 0} (state : X → StoreState) (answers : List Answered) (a : Answered) (cl : Cluster X) (new : List (GroupState X)) (who : Who) (s : IsSound state cl) (go : GoOn state cl.groups.items new) (stay : StayMoved cl.groups.items new)
     (next : IsNext who a answers cl.groups.items) (all : AreAccounted state cl.catalog answers cl.groups.items) where

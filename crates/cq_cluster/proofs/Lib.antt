@@ -33,3 +33,4 @@ pub mod MovingLawsEnd
 pub mod MovingLawsGroups
 pub mod MovingLawsRoom
 pub mod MovingLawsStores
+pub mod PlannedLaws

@@ -42,7 +42,7 @@ use Rattle.cq_cluster.proofs.CountLaws.{sum_more, sum_of_passing}
 use Rattle.cq_cluster.proofs.HeldLaws.{counted, held_on, shards_of_covered, table_numbers}
 use Rattle.cq_cluster.proofs.ListLaws.{item_at}
 use Rattle.cq_cluster.proofs.MovingLawsGroups.{IsFoundAt, found_at, journal_of_item, node_there, stores_count}
-use Rattle.cq_cluster.proofs.MovingLawsRoom.{below_of, found}
+use Rattle.cq_cluster.proofs.MovingLawsRoom.{below_of, found, movable_group}
 
 -- ---- the rows of a group
 
@@ -65,7 +65,7 @@ module _ {X : Type 0} (state : X → StoreState) where
       sym (rows_listed c f.was.colocation f.was.i (entries_of f.g) (outlines f.g) f.of.shards)
       ∙ sym (sum_of_passing (λ table. length (rows_of (held_in c (journal_of f.g) table))) (has_shard c group) (length c.tables) (table_numbers (outlines f.g)) (shards_of_covered state nodes c groups all group f.g f.was f.there))
 
-  tables_there : (nodes : ℕ) (c : Contents) (group : ℕ) (groups : List (GroupState X)) → AreGroups state nodes c groups → (f : IsFoundAt state nodes c group groups) → length (outlines f.g) ≡ length (tables_in c group)
+  pub tables_there : (nodes : ℕ) (c : Contents) (group : ℕ) (groups : List (GroupState X)) → AreGroups state nodes c groups → (f : IsFoundAt state nodes c group groups) → length (outlines f.g) ≡ length (tables_in c group)
   tables_there nodes c group groups all f =
       let some = f.of.node.some in
       let at : f.g.node ≡ f.g.node - 1 + 1 = omega (arith, some) in
@@ -95,7 +95,7 @@ module _ {X : Type 0} (state : X → StoreState) where
         let total = is.total in
         ap (λ (o : Option (Worker X)). stores_in o) w.1 ∙ omega (arith, total, on)
 
-    short_there : (to : ℕ) (n m : ℕ) → 0 < to → to ≤ cl.nodes → n ≡ m → too_few to (stores_in (slice_get cl.workers.items (to - 1))) n ≡ short_at run cl.catalog (retired_nodes cl) (node_in cl.groups.items) m (to - 1)
+    pub short_there : (to : ℕ) (n m : ℕ) → 0 < to → to ≤ cl.nodes → n ≡ m → too_few to (stores_in (slice_get cl.workers.items (to - 1))) n ≡ short_at run cl.catalog (retired_nodes cl) (node_in cl.groups.items) m (to - 1)
     short_there to n m some few e =
         let at : to ≡ to - 1 + 1 = omega (arith, some) in
         let free = free_at run cl.catalog (retired_nodes cl) (node_in cl.groups.items) (to - 1) in
@@ -163,6 +163,6 @@ module _ {X : Type 0} (state : X → StoreState) where
         IsMovable state cl shard group from to → ((f : IsFoundAt state cl.nodes cl.catalog group cl.groups.items) → MovesAlone cl.catalog group from to (journal_of f.g) kinds a) → Grows who (in_one group kinds) (journals cl) new → length new ≡ length (journals cl) →
         IsAnswered rules run (environment_at cl settings) (after (environment_at cl settings) (Some (statement.Move shard from to)) a) who (journals cl) new (Some (statement.Move shard from to)) a
     answered_there law rules settings who shard from to group kinds a new runs m alone grows same =
-        let f = found state cl shard group from to m in
+        let f = found state cl group from to (movable_group state cl shard group from to m) in
         law rules run (environment_at cl settings) who (journals cl) new (node_in cl.groups.items) shard from to group kinds a (found_there rules settings shard from to group runs m.is f) (sym (refusal_same group from to f) ∙ m.allowed)
         (subst (λ (j : Journal). MovesAlone cl.catalog group from to j kinds a) (sym (journal_of_item cl.groups.items group f.g f.there)) (alone f)) grows same

@@ -33,15 +33,15 @@ use Rattle.cq_journal.specs.Records.{Journal}
 use Rattle.cq_move.specs.Outcomes.{entries_by}
 use Rattle.cq_move.specs.declared.mover.MoveReport.{MoveReport}
 use Rattle.cq_cluster.specs.declared.cluster.Cluster.{Cluster}
-use Rattle.cq_cluster.specs.Accounts.{AreAccounted, IsNext, NamesFailed, NamesNone, Retires, moved_by}
+use Rattle.cq_cluster.specs.Accounts.{AreAccounted, HasMoved, IsNext, NamesFailed, NamesNone, Retires, moved_by}
 use Rattle.cq_cluster.specs.Cluster.{HasStores, journals, node_in, retired_nodes, run_of, stores_in}
-use Rattle.cq_cluster.specs.Moving.{HasKeptGroup, HasMovedGroup, IsChangedAt, IsMovable, Keeps, environment_at, move_answer, move_refusal, no_node, refusal_at, tables_of, too_few}
+use Rattle.cq_cluster.specs.Moving.{HasKeptGroup, HasMovedGroup, IsChangedAt, IsMovable, IsMovableGroup, Keeps, environment_at, move_answer, move_refusal, no_node, refusal_at, tables_of, too_few}
 use Rattle.cq_cluster.proofs.AnswerLaws.{answer_is_accounted, other_is_accounted, outlines_in_group, shards_in_group}
 use Rattle.cq_cluster.proofs.GroupLaws.{rests}
 use Rattle.cq_cluster.proofs.MovingLawsAnswers.{answered_there, rows_there}
 use Rattle.cq_cluster.proofs.MovingLawsDone.{IsAfter, IsTaken, after_kept, after_moved, blamed, both_of, go_on_at, holds_in, kept_change, kept_from, kept_moved, kept_was, moved_change, retires_kept, stay_at}
 use Rattle.cq_cluster.proofs.MovingLawsGroups.{IsFoundAt, grows_at}
-use Rattle.cq_cluster.proofs.MovingLawsRoom.{found, from_used, resting}
+use Rattle.cq_cluster.proofs.MovingLawsRoom.{found, from_used, movable_group, resting}
 use Rattle.cq_cluster.proofs.MovingLawsStores.{stores_nodes}
 use Rattle.cq_cluster.proofs.NextLaws.{moved_made}
 use Rattle.cq_cluster.proofs.RetiringLaws.{move_retires, moved_is_accounted}
@@ -125,14 +125,14 @@ module _ {X : Type 0} (state : X → StoreState) where
       (rules : Rules) (initial settings : Settings) (entry : List (Worker X)) → HasStores state entry cl → rules.refusal (environment_at cl settings) (statement.Move shard from to) ≡ None →
       IsAnswered rules (run_of cl.nodes initial entry) (environment_at cl settings) (environment_at new settings) who (journals cl) (journals new) (Some (statement.Move shard from to)) (answer.Failed fault.Memory)
   answered_none law cl new shard group from to who m groups retired catalog =
-      let f = found state cl shard group from to m in
+      let f = found state cl group from to (movable_group state cl shard group from to m) in
       answered_by_group law cl new shard group from to who m f.g f.g [] (answer.Failed fault.Memory)
       (subst (IsChangedAt group f.g f.g cl.groups.items) (sym groups) (record { count = refl; there = f.there; here = f.there; others = λ at apart. refl }))
       refl refl (sym (append-nil (entries_of f.g))) catalog retired (λ v same. inl refl)
 
-  module _ (cl mid new : Cluster X) (shard group from to n : ℕ) (who : Who) (m : IsMovable state cl shard group from to) (t : IsTaken state cl mid group to) (taken : n ≡ tables_of (slice_get cl.groups.items group)) where
+  module _ (cl mid new : Cluster X) (group from to n : ℕ) (who : Who) (m : IsMovableGroup state cl group from to) (t : IsTaken state cl mid group to) (taken : n ≡ tables_of (slice_get cl.groups.items group)) where
     module _ (r : MoveReport) (h : HasMovedGroup state who group from to n r mid new) where
-      rows_are : (f : IsFoundAt state cl.nodes cl.catalog group cl.groups.items) → f.g ≡ h.at.was → r.copied ≡ rows_held cl.catalog group (journal_of f.g)
+      pub rows_are : (f : IsFoundAt state cl.nodes cl.catalog group cl.groups.items) → f.g ≡ h.at.was → r.copied ≡ rows_held cl.catalog group (journal_of f.g)
       rows_are f same = ap (λ (v : MoveReport). v.copied) h.at.report ∙ ap (λ (v : GroupState X). rows_in (entries_of v) (outlines v)) (sym same) ∙ rows_there state cl.nodes cl.catalog group cl.groups.items m.sound.groups f
 
       alone_moved : (f : IsFoundAt state cl.nodes cl.catalog group cl.groups.items) → f.g ≡ h.at.was → MovesAlone cl.catalog group from to (journal_of f.g) (MoveStart to ∷ CatchUp ∷ Cutover ∷ []) (move_answer (Ok r))
@@ -144,37 +144,41 @@ module _ {X : Type 0} (state : X → StoreState) where
             ∙ ap (λ k. report_row (record { copied = rows_held cl.catalog group (journal_of f.g); caught = 0; last = k }) ∷ []) (ap (λ (v : MoveReport). v.last) h.at.report),
       )
 
-      pub answered_moved : MoveIsAnswered → (rules : Rules) (initial settings : Settings) (entry : List (Worker X)) → HasStores state entry cl → rules.refusal (environment_at cl settings) (statement.Move shard from to) ≡ None →
+      pub answered_moved : MoveIsAnswered → (shard : ℕ) → IsMovable state cl shard group from to → (rules : Rules) (initial settings : Settings) (entry : List (Worker X)) → HasStores state entry cl → rules.refusal (environment_at cl settings) (statement.Move shard from to) ≡ None →
           IsAnswered rules (run_of cl.nodes initial entry) (environment_at cl settings) (environment_at new settings) who (journals cl) (journals new) (Some (statement.Move shard from to)) (move_answer (Ok r))
-      answered_moved law =
-          answered_by_group law cl new shard group from to who m h.at.was h.at.is (MoveStart to ∷ CatchUp ∷ Cutover ∷ []) (move_answer (Ok r)) (moved_change state cl mid new shard group from to n who m t taken r h) h.at.same.number h.at.same.opening h.at.entries
+      answered_moved law shard by =
+          answered_by_group law cl new shard group from to who by h.at.was h.at.is (MoveStart to ∷ CatchUp ∷ Cutover ∷ []) (move_answer (Ok r)) (moved_change state cl mid new group from to n who m t taken r h) h.at.same.number h.at.same.opening h.at.entries
           (h.catalog ∙ t.catalog) (h.retired ∙ t.retired) alone_moved
 
-      pub accounted_moved : (answers : List Answered) (a : Answered) → a.answer ≡ move_answer (Ok r) → IsNext who a answers cl.groups.items → AreAccounted state cl.catalog answers cl.groups.items → AreAccounted state new.catalog (answers ++ a ∷ []) new.groups.items
-      accounted_moved answers a is next all =
-          let ch = moved_change state cl mid new shard group from to n who m t taken r h in
-          subst (λ (c : Contents). AreAccounted state c (answers ++ a ∷ []) new.groups.items) (sym (h.catalog ∙ t.catalog))
-          (moved_is_accounted state cl.catalog cl.groups.items new.groups.items who group answers a (record {
+      pub has_moved : HasMoved who group cl.groups.items new.groups.items
+      has_moved =
+          let ch = moved_change state cl mid new group from to n who m t taken r h in
+          record {
             count = ch.count;
             moved = λ g s.
                 let same : h.at.is ≡ g = (let e : Some h.at.is ≡ Some g = sym ch.here ∙ s in cc) in
                 ap (λ (v : GroupState X). moved_by (entries_of v)) (sym same) ∙ ap moved_by h.at.entries ∙ moved_made who to (journal_of h.at.was);
             others = ch.others;
-          }) (subst NamesNone (sym is) (λ node store before after e. cc)) next all)
+          }
+
+      pub accounted_moved : (answers : List Answered) (a : Answered) → a.answer ≡ move_answer (Ok r) → IsNext who a answers cl.groups.items → AreAccounted state cl.catalog answers cl.groups.items → AreAccounted state new.catalog (answers ++ a ∷ []) new.groups.items
+      accounted_moved answers a is next all =
+          subst (λ (c : Contents). AreAccounted state c (answers ++ a ∷ []) new.groups.items) (sym (h.catalog ∙ t.catalog))
+          (moved_is_accounted state cl.catalog cl.groups.items new.groups.items who group answers a has_moved (subst NamesNone (sym is) (λ node store before after e. cc)) next all)
 
     module _ (f : Fault) (h : HasKeptGroup state who group to n f mid new) where
       abbrev change : IsChangedAt group h.at.was h.at.is cl.groups.items new.groups.items
-      change = kept_change state cl mid new shard group from to n who m t taken f h
+      change = kept_change state cl mid new group from to n who m t taken f h
 
       was_resting : IsResting state h.at.was
-      was_resting = subst (IsResting state) (kept_was state cl mid new shard group from to n who m t taken f h) (resting state cl shard group from to m)
+      was_resting = subst (IsResting state) (kept_was state cl mid new group from to n who m t taken f h) (resting state cl group from to m)
 
       stores_told : AllByRecursion (λ (x : X). IsShardIn cl.catalog group (state x).shard × ((state x).node ≡ from)) (stores_of h.at.was)
       stores_told =
           both_of state (λ (x : X). IsShardIn cl.catalog group (state x).shard) (λ (x : X). (state x).node ≡ from) (stores_of h.at.was) (shards_in_group state cl group h.at.was m.sound change.there)
-          (stores_nodes state h.at.was from was_resting (kept_from state cl mid new shard group from to n who m t taken f h) (from_used state cl shard group from to m).0)
+          (stores_nodes state h.at.was from was_resting (kept_from state cl mid new group from to n who m t taken f h) (from_used state cl group from to m).0)
 
-      alone_by : (b : Fault) (j : Journal) → Keeps state to h.at.was h.at.is h.at.kinds b → MovesAlone cl.catalog group from to j h.at.kinds (answer.Failed b)
+      pub alone_by : (b : Fault) (j : Journal) → Keeps state to h.at.was h.at.is h.at.kinds b → MovesAlone cl.catalog group from to j h.at.kinds (answer.Failed b)
       alone_by (fault.Worker node store before after) j k =
           let by = blamed state (λ at id. IsShardIn cl.catalog group id × (at ≡ from)) node store before after (stores_of h.at.was) (stores_of h.at.is) stores_told k.1 in
           (k.0, by.own.0, by.own.1, by.rose)
@@ -182,11 +186,11 @@ module _ {X : Type 0} (state : X → StoreState) where
       alone_by fault.Memory j k = k
       alone_by b j k = absurd k
 
-      pub answered_kept : MoveIsAnswered → (rules : Rules) (initial settings : Settings) (entry : List (Worker X)) → HasStores state entry cl → rules.refusal (environment_at cl settings) (statement.Move shard from to) ≡ None →
+      pub answered_kept : MoveIsAnswered → (shard : ℕ) → IsMovable state cl shard group from to → (rules : Rules) (initial settings : Settings) (entry : List (Worker X)) → HasStores state entry cl → rules.refusal (environment_at cl settings) (statement.Move shard from to) ≡ None →
           IsAnswered rules (run_of cl.nodes initial entry) (environment_at cl settings) (environment_at new settings) who (journals cl) (journals new) (Some (statement.Move shard from to)) (answer.Failed f)
-      answered_kept law =
-          answered_by_group law cl new shard group from to who m h.at.was h.at.is h.at.kinds (answer.Failed f) change h.at.on.same.number h.at.on.same.opening h.at.entries
-          (h.up.catalog ∙ t.catalog) (retires_kept state cl mid new shard group from to n who m t taken f h) (λ v same. alone_by f (journal_of v.g) h.at.cause)
+      answered_kept law shard by =
+          answered_by_group law cl new shard group from to who by h.at.was h.at.is h.at.kinds (answer.Failed f) change h.at.on.same.number h.at.on.same.opening h.at.entries
+          (h.up.catalog ∙ t.catalog) (retires_kept state cl mid new group from to n who m t taken f h) (λ v same. alone_by f (journal_of v.g) h.at.cause)
 
       named : (a : Answered) → a.answer ≡ answer.Failed f → NamesFailed state a.answer cl.groups.items new.groups.items
       named a is node store before after e =
@@ -213,14 +217,14 @@ module _ {X : Type 0} (state : X → StoreState) where
   pub ended : MoveIsAnswered → (cl mid new : Cluster X) (shard group from to n : ℕ) (who : Who) → IsMovable state cl shard group from to → IsTaken state cl mid group to → n ≡ tables_of (slice_get cl.groups.items group) → (result : Result MoveReport Fault) →
       IfOk result (λ r. HasMovedGroup state who group from to n r mid new) → IfErr result (λ f. HasKeptGroup state who group to n f mid new) → IsEnded cl new who shard from to result
   ended law cl mid new shard group from to n who m t taken (Ok r) moved kept = record {
-    after = after_moved state cl mid new shard group from to n who m t taken r moved;
-    answered = answered_moved cl mid new shard group from to n who m t taken r moved law;
+    after = after_moved state cl mid new group from to n who (movable_group state cl shard group from to m) t taken r moved;
+    answered = answered_moved cl mid new group from to n who (movable_group state cl shard group from to m) t taken r moved law shard m;
     retires = moved.retired ∙ t.retired;
-    accounted = accounted_moved cl mid new shard group from to n who m t taken r moved;
+    accounted = accounted_moved cl mid new group from to n who (movable_group state cl shard group from to m) t taken r moved;
   }
   ended law cl mid new shard group from to n who m t taken (Err f) moved kept = record {
-    after = after_kept state cl mid new shard group from to n who m t taken f kept;
-    answered = answered_kept cl mid new shard group from to n who m t taken f kept law;
-    retires = retires_kept state cl mid new shard group from to n who m t taken f kept;
-    accounted = accounted_kept cl mid new shard group from to n who m t taken f kept;
+    after = after_kept state cl mid new group from to n who (movable_group state cl shard group from to m) t taken f kept;
+    answered = answered_kept cl mid new group from to n who (movable_group state cl shard group from to m) t taken f kept law shard m;
+    retires = retires_kept state cl mid new group from to n who (movable_group state cl shard group from to m) t taken f kept;
+    accounted = accounted_kept cl mid new group from to n who (movable_group state cl shard group from to m) t taken f kept;
   }

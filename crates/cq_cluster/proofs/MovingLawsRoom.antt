@@ -18,10 +18,10 @@ use Rattle.cq_group.specs.Groups.{outline, outlines, stores_of}
 use Rattle.cq_group.specs.Resting.{IsResting}
 use Rattle.cq_cluster.specs.declared.cluster.Cluster.{Cluster}
 use Rattle.cq_cluster.specs.Cluster.{AreWorkers, IsWaiting, everywhere, held, node_in, stores_in}
-use Rattle.cq_cluster.specs.Moving.{CanGive, CanMove, CanTake, IsChangedAt, IsLent, IsMovable, IsWaitingAt, no_node, tables_of, too_few}
+use Rattle.cq_cluster.specs.Moving.{CanGive, CanMove, CanTake, IsChangedAt, IsLent, IsMovable, IsMovableGroup, IsWaitingAt, no_node, tables_of, too_few}
 use Rattle.cq_cluster.proofs.ListLaws.{item_at}
 use Rattle.cq_cluster.proofs.MovingLaws.{AreOut, are_out, are_workers, given_out, lent_out, out_of}
-use Rattle.cq_cluster.proofs.MovingLawsGroups.{IsFoundAt, everywhere_changed, found_at, held_changed, node_there, own_elsewhere, own_here, stores_count}
+use Rattle.cq_cluster.proofs.MovingLawsGroups.{IsFoundAt, covered_by, everywhere_changed, found_group, held_changed, node_there, own_elsewhere, own_here, stores_count}
 
 -- ---- what a check tells
 
@@ -72,11 +72,15 @@ module _ {X : Type 0} (state : X → StoreState) where
       omega (arith, own)
   own_least place (suc k) g (h ∷ hs) s = let more = own_least place k g hs s in omega (arith, more)
 
-  module _ (cl : Cluster X) (shard group from to : ℕ) (m : IsMovable state cl shard group from to) where
+  -- the group of a shard, whose move nothing refuses
+  pub movable_group : (cl : Cluster X) (shard group from to : ℕ) → IsMovable state cl shard group from to → IsMovableGroup state cl group from to
+  movable_group cl shard group from to m = record { sound = m.sound; covered = covered_by cl.catalog shard group m.is; allowed = m.allowed }
+
+  module _ (cl : Cluster X) (group from to : ℕ) (m : IsMovableGroup state cl group from to) where
     -- ---- before the move
 
     pub found : IsFoundAt state cl.nodes cl.catalog group cl.groups.items
-    found = found_at state cl.nodes cl.catalog shard group cl.groups.items m.sound.whole m.sound.groups m.is
+    found = found_group state cl.nodes cl.catalog group cl.groups.items m.sound.whole m.sound.groups m.covered
 
     abbrev needed : ℕ
     needed = tables_of (slice_get cl.groups.items group)

@@ -149,6 +149,6 @@ next_is {X} rules run e answers groups bound a whole = record {
       omega (arith, low));
 }
   where
-    all_from : (gs : List (GroupState X)) → ((i : ℕ) (g : GroupState X) → slice_get gs i ≡ Some g → moved_by (entries_of g) < length answers + 1) → AllByRecursion (λ (g : GroupState X). moved_by (entries_of g) < length answers + 1) gs
+    all_from : (gs : List (GroupState X)) → ((i : ℕ) (g : GroupState X) → slice_get gs i ≡ Some g → moved_by (entries_of g) ≤ length answers + 1) → AllByRecursion (λ (g : GroupState X). moved_by (entries_of g) ≤ length answers + 1) gs
     all_from [] each = tt
     all_from (g ∷ gs) each = (each 0 g refl, all_from gs (λ i h s. each (suc i) h s))

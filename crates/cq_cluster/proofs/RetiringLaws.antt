@@ -22,31 +22,18 @@ use Rattle.cq_group.specs.Groups.{entries_of, stores_of}
 use Rattle.cq_cluster.specs.declared.retired.Retired.{Retired}
 use Rattle.cq_cluster.specs.Accounts.{moved_by, later_than, IsNext, NamesNone, NamesFailed, tells_retired, is_retiring, StandsFor, Retires, MovedIsAccounted, RetiredNamesNone, RetiresOn, MoveRetires, RebalanceRetires}
 use Rattle.cq_cluster.proofs.ListLaws.{zip_both}
-use Rattle.cq_cluster.proofs.AnswerLaws.{same_group, still_below}
+use Rattle.cq_cluster.proofs.AnswerLaws.{account_none, later_none, same_group, still_below}
 
 -- ---- a move that was made
 
--- no answer is later than the statement of the next one
-later_none : {X : Type 0} (who : Who) (a : Answered) (answers : List Answered) (groups : List (GroupState X)) → IsNext who a answers groups → later_than who.statement (answers ++ a ∷ []) ≡ []
-later_none who a answers groups next =
-    filter_none (λ (b : Answered). nat_lt who.statement b.statement) (answers ++ a ∷ [])
-    (all_weaker (λ (b : Answered). b.statement ≤ who.statement) (λ (b : Answered). nat_lt who.statement b.statement ≡ false) (λ b le. le-ltb who.statement b.statement le) (answers ++ a ∷ [])
-    (all_more (λ (b : Answered). b.statement ≤ who.statement) answers a
-    (all_weaker (λ (b : Answered). b.statement < who.statement) (λ (b : Answered). b.statement ≤ who.statement) (λ b low. omega (arith, low)) answers next.answered) (let is = next.is in omega (arith, is))))
-
 module _ {X : Type 0} (state : X → StoreState) where
-  -- each count accounts for no answers
-  account_none : (xs : List X) → AllByRecursion (λ (x : X). AccountsFor [] (state x)) xs
-  account_none [] = tt
-  account_none (x ∷ xs) = (record { climbs = omega arith; steady = λ k. refl }, account_none xs)
-
   pub moved_is_accounted : MovedIsAccounted state
   moved_is_accounted c old new who place answers a has none next all = record {
     stores = λ i g at. elim (eqb_tells i place) [
       | inl y ↦
           let by : moved_by (entries_of g) ≡ who.statement = has.moved g (sym (ap (slice_get new) y.1) ∙ at) in
           let no : later_than (moved_by (entries_of g)) (answers ++ a ∷ []) ≡ [] = ap (λ n. later_than n (answers ++ a ∷ [])) by ∙ later_none who a answers old next in
-          subst (λ (v : List Answered). AllByRecursion (λ (x : X). AccountsFor v (state x)) (stores_of g)) (sym no) (account_none (stores_of g))
+          subst (λ (v : List Answered). AllByRecursion (λ (x : X). AccountsFor v (state x)) (stores_of g)) (sym no) (account_none state (stores_of g))
       | inr z ↦
           let was = sym (has.others i z.1) ∙ at in
           same_group state answers a none who old i g next was (all.stores i g was)

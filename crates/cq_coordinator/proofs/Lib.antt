@@ -7,3 +7,4 @@ pub mod Naming
 pub mod Tags
 pub mod Staying
 pub mod RebalanceAnswers
+pub mod RebalancingAnswers

@@ -92,9 +92,8 @@ impl<S: Store> Coordinator<S> {
                 self.move_shard(alloc, gate, who, *shard, *from, *to)
             }
             Statement::RebalancePlan { by_size } => self.plan_rebalance(alloc, who, *by_size),
-            Statement::Copy { .. } | Statement::Rebalance { .. } => {
-                Answer::Failed(Fault::NotBuilt)
-            }
+            Statement::Rebalance { by_size } => self.rebalance(alloc, gate, who, *by_size),
+            Statement::Copy { .. } => Answer::Failed(Fault::NotBuilt),
         }
     }
 

@@ -9,6 +9,7 @@ mod notice;
 mod plans;
 mod queries;
 mod rebalance;
+mod rebalancing;
 mod writes;
 
 pub use coordinator::Coordinator;

@@ -1,4 +1,4 @@
-use Rattle.std.proofs.Common.{refl, sym, ap, ◌∙◌, inl, inr, ◌≡◌, false}
+use Rattle.std.proofs.Common.{refl, sym, ap, ◌∙◌, ◌≡◌, false}
 use Rattle.cq_answer.specs.declared.fault.Fault.TheVariants as fault
 use Rattle.cq_catalog.specs.Contents.{Contents}
 use Rattle.cq_history.specs.Refusals.{rules, is_built}
@@ -18,10 +18,7 @@ returns-else-has_shards-clause-answered g c = λ initial entry are.
 pub returns-in-Copy-clause-answered : goal.returns-in-Copy-clause-answered
 returns-in-Copy-clause-answered g c =
     let k : Contents = c.args.self.now.cluster.catalog in
-    let unbuilt : is_built k c.args.statement.now ≡ false = elim c.in-Copy.is [
-      | inl x ↦ ap (is_built k) x.4
-      | inr x ↦ ap (is_built k) x.1
-    ] in
+    let unbuilt : is_built k c.args.statement.now ≡ false = ap (is_built k) c.in-Copy.is in
     λ initial entry are.
     (refusal_is_answered rules (run_of c.args.self.now.cluster.nodes initial entry) (environment c.args.self.now) c.args.who (journals c.args.self.now) fault.NotBuilt).1
     c.args.statement.now (not_built (environment c.args.self.now) c.args.statement.now c.requires.supported unbuilt) refl
