@@ -6,3 +6,4 @@ pub mod RefusalAnswers
 pub mod Naming
 pub mod Tags
 pub mod Staying
+pub mod RebalanceAnswers

@@ -73,7 +73,7 @@ module _ (run : Run) (e : Environment) (who : Who) (journals : List Journal) (no
   stays sees (statement.Copy table columns csv header) n = absurd (always_refused None n)
   stays sees (statement.Move shard from to) n = moves sees shard from to (group_of_shard e.catalog shard) refl
   stays sees (statement.Rebalance by_size) n = absurd (always_refused None n)
-  stays sees (statement.RebalancePlan by_size) n = absurd (always_refused None n)
+  stays sees (statement.RebalancePlan by_size) n = ([], λ g m. cc, λ g. refl)
 
   by_refusal : (o : Option Fault) (s : Statement) → (o ≡ None → Stays s) → RunsUnless o (touched e.catalog s) run e seen s (answer.Failed fault.Memory)
   by_refusal (Some f) s p = (λ g. refl, tt)

@@ -91,9 +91,10 @@ impl<S: Store> Coordinator<S> {
             Statement::Move { shard, from, to } => {
                 self.move_shard(alloc, gate, who, *shard, *from, *to)
             }
-            Statement::Copy { .. }
-            | Statement::Rebalance { .. }
-            | Statement::RebalancePlan { .. } => Answer::Failed(Fault::NotBuilt),
+            Statement::RebalancePlan { by_size } => self.plan_rebalance(alloc, who, *by_size),
+            Statement::Copy { .. } | Statement::Rebalance { .. } => {
+                Answer::Failed(Fault::NotBuilt)
+            }
         }
     }
 

@@ -8,6 +8,7 @@ mod moves;
 mod notice;
 mod plans;
 mod queries;
+mod rebalance;
 mod writes;
 
 pub use coordinator::Coordinator;

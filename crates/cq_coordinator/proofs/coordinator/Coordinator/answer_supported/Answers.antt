@@ -20,10 +20,7 @@ returns-in-Copy-clause-answered g c =
     let k : Contents = c.args.self.now.cluster.catalog in
     let unbuilt : is_built k c.args.statement.now ≡ false = elim c.in-Copy.is [
       | inl x ↦ ap (is_built k) x.4
-      | inr a ↦ elim a [
-        | inl x ↦ ap (is_built k) x.1
-        | inr x ↦ ap (is_built k) x.1
-      ]
+      | inr x ↦ ap (is_built k) x.1
     ] in
     λ initial entry are.
     (refusal_is_answered rules (run_of c.args.self.now.cluster.nodes initial entry) (environment c.args.self.now) c.args.who (journals c.args.self.now) fault.NotBuilt).1

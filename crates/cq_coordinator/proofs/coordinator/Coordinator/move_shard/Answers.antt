@@ -1,4 +1,3 @@
-use Rattle.std.proofs.Common.{refl, sym, ◌∙◌}
 use Rattle.cq_tree.specs.declared.statement.Statement.TheVariants as statement
 use Rattle.cq_cluster.specs.Cluster.{run_of, node_in}
 use Rattle.cq_cluster.proofs.AnswerLaws.{other_is_accounted}
