@@ -1,3 +1,5 @@
 pub mod Places
 pub mod Quiet
 pub mod Catalogs
+pub mod Contents
+pub mod Statements
