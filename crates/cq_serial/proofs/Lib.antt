@@ -3,3 +3,4 @@ pub mod Quiet
 pub mod Catalogs
 pub mod Contents
 pub mod Statements
+pub mod Script

@@ -295,7 +295,7 @@ module _ (run : Run) (last : Contents) (journals : List Journal) (rises : (g : �
           let same = quiet_stays (quiet_runs view (λ g. steps_of who (journal_in journals g)) of_view (touched c s) run e s a (λ x. x) h) in
           (stays_keeps (after e (Some s) a).catalog goes on_next same, stays_unwritten (after e (Some s) a).catalog goes on_next same)
 
-      stands_gives : (bound : Option Statement) (a : Answer) → StandsIn rules run e view bound a → Gives bound a
+      pub stands_gives : (bound : Option Statement) (a : Answer) → StandsIn rules run e view bound a → Gives bound a
       stands_gives None a h goes on_next =
           let s = quiet_stays (enters_none view (λ g. steps_of who (journal_in journals g)) of_view h.0) in
           (stays_keeps (after e None a).catalog goes on_next s, stays_unwritten (after e None a).catalog goes on_next s)
