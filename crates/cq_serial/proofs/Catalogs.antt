@@ -1,5 +1,5 @@
 -- The catalogue of a script is whole at each statement, and goes on from one to the next.
-use Rattle.std.proofs.Common.{◌≡◌, ◌+◌, ◌<◌, ◌≤◌, zero, suc, ℕ, Bool, true, false, not, List, [], ◌∷◌, ◌++◌, length, refl, sym, ap, ◌∙◌, subst, arith, Some, None, Option, slice_get, position, length-append}
+use Rattle.std.proofs.Common.{◌≡◌, ◌+◌, ◌<◌, ◌≤◌, ℕ, Bool, true, false, not, List, [], ◌∷◌, ◌++◌, length, refl, sym, ap, subst, arith, Some, None, Option, slice_get, position, length-append}
 use Rattle.std.specs.Prelude.{⊤, ◌||◌, nat_lt, option_and_then, option_map, unwrap_or, is_none, is_some}
 use Rattle.std.specs.Option.{option_map_or}
 use Rattle.std.proofs.lemmas.Bool.{ltb-false, or_parts}
@@ -9,7 +9,7 @@ use Rattle.cq_value.specs.declared.schema.Kind.{Kind}
 use Rattle.cq_value.specs.declared.schema.With.{With}
 use Rattle.cq_value.specs.declared.schema.With.TheVariants.{Default, Alone, Table}
 use Rattle.cq_catalog.specs.Contents.{Contents, number_of, table_named, place_in, columns_in, key_in, is_local, same_kind, colocation_of, count_in}
-use Rattle.cq_catalog.specs.Creation.{refusal_if, repeated_after, creation_refusal, with_table}
+use Rattle.cq_catalog.specs.Creation.{refusal_if, creation_refusal, with_table}
 use Rattle.cq_catalog.specs.Distribution.{is_default, has_kind, beside_refusal, range_refusal, count_refusal, target_refusal, target_of, column_refusal, lacks, room_refusal, local_refusal, decision_of, distribution_refusal, distributed_at, distributed_by, with_colocation, with_group, reference_refusal, with_reference}
 use Rattle.cq_catalog.specs.Ranges.{ends}
 use Rattle.cq_catalog.specs.Refusals.{first_of}
@@ -24,16 +24,14 @@ use Rattle.cq_catalog.specs.declared.info.Place.{Place}
 use Rattle.cq_catalog.specs.declared.info.Place.TheVariants.{Local, Distributed, Reference}
 use Rattle.cq_catalog.specs.declared.info.TableInfo.{TableInfo}
 use Rattle.cq_catalog.proofs.WholeLaws.{whole_created, whole_opened, whole_grouped, whole_spread}
-use Rattle.cq_meaning.specs.Values.{Row}
 use Rattle.cq_tree.specs.declared.statement.Statement.{Statement}
 use Rattle.cq_tree.specs.declared.statement.Statement.TheVariants as statement
 use Rattle.cq_answer.specs.declared.answer.Answer.{Answer}
 use Rattle.cq_answer.specs.declared.answer.Answer.TheVariants as answer
-use Rattle.cq_answer.specs.declared.answer.Tag.{Tag}
 use Rattle.cq_answer.specs.declared.fault.Fault.{Fault}
 use Rattle.cq_answer.specs.Faults.{fault_of_catalog}
 use Rattle.cq_history.specs.Run.{Run, Rules, Environment, after, Continues}
-use Rattle.cq_history.specs.Standing.{View, Yields, Runs, RunsUnless, StandsIn, creation_fault, distribution_fault, reference_fault}
+use Rattle.cq_history.specs.Standing.{View, Yields, Runs, RunsUnless, StandsIn}
 use Rattle.cq_history.proofs.Catalogue.{catalog_goes_on}
 use Rattle.cq_history.proofs.Later.{continues_same}
 use Rattle.cq_history.proofs.Lists.{got_below}

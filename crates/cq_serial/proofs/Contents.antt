@@ -1,8 +1,7 @@
 -- What the groups hold before each statement of a serial script, and the undistributed database that this forms.
-use Rattle.std.proofs.Common.{suc, zero, ◌≡◌, ◌+◌, ◌<◌, ◌≤◌, inl, inr, ℕ, Bool, true, false, cond, List, [], ◌∷◌, ◌++◌, length, take, map, filter, refl, sym, ◌∙◌, ap, subst, arith, Some, None, Option, slice_get, eq-eqb}
+use Rattle.std.proofs.Common.{suc, zero, ◌≡◌, ◌+◌, inl, inr, ℕ, cond, List, [], ◌∷◌, ◌++◌, length, map, filter, refl, sym, ◌∙◌, ap, subst, arith, Some, None, Option, slice_get}
 use Rattle.std.specs.Prelude.{nat_eq, not}
 use Rattle.std.specs.List.{AllByRecursion}
-use Rattle.std.proofs.lemmas.Bool.{eqb-true}
 use Rattle.std.proofs.lemmas.Bool.Decides.{eqb_tells}
 use Rattle.std.proofs.lemmas.List.{map-append}
 use Rattle.cq_value.specs.declared.schema.Shape.{Shape}
@@ -30,7 +29,7 @@ use Rattle.cq_journal.specs.Records.{Journal}
 use Rattle.cq_journal.specs.Replies.{IsRefusal}
 use Rattle.cq_planning.specs.Database.{shape_in, Held, joined, whole_at, whole_from, whole}
 use Rattle.cq_history.specs.Run.{Continues}
-use Rattle.cq_history.specs.Journals.{journal_in, cut, held_in, kinds_of}
+use Rattle.cq_history.specs.Journals.{journal_in, cut, kinds_of}
 use Rattle.cq_history.specs.Whole.{held_at}
 use Rattle.cq_history.specs.Legality.{CanFollow, IsLegal}
 use Rattle.cq_history.specs.Standing.{counted}
@@ -38,7 +37,7 @@ use Rattle.cq_history.proofs.Joined.{table_in_whole, joined_none}
 use Rattle.cq_history.proofs.Lists.{two_ways}
 use Rattle.cq_history.proofs.Orders.{joined_equal}
 use Rattle.cq_history.proofs.Replies.{kept_updates, rows-numbered}
-use Rattle.cq_serial.proofs.Places.{numbered_who, upto, own_entries, IsRising, IsSerialEntry, upto_first, upto_next, take_upto, first_own}
+use Rattle.cq_serial.proofs.Places.{numbered_who, upto, own_entries, IsRising, IsSerialEntry, upto_next, take_upto, first_own}
 use Rattle.cq_serial.proofs.Quiet.{IsQuiet}
 
 -- ---- effects

@@ -1,11 +1,10 @@
 -- The entries before each statement of a serial script, and those of the statement, in journals whose statements never fall.
-use Rattle.std.proofs.Common.{◌≡◌, ◌+◌, ◌<◌, ◌≤◌, ◌⊎◌, inl, inr, ℕ, true, false, suc, zero, cond, List, [], ◌∷◌, ◌++◌, length, take, map, filter, refl, sym, ◌∙◌, ap, subst, arith, Some, slice_get, eq-eqb, ne_eqb}
-use Rattle.std.specs.Prelude.{nat_lt, nat_eq, ◌||◌, ◌&&◌, ⊤}
+use Rattle.std.proofs.Common.{◌≡◌, ◌+◌, ◌<◌, ◌≤◌, inl, inr, ℕ, true, false, cond, List, [], ◌∷◌, ◌++◌, length, take, map, filter, refl, sym, ◌∙◌, ap, arith, Some, slice_get, eq-eqb, ne_eqb}
+use Rattle.std.specs.Prelude.{nat_lt, nat_eq, ◌&&◌, ⊤}
 use Rattle.std.specs.List.{AllByRecursion}
-use Rattle.std.proofs.lemmas.Bool.{cases_order, cases_lt, lt-ltb, le-ltb, or_parts, ltb-false, both_ways}
+use Rattle.std.proofs.lemmas.Bool.{cases_order, cases_lt, lt-ltb, le-ltb, or_parts, both_ways}
 use Rattle.cq_tree.specs.declared.journal.Who.{Who}
 use Rattle.cq_tree.specs.declared.journal.Entry.{Entry}
-use Rattle.cq_tree.specs.declared.journal.EntryKind.{EntryKind}
 use Rattle.cq_history.specs.Run.{Run, precedes, IsSerial}
 use Rattle.cq_history.specs.Journals.{made_by, kinds_of, has_some, before}
 use Rattle.cq_history.specs.Log.{IsInOrder, IsOfFirst}
@@ -74,6 +73,11 @@ later_from m n es l all = all_weaker (IsFrom m) (IsFrom n) (λ e h. omega (arith
 -- before the first statement there are none
 pub upto_first : (es : List Entry) → AllByRecursion IsSerialEntry es → upto 1 es ≡ []
 upto_first es all = upto_none 1 es (all_weaker IsSerialEntry (IsFrom 1) (λ e h. h.1) es all)
+
+-- behind the last statement there are all
+pub upto_all : (n : ℕ) (es : List Entry) → AllByRecursion (λ (e : Entry). e.who.statement < n) es → upto n es ≡ es
+upto_all n [] all = refl
+upto_all n (e ∷ es) all = rw (lt-ltb e.who.statement n all.0) (ap (λ (v : List Entry). e ∷ v) (upto_all n es all.1))
 
 -- before the next statement there are this one's besides
 pub upto_next : (n : ℕ) (es : List Entry) → IsRising es → AllByRecursion IsSerialEntry es → upto (n + 1) es ≡ upto n es ++ own_entries n es

@@ -1,5 +1,5 @@
 -- A statement that isn't a write that was made or refused has no entry that is a write.
-use Rattle.std.proofs.Common.{◌≡◌, inl, inr, ℕ, Bool, true, false, cond, List, [], ◌∷◌, ◌++◌, map, refl, sym, ◌∙◌, ap, subst, Some, None, Option}
+use Rattle.std.proofs.Common.{◌≡◌, inl, inr, ℕ, Bool, true, false, List, [], ◌∷◌, ◌++◌, refl, sym, subst, Some, None, Option}
 use Rattle.std.specs.Prelude.{⊤, nat_eq}
 use Rattle.std.specs.List.{AllByRecursion}
 use Rattle.std.proofs.lemmas.Bool.{eqb-true}
@@ -18,11 +18,11 @@ use Rattle.cq_answer.specs.declared.fault.Fault.TheVariants as fault
 use Rattle.cq_balance.specs.declared.load.Move.{Move}
 use Rattle.cq_planning.specs.Touched.{among}
 use Rattle.cq_history.specs.Run.{Run, Environment}
-use Rattle.cq_history.specs.Journals.{Step, Kinds, none, in_each, kinds_in}
+use Rattle.cq_history.specs.Journals.{Step, none, kinds_in}
 use Rattle.cq_history.specs.Moves.{Report, IsMove, IsStopped, move_fault}
 use Rattle.cq_history.specs.Rebalances.{Made, Either, BeginsWith, AreMovesOf, read_for}
 use Rattle.cq_history.specs.Standing.{View, Enters, reads, EntersIn, Moves, MovesUnless, IsMovedIn, Plans, AreStepsOf, EntersMoves, NoStep, StopsIn, FailsMove, Rebalances, Runs}
-use Rattle.cq_history.proofs.Lists.{two_ways, all_weaker, all_append}
+use Rattle.cq_history.proofs.Lists.{two_ways, all_append}
 
 abbrev pub IsQuiet : EntryKind → Type 0
 IsQuiet Read = ⊤

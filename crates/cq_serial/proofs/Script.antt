@@ -1,9 +1,10 @@
 -- The answers of a script without blocks, one after the other.
-use Rattle.std.proofs.Common.{◌≡◌, ◌+◌, ℕ, List, [], ◌∷◌, refl, sym, ◌∙◌, ap, subst, arith, Some, slice_get}
+use Rattle.std.proofs.Common.{◌≡◌, ◌+◌, ◌<◌, length, ℕ, List, [], ◌∷◌, refl, sym, ◌∙◌, ap, subst, arith}
 use Rattle.std.specs.List.{AllByRecursion}
-use Rattle.cq_value.specs.Tables.{Table, rows_of}
+use Rattle.cq_value.specs.Tables.{rows_of}
 use Rattle.cq_tree.specs.declared.journal.Who.{Who}
 use Rattle.cq_tree.specs.declared.journal.Entry.{Entry}
+use Rattle.cq_meaning.specs.Values.{table_rows}
 use Rattle.cq_catalog.specs.Contents.{Contents, nothing}
 use Rattle.cq_catalog.specs.Whole.{IsWhole as IsWholeCatalog}
 use Rattle.cq_answer.specs.declared.answered.Answered.{Answered}
@@ -11,17 +12,18 @@ use Rattle.cq_journal.specs.Journals.{replay_from}
 use Rattle.cq_journal.specs.Records.{Journal}
 use Rattle.cq_planning.specs.Database.{shape_in, whole}
 use Rattle.cq_history.specs.Run.{Run, Environment, first, after, environment_from, Continues}
-use Rattle.cq_history.specs.Journals.{journal_in}
+use Rattle.cq_history.specs.Journals.{journal_in, held_in}
 use Rattle.cq_history.specs.Legality.{IsLegal, IsKeyed}
-use Rattle.cq_history.specs.Log.{who_of, NumberedFrom, AllStandFrom}
+use Rattle.cq_history.specs.Log.{who_of, IsOfFirst, NumberedFrom, AllStandFrom}
 use Rattle.cq_history.specs.Refusals.{rules}
 use Rattle.cq_history.specs.Standing.{in_journals, StandsIn}
 use Rattle.cq_history.proofs.Later.{continues_same, continues_on}
-use Rattle.cq_serial.specs.Serial.{SerialFrom}
-use Rattle.cq_serial.specs.Laws.{AnswersAreSerial}
-use Rattle.cq_serial.proofs.Places.{numbered_who, IsRising, IsSerialEntry, rising, serial_entries, upto_first}
+use Rattle.cq_history.proofs.Lists.{all_weaker}
+use Rattle.cq_serial.specs.Serial.{Keeps, SerialFrom}
+use Rattle.cq_serial.specs.Laws.{database_of, AnswersAreSerial}
+use Rattle.cq_serial.proofs.Places.{numbered_who, IsRising, IsSerialEntry, rising, serial_entries, upto_first, upto_all, take_upto}
 use Rattle.cq_serial.proofs.Catalogs.{goes_on}
-use Rattle.cq_serial.proofs.Contents.{IsUnwritten, held_before}
+use Rattle.cq_serial.proofs.Contents.{IsUnwritten, held_before, whole_alike}
 use Rattle.cq_serial.proofs.Statements.{stands_gives}
 
 whole_nothing : IsWholeCatalog nothing
@@ -45,10 +47,21 @@ goes_to_last run journals e (a ∷ more) sound all =
 
 module _ (run : Run) (last : Contents) (journals : List Journal) (rises : (g : ℕ) → IsRising (journal_in journals g).entries) (serial : (g : ℕ) → AllByRecursion IsSerialEntry (journal_in journals g).entries)
     (legal : (g : ℕ) → IsLegal last g (journal_in journals g)) (keyed : (table : ℕ) → IsKeyed last table) where
+  -- behind the last statement
+  abbrev IsLast : ℕ → Type 0
+  IsLast n = (g : ℕ) → AllByRecursion (λ (e : Entry). e.who.statement < n) (journal_in journals g).entries
+
+  ends_so : (n : ℕ) (c : Contents) (on : Continues c last) → c ≡ last → IsLast n → Keeps (whole c (held_before last journals c on n)) (database_of last journals)
+  ends_so n c on ends all table =
+      subst (λ (v : Contents). table_rows (database_of v journals) table ≡ table_rows (whole c (held_before last journals c on n)) table) ends
+      (whole_alike c (λ g t. rows_of (held_in c (journal_in journals g) t)) (held_before last journals c on n) table (λ g.
+      let j = journal_in journals g in
+      ap (λ (es : List Entry). rows_of (replay_from table (shape_in c table) (j.base table) es)) (sym (take_upto n j.entries ∙ upto_all n j.entries (all g)))))
+
   serial_from : (n : ℕ) (e : Environment) (answers : List Answered) → IsWholeCatalog e.catalog → (on : Continues e.catalog last) → (environment_from e answers).catalog ≡ last → NumberedFrom n e answers →
-      AllStandFrom rules run e journals answers → IsUnwritten last journals n e.catalog → SerialFrom e (whole e.catalog (held_before last journals e.catalog on n)) answers
-  serial_from n e [] sound on ends numbered all un = tt
-  serial_from n e (a ∷ more) sound on ends numbered all un =
+      IsLast (n + length answers) → AllStandFrom rules run e journals answers → IsUnwritten last journals n e.catalog → SerialFrom e (whole e.catalog (held_before last journals e.catalog on n)) answers (database_of last journals)
+  serial_from n e [] sound on ends numbered all_done all un = ends_so n e.catalog on ends (subst IsLast (let none : n + 0 ≡ n = omega arith in none) all_done)
+  serial_from n e (a ∷ more) sound on ends numbered all_done all un =
       let next = after e a.bound a.answer in
       let stands : StandsIn rules run e (in_journals run e.catalog journals (numbered_who n)) a.bound a.answer =
       subst (λ (w : Who). StandsIn rules run e (in_journals run e.catalog journals w) a.bound a.answer) numbered.0 all.0 in
@@ -57,7 +70,7 @@ module _ (run : Run) (last : Contents) (journals : List Journal) (rises : (g : �
       let gives = stands_gives run last journals rises serial legal keyed n e on sound un a.bound a.answer stands goes.0 on_next in (
         whole next.catalog (held_before last journals next.catalog on_next (n + 1)),
         gives.0,
-        serial_from (n + 1) next more goes.1 on_next ends numbered.2 all.1 gives.1,
+        serial_from (n + 1) next more goes.1 on_next ends numbered.2 (subst IsLast (let one : n + length (a ∷ more) ≡ n + 1 + length more = omega arith in one) all_done) all.1 gives.1,
       )
 
 pub answers_are_serial : AnswersAreSerial
@@ -65,7 +78,9 @@ answers_are_serial run serial answers journals begin log stand =
     let last = (environment_from (first run) answers).catalog in
     let rises : (g : ℕ) → IsRising (journal_in journals g).entries = λ g. rising run serial (journal_in journals g).entries (log.order g) in
     let entries : (g : ℕ) → AllByRecursion IsSerialEntry (journal_in journals g).entries = λ g. serial_entries _ (journal_in journals g).entries (log.of_answers g) in
-    serial_from run last journals rises entries log.legal log.laid.keyed 1 (first run) answers whole_nothing (goes_to_last run journals (first run) answers whole_nothing stand) refl log.numbered stand
+    serial_from run last journals rises entries log.legal log.laid.keyed 1 (first run) answers whole_nothing (goes_to_last run journals (first run) answers whole_nothing stand) refl log.numbered
+    (λ g. all_weaker (IsOfFirst (length answers)) (λ (e : Entry). e.who.statement < 1 + length answers) (λ e h. let most = h.2 in omega (arith, most)) (journal_in journals g).entries (log.of_answers g))
+    stand
     (λ g table l.
     ap (λ (es : List Entry). rows_of (replay_from table (shape_in last table) ((journal_in journals g).base table) es)) (upto_first (journal_in journals g).entries (entries g))
     ∙ ap rows_of (begin g table))

@@ -1,15 +1,14 @@
 -- Each statement's answer is one over the undistributed database that the statements before it leave, and so are those of a script.
-use Rattle.std.proofs.Common.{◌≡◌, ◌+◌, inl, inr, ℕ, Bool, true, false, not, cond, List, [], ◌∷◌, length, refl, sym, ◌∙◌, ap, subst, arith, Some, None, Option, slice_get, eq-eqb}
+use Rattle.std.proofs.Common.{◌≡◌, ◌+◌, inl, inr, ℕ, Bool, true, false, not, cond, List, [], ◌∷◌, length, refl, sym, ◌∙◌, ap, subst, Some, None, Option, eq-eqb}
 use Rattle.std.specs.Prelude.{⊤, nat_eq, option_map}
 use Rattle.std.specs.List.{AllByRecursion}
 use Rattle.std.specs.List.Sorted.{IsPermutation}
 use Rattle.std.proofs.lemmas.Bool.{eqb-true, ne_eqb}
 use Rattle.cq_value.specs.declared.schema.Shape.{Shape}
-use Rattle.cq_value.specs.Tables.{Table, rows_of, empty_table}
+use Rattle.cq_value.specs.Tables.{rows_of}
 use Rattle.cq_tree.specs.declared.journal.Who.{Who}
-use Rattle.cq_tree.specs.declared.journal.Entry.{Entry}
 use Rattle.cq_tree.specs.declared.journal.EntryKind.{EntryKind}
-use Rattle.cq_tree.specs.declared.journal.EntryKind.TheVariants.{Read, Write}
+use Rattle.cq_tree.specs.declared.journal.EntryKind.TheVariants.{Write}
 use Rattle.cq_tree.specs.declared.write.ShardOp.{ShardOp}
 use Rattle.cq_tree.specs.declared.write.ShardOp.TheVariants.{Insert, Update, Remove}
 use Rattle.cq_tree.specs.declared.write.Reply.{Reply}
@@ -19,14 +18,13 @@ use Rattle.cq_tree.specs.declared.statement.Statement.TheVariants as statement
 use Rattle.cq_tree.specs.declared.unsupported.Unsupported.{Unsupported}
 use Rattle.cq_meaning.specs.Values.{Row, Tables, table_rows}
 use Rattle.cq_meaning.specs.Effects.{effect, reply_of, table_of}
-use Rattle.cq_catalog.specs.Contents.{Contents, is_local, nothing}
+use Rattle.cq_catalog.specs.Contents.{Contents, is_local}
 use Rattle.cq_catalog.specs.Placement.{place_at}
 use Rattle.cq_catalog.specs.Whole.{IsWhole as IsWholeCatalog}
 use Rattle.cq_catalog.specs.declared.info.Place.{Place}
 use Rattle.cq_catalog.specs.declared.info.Place.TheVariants.{Local, Distributed, Reference}
 use Rattle.cq_answer.specs.declared.answer.Answer.{Answer}
 use Rattle.cq_answer.specs.declared.answer.Answer.TheVariants as answer
-use Rattle.cq_answer.specs.declared.answered.Answered.{Answered}
 use Rattle.cq_answer.specs.declared.fault.What.TheVariants as what
 use Rattle.cq_answer.specs.declared.fault.Fault.{Fault}
 use Rattle.cq_answer.specs.declared.fault.Fault.TheVariants as fault
@@ -37,25 +35,22 @@ use Rattle.cq_planning.specs.Parts.{part}
 use Rattle.cq_planning.specs.Refusals.{refusal_of}
 use Rattle.cq_planning.specs.Touched.{among, touched}
 use Rattle.cq_planning_laws.proofs.Writes.{writes_touch}
-use Rattle.cq_history.specs.Run.{Run, Environment, IsSerial, first, after, environment_from, Continues}
-use Rattle.cq_history.specs.Journals.{journal_in, cut, held_in, made_by, kinds_of, has_some, before, TakesPlaces, Step, steps_of, kinds_in, in_each}
+use Rattle.cq_history.specs.Run.{Run, Environment, after, Continues}
+use Rattle.cq_history.specs.Journals.{journal_in, cut, kinds_of, TakesPlaces, Step, steps_of, kinds_in}
 use Rattle.cq_history.specs.Legality.{IsLegal, IsKeyedBy, IsKeyed}
-use Rattle.cq_history.specs.Log.{who_of, NumberedFrom, AllStandFrom, IsWhole}
 use Rattle.cq_history.specs.Refusals.{rules, is_built, unless_built, refusal_in}
-use Rattle.cq_history.specs.Standing.{View, in_journals, counted, reply_in, IsTagOf, IsMadeIn, IsRefusedIn, Yields, Runs, RunsUnless, StandsIn}
+use Rattle.cq_history.specs.Standing.{View, in_journals, counted, IsMadeIn, IsRefusedIn, Yields, Runs, RunsUnless, StandsIn}
 use Rattle.cq_history.specs.Laws.{held_after}
 use Rattle.cq_history.proofs.Effects.{parts_have_effect}
 use Rattle.cq_history.proofs.Entries.{steps_kinds, with_list}
-use Rattle.cq_history.proofs.Later.{continues_same, continues_on, can_hold_before}
+use Rattle.cq_history.proofs.Later.{continues_same, can_hold_before}
 use Rattle.cq_history.proofs.Lists.{two_ways}
 use Rattle.cq_history.proofs.Replays.{can_hold}
 use Rattle.cq_history.proofs.Replies.{reply_by_rows, reply_counted}
-use Rattle.cq_serial.specs.Serial.{Keeps, IsWritten, IsSerialAnswer, SerialFrom}
-use Rattle.cq_serial.specs.Laws.{BeginEmpty, AnswersAreSerial}
-use Rattle.cq_serial.proofs.Places.{numbered_who, upto, IsRising, IsSerialEntry, rising, serial_entries, upto_first, upto_before}
+use Rattle.cq_serial.specs.Serial.{Keeps, IsWritten, IsSerialAnswer}
+use Rattle.cq_serial.proofs.Places.{numbered_who, IsRising, IsSerialEntry, upto_before}
 use Rattle.cq_serial.proofs.Quiet.{IsQuiet, AreQuiet, enters_none, quiet_runs}
-use Rattle.cq_serial.proofs.Catalogs.{GoesOn, goes_on}
-use Rattle.cq_serial.proofs.Contents.{kept, places, rows_before, IsUnwritten, same_rows_before, held_before, held_is, rows_are, quiet_keeps, write_keeps, write_replies, effect_of_counted, refused_leaves, whole_alike}
+use Rattle.cq_serial.proofs.Contents.{kept, places, IsUnwritten, same_rows_before, held_before, held_is, rows_are, quiet_keeps, write_keeps, write_replies, effect_of_counted, refused_leaves, whole_alike}
 
 -- ---- refusals by planning
 

@@ -1,8 +1,8 @@
 -- One undistributed database, on which the statements of a script run one after the other.
-use Rattle.std.specs.Prelude.{◌≡◌, ⊤, ℕ, true, false, nat_eq, List, [], ◌∷◌, Option, Some}
+use Rattle.std.specs.Prelude.{◌≡◌, ℕ, true, false, nat_eq, List, [], ◌∷◌, Option, Some}
 use Rattle.std.specs.List.Sorted.{IsPermutation}
 use Rattle.cq_value.specs.Tables.{rows_of}
-use Rattle.cq_tree.specs.declared.query.Query.{Query, out-Query}
+use Rattle.cq_tree.specs.declared.query.Query.{out-Query}
 use Rattle.cq_tree.specs.declared.write.ShardOp.{ShardOp}
 use Rattle.cq_tree.specs.declared.write.Reply.TheVariants.{Count, Duplicate, OutOfRange}
 use Rattle.cq_tree.specs.declared.statement.Statement.{Statement}
@@ -42,11 +42,11 @@ IsSerialAnswer c db (Some (statement.Write op)) (answer.Failed fault.Duplicate) 
 IsSerialAnswer c db (Some (statement.Write op)) (answer.Failed fault.ValueOutOfRange) later = (reply_in c op db ≡ OutOfRange) × Keeps db later
 IsSerialAnswer c db bound a later = Keeps db later
 
--- each answer is one over the database that the statements before it leave
-abbrev pub SerialFrom : Environment → Tables → List Answered → Type 0
-SerialFrom e db [] = ⊤
-SerialFrom e db (a ∷ more) = (later : Tables) × IsSerialAnswer e.catalog db a.bound a.answer later × SerialFrom (after e a.bound a.answer) later more
+-- each answer is one over the database that the statements before it leave, and the last database is what all of them leave
+abbrev pub SerialFrom : Environment → Tables → List Answered → Tables → Type 0
+SerialFrom e db [] last = Keeps db last
+SerialFrom e db (a ∷ more) last = (later : Tables) × IsSerialAnswer e.catalog db a.bound a.answer later × SerialFrom (after e a.bound a.answer) later more last
 
 -- from the database without a table on
-abbrev pub Serial : Run → List Answered → Type 0
-Serial run answers = SerialFrom (first run) [] answers
+abbrev pub Serial : Run → List Answered → Tables → Type 0
+Serial run answers last = SerialFrom (first run) [] answers last
