@@ -1,7 +1,8 @@
 -- The answers of a script without blocks, one after the other.
-use Rattle.std.proofs.Common.{◌≡◌, ◌+◌, ◌<◌, length, ℕ, List, [], ◌∷◌, refl, sym, ◌∙◌, ap, subst, arith}
+use Rattle.std.proofs.Common.{zero, suc, ◌≡◌, ◌+◌, ◌<◌, length, ℕ, List, [], ◌∷◌, refl, sym, ◌∙◌, ap, subst, arith}
+use Rattle.std.specs.Prelude.{slice_index_or}
 use Rattle.std.specs.List.{AllByRecursion}
-use Rattle.cq_value.specs.Tables.{rows_of}
+use Rattle.cq_value.specs.Tables.{rows_of, empty_table}
 use Rattle.cq_tree.specs.declared.journal.Who.{Who}
 use Rattle.cq_tree.specs.declared.journal.Entry.{Entry}
 use Rattle.cq_meaning.specs.Values.{table_rows}
@@ -20,7 +21,7 @@ use Rattle.cq_history.specs.Standing.{in_journals, StandsIn}
 use Rattle.cq_history.proofs.Later.{continues_same, continues_on}
 use Rattle.cq_history.proofs.Lists.{all_weaker}
 use Rattle.cq_serial.specs.Serial.{Keeps, SerialFrom}
-use Rattle.cq_serial.specs.Laws.{database_of, AnswersAreSerial}
+use Rattle.cq_serial.specs.Laws.{BeginEmpty, database_of, AnswersAreSerial}
 use Rattle.cq_serial.proofs.Places.{numbered_who, IsRising, IsSerialEntry, rising, serial_entries, upto_first, upto_all, take_upto}
 use Rattle.cq_serial.proofs.Catalogs.{goes_on}
 use Rattle.cq_serial.proofs.Contents.{IsUnwritten, held_before, whole_alike}
@@ -72,6 +73,16 @@ module _ (run : Run) (last : Contents) (journals : List Journal) (rises : (g : �
         gives.0,
         serial_from (n + 1) next more goes.1 on_next ends numbered.2 (subst IsLast (let one : n + length (a ∷ more) ≡ n + 1 + length more = omega arith in one) all_done) all.1 gives.1,
       )
+
+-- groups begin empty where each journal does
+begins_at : (journals : List Journal) (g : ℕ) (other : Journal) (table : ℕ) → AllByRecursion (λ (j : Journal). (t : ℕ) → j.base t ≡ empty_table) journals → other.base table ≡ empty_table →
+    (slice_index_or journals g other).base table ≡ empty_table
+begins_at [] g other table all e = e
+begins_at (j ∷ journals) zero other table all e = all.0 table
+begins_at (j ∷ journals) (suc g) other table all e = begins_at journals g other table all.1 e
+
+pub begin_empty : (journals : List Journal) → AllByRecursion (λ (j : Journal). (t : ℕ) → j.base t ≡ empty_table) journals → BeginEmpty journals
+begin_empty journals all g table = begins_at journals g (record { number = g; opening = 0; base = λ t. empty_table; entries = [] }) table all refl
 
 pub answers_are_serial : AnswersAreSerial
 answers_are_serial run serial answers journals begin log stand =
