@@ -4,3 +4,4 @@ pub mod Catalogs
 pub mod Contents
 pub mod Statements
 pub mod Script
+pub mod Examples
