@@ -6,7 +6,6 @@ use Rattle.std.proofs.lemmas.List.Sorted.{IsPermutation-keeps}
 use Rattle.cq_value.specs.Tables.{rows_of}
 use Rattle.cq_value.specs.declared.schema.Column.{Column}
 use Rattle.cq_value.specs.declared.schema.Kind.TheVariants.{Bigint}
-use Rattle.cq_value.specs.declared.schema.Shape.{Shape}
 use Rattle.cq_value.specs.declared.value.Value.TheVariants.{Int}
 use Rattle.cq_tree.specs.declared.write.ShardOp.{ShardOp}
 use Rattle.cq_tree.specs.declared.write.ShardOp.TheVariants.{Insert}
@@ -21,7 +20,7 @@ use Rattle.cq_answer.specs.declared.answered.Answered.{Answered}
 use Rattle.cq_planning.specs.Database.{shape_in}
 use Rattle.cq_history.specs.Run.{Run, Environment, first, after}
 use Rattle.cq_history.specs.Standing.{counted, reply_in}
-use Rattle.cq_serial.specs.Serial.{Keeps, IsWritten, IsSerialAnswer, SerialFrom, Serial}
+use Rattle.cq_serial.specs.Serial.{Keeps, IsSerialAnswer, SerialFrom, Serial}
 
 only_order : (x : Row) (ys : List Row) → IsPermutation (x ∷ []) ys → ys ≡ x ∷ []
 only_order x ys p = IsPermutation-keeps (x ∷ []) (λ (l : List Row). l ≡ x ∷ []) refl one ys p

@@ -286,6 +286,8 @@ module _ (run : Run) (last : Contents) (journals : List Journal) (rises : (g : �
       runs_give (statement.Write op) (answer.Failed fault.ValueOutOfRange) no_refusal h goes on_next =
           let s = refused_stays op OutOfRange tt h in
           ((h.replied (places last journals n) takes, stays_keeps c goes on_next s), stays_unwritten c goes on_next s)
+      runs_give (statement.Select q) (answer.Tag t) no_refusal h goes on_next = absurd h
+      runs_give (statement.Write op) (answer.Table names rows) no_refusal h goes on_next = absurd h
       runs_give s a no_refusal h goes on_next =
           let same = quiet_stays (quiet_runs view (λ g. steps_of who (journal_in journals g)) of_view (touched c s) run e s a (λ x. x) h) in
           (stays_keeps (after e (Some s) a).catalog goes on_next same, stays_unwritten (after e (Some s) a).catalog goes on_next same)

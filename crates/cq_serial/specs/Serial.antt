@@ -32,7 +32,7 @@ pub record IsWritten (c : Contents) (op : ShardOp) (db later : Tables) : Type 0 
   pub others : (table : ℕ) → nat_eq table (table_of op) ≡ false → table_rows later table ≡ table_rows db table
 
 -- a statement's answer over the database, and the database after it. The rows of a query are an answer of its meaning. A write has the reply of
--- its effect. Everything else leaves the database: a statement that is refused or fails, statements on the catalogue and on settings, EXPLAIN,
+-- its effect. A query is answered by no tag, and a write by no table. Everything else leaves the database: a statement that is refused or fails, statements on the catalogue and on settings, EXPLAIN,
 -- moves, and rebalances and their plans. A limit of rows is one of the whole for the queries of which a run says so
 abbrev pub IsSerialAnswer : Contents → Tables → Option Statement → Answer → Tables → Type 0
 IsSerialAnswer c db (Some (statement.Select q)) (answer.Table names rows) later = (names ≡ (out-Query q).names) × Answers q db rows × Keeps db later
@@ -40,6 +40,8 @@ IsSerialAnswer c db (Some (statement.Select q)) (answer.Failed (fault.Limit what
 IsSerialAnswer c db (Some (statement.Write op)) (answer.Tag t) later = (n : ℕ) × IsTagOf op n t × (reply_in c op db ≡ Count n) × IsWritten c op db later
 IsSerialAnswer c db (Some (statement.Write op)) (answer.Failed fault.Duplicate) later = (reply_in c op db ≡ Duplicate) × Keeps db later
 IsSerialAnswer c db (Some (statement.Write op)) (answer.Failed fault.ValueOutOfRange) later = (reply_in c op db ≡ OutOfRange) × Keeps db later
+IsSerialAnswer c db (Some (statement.Select q)) (answer.Tag t) later = ⊥
+IsSerialAnswer c db (Some (statement.Write op)) (answer.Table names rows) later = ⊥
 IsSerialAnswer c db bound a later = Keeps db later
 
 -- each answer is one over the database that the statements before it leave, and the last database is what all of them leave
