@@ -32,3 +32,9 @@ SELECT citus_move_shard_placement(7, 1, 2);
 -- And back: a store, its three orders and its note.
 SELECT citus_move_shard_placement(102012, 2, 1);
 SELECT count(*), sum(amount) FROM orders;
+
+-- Store 2 goes to node 2 as well, so that three of the four groups are there. A rebalance makes the nodes even again, by its plan.
+SELECT citus_move_shard_placement(102010, 1, 2);
+SELECT get_rebalance_table_shards_plan();
+SELECT rebalance_table_shards();
+SELECT rebalance_table_shards(); -- nothing is left to do
