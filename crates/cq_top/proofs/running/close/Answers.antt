@@ -2,6 +2,7 @@ use Rattle.std.proofs.Common.{List, map, ap, sym, ◌∙◌, arith, subst, ℕ}
 use Rattle.std.specs.List.{AllByRecursion}
 use Rattle.cq_catalog.specs.Contents.{Contents}
 use Rattle.cq_journal.specs.Records.{Journal}
+use Rattle.cq_cluster.specs.Ending.{record_of}
 use Rattle.cq_cluster.specs.Accounts.{AllAccounted, AreRetired}
 use Rattle.cq_cluster.specs.Cluster.{IsRetired, retired_nodes}
 use Rattle.cq_cluster.specs.Ending.{IsFinal}
@@ -42,8 +43,9 @@ returns-clause-accounts g c =
     let state = g.S.Store.state in
     let answers = c.args.serving.answers in
     let workers = c.close-catalog.result.workers.items in
-    subst (λ (n : ℕ). AllAccounted state n c.close-catalog.result.catalog _ answers workers) s.nodes
-    (subst (λ (v : Contents). AllAccounted state cluster.nodes v _ answers workers) (sym c.close-catalog.ensures.catalog)
+    let kept : List Journal = map record_of c.close-catalog.new.journals.list in
+    subst (λ (n : ℕ). AllAccounted state n c.close-catalog.result.catalog kept answers workers) s.nodes
+    (subst (λ (v : Contents). AllAccounted state cluster.nodes v kept answers workers) (sym c.close-catalog.ensures.catalog)
     (subst (λ (js : List Journal). AllAccounted state cluster.nodes cluster.catalog js answers workers) (sym c.close-catalog.ensures.journals) (c.close-catalog.ensures.accounted answers s.accounted)))
 
 pub returns-clause-retired : goal.returns-clause-retired

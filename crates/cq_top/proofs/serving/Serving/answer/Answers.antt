@@ -18,16 +18,16 @@ use Rattle.cq_top.proofs.Answering.{set_last}
 use Rattle.cq_top.proofs.serving.Serving.answer.Goals as goal
 
 pub respond-bound-requires-clause-sound : goal.respond-bound-requires-clause-sound
-respond-bound-requires-clause-sound g c = c.requires.serving.1.sound
+respond-bound-requires-clause-sound g c = λ lifetimes outlive. c.requires.serving.1.sound
 
 pub respond-bound-requires-clause-legal : goal.respond-bound-requires-clause-legal
-respond-bound-requires-clause-legal g c = c.requires.serving.1.consistent.log.legal
+respond-bound-requires-clause-legal g c = λ lifetimes outlive. c.requires.serving.1.consistent.log.legal
 
 pub respond-bound-requires-clause-keyed : goal.respond-bound-requires-clause-keyed
-respond-bound-requires-clause-keyed g c = c.requires.serving.1.consistent.log.laid.keyed
+respond-bound-requires-clause-keyed g c = λ lifetimes outlive. c.requires.serving.1.consistent.log.laid.keyed
 
 pub respond-bound-requires-clause-columns : goal.respond-bound-requires-clause-columns
-respond-bound-requires-clause-columns g c =
+respond-bound-requires-clause-columns g c = λ lifetimes outlive.
     columns_stand rules (run_by c.args.self.now.settled c.requires.serving.0) (environment c.args.self.now.coordinator) c.args.self.now.answers (journals c.args.self.now.coordinator) c.requires.serving.1.consistent
 
 pub returns-clause-keeps : goal.returns-clause-keeps
