@@ -7,7 +7,9 @@ ghost use Rattle.cq_cluster.specs.Accounts.{AllAccounted};
 ghost use Rattle.cq_cluster.specs.Ending.{IsFinal};
 ghost use Rattle.cq_words.specs.Words.{settled as settled_by};
 ghost use Rattle.cq_top.specs.Scripts.{IsHalted, Serves};
-ghost use Rattle.cq_top.specs.Serving.{IsServing, IsServingOver, KeepsServing, IsShownBy, IsReadingEnd, KeepsSink, BlamesSink, BlamesSource};
+ghost use Rattle.cq_serial.specs.Laws.{database_of};
+ghost use Rattle.cq_serial.specs.Serial.{Serial};
+ghost use Rattle.cq_top.specs.Serving.{run_by, IsServing, IsServingOver, KeepsServing, IsShownBy, IsReadingEnd, KeepsSink, BlamesSink, BlamesSource};
 ghost use Rattle.cq_top.specs.Runs.{IsEmptyLog, IsWhole, Stand, IsMisused, HasRun, asked, journals_of, retired_in};
 
 use crate::ending::Ending;
@@ -199,6 +201,7 @@ pub fn run<R: Threads + Wait + Sync, S: Source, K: Sink, G: Gate>(
     requires fresh { IsEmptyLog log.old }
     ensures stand { Stand (asked (map string_bytes words.now)) workers.old.items log.new }
     ensures whole { IsWhole (asked (map string_bytes words.now)) workers.old.items log.new }
+    ensures serial { Serial (run_by (asked (map string_bytes words.now)) workers.old.items) log.new.answers (database_of log.new.catalog (journals_of log.new)) }
     ensures ran { HasRun (map string_bytes words.now) (length workers.old.items) result log.new (S.told source.old) (S.told source.new) (K.shown sink.old) (K.shown sink.new) }
     ensures last { IsFinal ⟦<Box<dyn Store + Send> as Store>⟧.state (asked (map string_bytes words.now)).workers workers.old.items log.new.catalog (retired_in log.new) log.new.journals.list workers.new.items }
     ensures accounts { AllAccounted ⟦<Box<dyn Store + Send> as Store>⟧.state (asked (map string_bytes words.now)).workers log.new.catalog (journals_of log.new) log.new.answers workers.new.items }
