@@ -1,6 +1,6 @@
 -- What a planned move of a shard group needs, and what stays true of the cluster after it.
-use Rattle.std.proofs.Common.{◌≡◌, ◌≢◌, ◌⊎◌, inl, inr, ℕ, zero, suc, ◌+◌, ◌-◌, ◌<◌, ◌≤◌, Bool, true, false, cond, List, [], ◌∷◌, ◌++◌, length, get_or, refl, sym, ap, subst, ◌∙◌, arith, Some, None, Option, slice_get, Result, Ok, Err, IfOk, IfErr, append-nil}
-use Rattle.std.specs.Prelude.{IsTrue, nat_eq, nat_lt, ◌||◌, ◌&&◌, not}
+use Rattle.std.proofs.Common.{◌≡◌, ◌≢◌, inl, inr, ℕ, suc, ◌+◌, ◌-◌, ◌<◌, ◌≤◌, Bool, true, false, cond, List, [], ◌∷◌, length, get_or, refl, sym, ap, subst, ◌∙◌, arith, Some, None, Option, slice_get, Result, Ok, Err, IfOk, IfErr, append-nil}
+use Rattle.std.specs.Prelude.{IsTrue, nat_eq, nat_lt, ◌||◌, ◌&&◌}
 use Rattle.std.specs.List.{AllByRecursion, AllZip, list_any}
 use Rattle.std.proofs.lemmas.Bool.{le-ltb}
 use Rattle.std.proofs.lemmas.Bool.Decides.{eqb_tells}
@@ -21,7 +21,7 @@ use Rattle.cq_history.specs.Deeds.{Grows}
 use Rattle.cq_history.specs.Faults.{AccountsFor, Climbs, Range, ranges_of, is_distributed_group}
 use Rattle.cq_history.specs.Looks.{has_shard}
 use Rattle.cq_history.specs.Laws.{FailsAlone, IsMovable, in_one}
-use Rattle.cq_history.specs.Moves.{Report, place_fault, rows_held}
+use Rattle.cq_history.specs.Moves.{place_fault, rows_held}
 use Rattle.cq_history.specs.Room.{free_at, is_on, short_at, stores_on, tables_in}
 use Rattle.cq_history.proofs.Lists.{two_ways, all_at, all_weaker, filter_none}
 use Rattle.cq_planning.specs.Routing.{is_distributed_place}
@@ -30,21 +30,21 @@ use Rattle.cq_store.specs.Stores.{StoreState}
 use Rattle.cq_store.specs.declared.worker.Worker.{Worker}
 use Rattle.cq_group.specs.declared.group.GroupState.{GroupState}
 use Rattle.cq_group.specs.Calls.{GoesOn, Lifted}
-use Rattle.cq_group.specs.Groups.{entries_of, journal_of, outlines, stores_of}
+use Rattle.cq_group.specs.Groups.{entries_of, journal_of, stores_of}
 use Rattle.cq_group.specs.Resting.{GoOn, journals_of}
 use Rattle.cq_move.specs.declared.mover.MoveReport.{MoveReport}
 use Rattle.cq_cluster.specs.declared.cluster.Cluster.{Cluster}
-use Rattle.cq_cluster.specs.Accounts.{AreAccounted, HasMoved, IsNext, NamesNone, Retires, StayMoved, later_than, moved_by}
-use Rattle.cq_cluster.specs.Cluster.{HasStores, IsCovered, IsSound, journals, node_in, retired_nodes, run_of, stores_in}
-use Rattle.cq_cluster.specs.Moving.{HasKeptGroup, HasMovedGroup, IsChangedAt, IsMovableGroup, Keeps, environment_at, no_node, refusal_in, tables_of, too_few}
-use Rattle.cq_cluster.specs.Planned.{AccountsFailed, AccountsOn, CanBePlanned, HasFailedIn, IsMadeIn, journal_at, move_of, report_of}
+use Rattle.cq_cluster.specs.Accounts.{AreAccounted, HasMoved, IsNext, NamesNone, StayMoved, later_than, moved_by}
+use Rattle.cq_cluster.specs.Cluster.{IsCovered, IsSound, journals, node_in, retired_nodes, run_of, stores_in}
+use Rattle.cq_cluster.specs.Moving.{HasKeptGroup, HasMovedGroup, IsChangedAt, IsMovableGroup, Keeps, environment_at, no_node, tables_of, too_few}
+use Rattle.cq_cluster.specs.Planned.{AccountsFailed, AccountsOn, CanBePlanned, HasFailedIn, IsMadeIn, journal_at, move_of}
 use Rattle.cq_cluster.proofs.AnswerLaws.{account_none}
 use Rattle.cq_cluster.proofs.CountLaws.{sum_alike}
 use Rattle.cq_cluster.proofs.HeldLaws.{has_shard_by}
 use Rattle.cq_cluster.proofs.ListLaws.{item_at, there}
-use Rattle.cq_cluster.proofs.MovingLawsAnswers.{nodes_told, rows_there, short_there, tables_there}
-use Rattle.cq_cluster.proofs.MovingLawsDone.{IsAfter, IsTaken, after_kept, after_moved, kept_change, moved_change, moved_was, retires_kept}
-use Rattle.cq_cluster.proofs.MovingLawsEnd.{accounted_kept, accounted_same, alone_by, has_moved, memory_unnamed, rows_are}
+use Rattle.cq_cluster.proofs.MovingLawsAnswers.{nodes_told, short_there, tables_there}
+use Rattle.cq_cluster.proofs.MovingLawsDone.{IsAfter, IsTaken, after_kept, after_moved, kept_change, moved_change, retires_kept}
+use Rattle.cq_cluster.proofs.MovingLawsEnd.{accounted_kept, accounted_same, alone_by, has_moved, rows_are}
 use Rattle.cq_cluster.proofs.MovingLawsGroups.{IsFoundAt, found_group, group_given, grows_at, journal_of_item}
 
 both_true : (a b : Bool) → (a && b) ≡ true → (a ≡ true) × (b ≡ true)

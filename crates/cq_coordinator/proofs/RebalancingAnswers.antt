@@ -1,5 +1,5 @@
 -- What a rebalance is answered.
-use Rattle.std.proofs.Common.{◌≡◌, ℕ, ◌≤◌, ◌<◌, Bool, true, false, List, [], ◌∷◌, ◌++◌, map, length, refl, sym, ap, ◌∙◌, subst, arith, Some, None, append-nil}
+use Rattle.std.proofs.Common.{◌≡◌, ℕ, ◌≤◌, Bool, false, List, [], ◌∷◌, ◌++◌, map, length, refl, sym, ap, ◌∙◌, subst, Some, None, append-nil}
 use Rattle.cq_tree.specs.declared.journal.Who.{Who}
 use Rattle.cq_tree.specs.declared.journal.EntryKind.TheVariants.{Read}
 use Rattle.cq_tree.specs.declared.statement.Statement.TheVariants as statement
@@ -15,7 +15,7 @@ use Rattle.cq_meaning.specs.Values.{Row}
 use Rattle.cq_journal.specs.Records.{Journal}
 use Rattle.cq_history.specs.Laws.{FailsAlone, FailsPlan, IsPlanOver, MovesInTurn, behind}
 use Rattle.cq_history.specs.Log.{IsAnswered}
-use Rattle.cq_history.specs.Rebalances.{moves_of, read_for, rebalance_names, rebalance_row}
+use Rattle.cq_history.specs.Rebalances.{read_for, rebalance_names, rebalance_row}
 use Rattle.cq_history.specs.Refusals.{rules, refusal_in}
 use Rattle.cq_history.specs.Run.{Environment, Run, after}
 use Rattle.cq_history.specs.Standing.{reads}
@@ -23,7 +23,7 @@ use Rattle.cq_history.proofs.Rebalancing.{plan_fails, rebalance_is_answered, reb
 use Rattle.cq_store.specs.Stores.{StoreState}
 use Rattle.cq_store.specs.declared.worker.Worker.{Worker}
 use Rattle.cq_group.specs.declared.group.GroupState.{GroupState}
-use Rattle.cq_group.specs.Resting.{journals_of, GoOn}
+use Rattle.cq_group.specs.Resting.{GoOn}
 use Rattle.cq_groups.specs.Reads.{AreRead}
 use Rattle.cq_groups.proofs.Growth.{as_many}
 use Rattle.cq_cluster.specs.declared.cluster.Cluster.{Cluster}
@@ -37,7 +37,7 @@ use Rattle.cq_cluster.proofs.NextLaws.{each_no_move, grown_still, grown_unmoved}
 use Rattle.cq_cluster.proofs.PlannedLaws.{reading_goes_on}
 use Rattle.cq_cluster.proofs.RetiringLaws.{rebalance_retires}
 use Rattle.cq_rebalance.specs.Loads.{node_there}
-use Rattle.cq_rebalance.specs.Moving.{AreMade, HasStopped, IsBegun, zero_row}
+use Rattle.cq_rebalance.specs.Moving.{AreMade, HasStopped, IsBegun}
 use Rattle.cq_rebalance.specs.Planning.{sizes_in, ArePlanned, StopsPlan}
 
 abbrev environment_by : Contents → Settings → List ℕ → Environment

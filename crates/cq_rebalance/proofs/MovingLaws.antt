@@ -1,7 +1,7 @@
 -- Planned moves that are made one after the other.
-use Rattle.std.proofs.Common.{◌≡◌, ℕ, zero, suc, ◌+◌, ◌<◌, ◌≤◌, Bool, true, false, List, [], ◌∷◌, ◌++◌, length, map, take, drop, refl, sym, ap, subst, ◌∙◌, arith, Some, slice_get, get_or, Ok, Err, append-nil}
+use Rattle.std.proofs.Common.{◌≡◌, ℕ, zero, suc, ◌+◌, ◌<◌, ◌≤◌, Bool, true, false, List, [], ◌∷◌, ◌++◌, length, map, take, drop, refl, sym, ap, subst, ◌∙◌, arith, Some, slice_get, get_or}
 use Rattle.std.proofs.Math.ListN.{set}
-use Rattle.std.proofs.lemmas.List.{take_more, map-append, length-map, length-append}
+use Rattle.std.proofs.lemmas.List.{take_more, map-append, length-map}
 use Rattle.cq_tree.specs.declared.journal.Who.{Who}
 use Rattle.cq_tree.specs.declared.journal.EntryKind.{EntryKind}
 use Rattle.cq_answer.specs.declared.answer.Answer.TheVariants as answer
@@ -14,8 +14,7 @@ use Rattle.cq_catalog.specs.Contents.{Contents}
 use Rattle.cq_journal.specs.Records.{Journal}
 use Rattle.cq_journal.specs.Stations.{node_of}
 use Rattle.cq_history.specs.Faults.{is_distributed_group}
-use Rattle.cq_history.specs.Journals.{Kinds, journal_in}
-use Rattle.cq_history.specs.Laws.{FailsAlone, IsMadeOver, IsMovable, IsNextMove, IsPlanOver, MovesInTurn, behind, in_one, kinds_of_move, then_in}
+use Rattle.cq_history.specs.Laws.{FailsAlone, IsMadeOver, IsMovable, IsNextMove, IsPlanOver, behind, in_one, kinds_of_move, then_in}
 use Rattle.cq_history.specs.Moves.{Report, rows_held}
 use Rattle.cq_history.specs.Rebalances.{Made, moves_of, node_after, read_for, rebalance_row}
 use Rattle.cq_history.specs.Run.{Environment, Run}
@@ -23,12 +22,11 @@ use Rattle.cq_history.specs.Standing.{reads}
 use Rattle.cq_history.proofs.Doing.{grows_on}
 use Rattle.cq_history.proofs.Rebalancing.{moves_go_on, moves_settle, plan_goes_on}
 use Rattle.cq_store.specs.Stores.{StoreState}
-use Rattle.cq_store.specs.declared.worker.Worker.{Worker}
 use Rattle.cq_move.specs.declared.mover.MoveReport.{MoveReport}
 use Rattle.cq_cluster.specs.declared.cluster.Cluster.{Cluster}
 use Rattle.cq_cluster.specs.declared.retired.Retired.{Retired}
 use Rattle.cq_cluster.specs.Accounts.{Retires}
-use Rattle.cq_cluster.specs.Cluster.{HasStores, IsSound, KeepsStores, journals, retired_nodes, run_of}
+use Rattle.cq_cluster.specs.Cluster.{IsSound, KeepsStores, journals, retired_nodes, run_of}
 use Rattle.cq_cluster.specs.Moving.{environment_at}
 use Rattle.cq_cluster.specs.Planned.{AccountsFailed, AccountsOn, CanBePlanned, HasFailedIn, IsMadeIn, journal_at, report_of}
 use Rattle.cq_cluster.proofs.PlannedLaws.{distributed_opened}

@@ -1,5 +1,5 @@
 -- The refusals of a text and of its data name no store.
-use Rattle.std.proofs.Common.{◌≡◌, ℕ, Bool, List, length, sym, ◌∙◌, subst, refl, Ok, Err, Result, None, Some, Option, slice_get}
+use Rattle.std.proofs.Common.{◌≡◌, ℕ, Bool, List, length, subst, refl, Ok, Err, Result, None, Some, Option, slice_get}
 use Rattle.cq_token.specs.declared.token.Token.{Token}
 use Rattle.cq_token.specs.declared.error.LexError.{LexError}
 use Rattle.cq_token.specs.declared.error.LexError.TheVariants as lexing

@@ -1,5 +1,5 @@
 -- The end of a run: its log, its stores, and what it is blamed for.
-use Rattle.std.proofs.Common.{◌≡◌, ◌≢◌, ◌+◌, ◌<◌, ◌≤◌, ◌⊎◌, inl, inr, ℕ, List, [], ◌∷◌, length, map, All, refl, sym, ◌∙◌, ap, subst, arith, Some, None, Option, IsTrue, append-nil}
+use Rattle.std.proofs.Common.{◌≡◌, ◌≢◌, ◌+◌, ◌<◌, ◌≤◌, ◌⊎◌, inl, inr, ℕ, List, [], ◌∷◌, map, All, refl, sym, ◌∙◌, ap, subst, arith, Some, None, IsTrue, append-nil}
 use Rattle.std.specs.Prelude.{nat_eq}
 use Rattle.std.proofs.lemmas.Bool.{eqb-true}
 use Rattle.std.proofs.lemmas.Bool.Decides.{nat_tests}
@@ -10,7 +10,7 @@ use Rattle.cq_answer.specs.declared.answered.Settings.{Settings}
 use Rattle.cq_catalog.specs.Contents.{Contents, nothing}
 use Rattle.cq_journal.specs.Records.{Journal}
 use Rattle.cq_journal.specs.declared.journal.Journal as kept
-use Rattle.cq_history.specs.Run.{Run, Environment, first}
+use Rattle.cq_history.specs.Run.{Environment, first}
 use Rattle.cq_history.specs.Log.{AllStand, IsConsistent, IsWhole as IsWholeHistory}
 use Rattle.cq_history.specs.Refusals.{rules}
 use Rattle.cq_history.proofs.Lists.{two_ways}
@@ -23,7 +23,7 @@ use Rattle.cq_cluster.specs.Cluster.{stores_in, AreIdle, IsWaiting}
 use Rattle.cq_cluster.specs.Ending.{IsFinal, record_of}
 use Rattle.cq_script.specs.declared.sink.SinkError.{SinkError}
 use Rattle.cq_script.specs.declared.sink.SinkError.TheVariants as errors
-use Rattle.cq_script.specs.Streams.{SourceState, SinkState, Rose}
+use Rattle.cq_script.specs.Streams.{SinkState, Rose}
 use Rattle.cq_words.specs.declared.settled.Settled.{Settled}
 use Rattle.cq_words.specs.Words.{settled}
 use Rattle.cq_top.specs.declared.log.RunLog.{RunLog}

@@ -1,6 +1,5 @@
 -- What a run promises of its log, its answers, the bytes written and the stores.
-use Rattle.std.specs.Prelude.{◌≡◌, ◌≢◌, ◌+◌, ◌<◌, ◌≤◌, ◌⊎◌, ℕ, IsTrue, Option, Some, None, List, [], ◌++◌, length, drop, map, false}
-use Rattle.cq_answer.specs.declared.answered.Answered.{Answered}
+use Rattle.std.specs.Prelude.{◌≡◌, ◌≢◌, ◌<◌, ◌⊎◌, ℕ, IsTrue, Option, Some, None, List, [], map, false}
 use Rattle.cq_catalog.specs.Contents.{nothing}
 use Rattle.cq_journal.specs.Records.{Journal}
 use Rattle.cq_history.specs.Run.{first, environment_from}

@@ -1,5 +1,5 @@
 -- How far a run is: its answers so far, what was taken of the script, and what was written.
-use Rattle.std.specs.Prelude.{◌≡◌, ◌≢◌, ◌<◌, ◌≤◌, ◌⊎◌, ⊤, ℕ, true, IsTrue, Option, Some, None, List, [], ◌∷◌, ◌++◌, length, take, drop}
+use Rattle.std.specs.Prelude.{◌≡◌, ◌≢◌, ◌<◌, ◌≤◌, ◌⊎◌, ⊤, ℕ, true, IsTrue, Option, Some, List, [], ◌∷◌, ◌++◌, length, take, drop}
 use Rattle.cq_answer.specs.declared.answered.Answered.{Answered}
 use Rattle.cq_history.specs.Run.{Run, environment_from}
 use Rattle.cq_history.specs.Log.{IsConsistent}
@@ -23,7 +23,7 @@ use Rattle.cq_top.specs.declared.stop.Stop.TheVariants as stops
 use Rattle.cq_top.specs.declared.status.Status.{Status}
 use Rattle.cq_top.specs.declared.status.Status.TheVariants as statuses
 use Rattle.cq_top.specs.Outputs.{texts, IsPart, IsOutput}
-use Rattle.cq_top.specs.Scripts.{start, settings_by, begun_in, most_statements, most_bytes, IsAnswered, AnswersTo, AnswersFirst, AllSucceed, FailsLast, MayFailLast}
+use Rattle.cq_top.specs.Scripts.{start, settings_by, begun_in, most_statements, AnswersTo, AnswersFirst, AllSucceed, FailsLast, MayFailLast}
 
 -- what a run was given, by the command line and the workers
 abbrev pub run_by : {X : Type 0} → Settled → List (Worker X) → Run

@@ -73,12 +73,7 @@ impl<S: Store> Serving<S> {
     /// Answers an item of the script. The answer is the last then.
     ///
     /// Errors: there is no memory for the answer; nothing is done then.
-    pub fn answer<G: Gate>(
-        &mut self,
-        alloc: Global,
-        gate: &G,
-        item: &Item,
-    ) -> Result<(), NoMemory>
+    pub fn answer<G: Gate>(&mut self, alloc: Global, gate: &G, item: &Item) -> Result<(), NoMemory>
         requires room { length self.old.answers < 2 ^ 62 }
         requires serving { IsServing S.state self.old }
         ensures serving { IsServing S.state self.new }

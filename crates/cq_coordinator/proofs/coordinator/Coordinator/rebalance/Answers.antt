@@ -1,6 +1,5 @@
-use Rattle.std.proofs.Common.{refl, sym, ap, subst, ◌∙◌}
+use Rattle.std.proofs.Common.{sym, ap, subst, ◌∙◌}
 use Rattle.cq_tree.specs.declared.statement.Statement.TheVariants as statement
-use Rattle.cq_answer.specs.declared.answer.Answer.TheVariants as answer
 use Rattle.cq_cluster.specs.Cluster.{run_of, node_in}
 use Rattle.cq_cluster.specs.Cluster.{journals as cluster_journals}
 use Rattle.cq_cluster.proofs.AnswerLaws.{other_is_accounted}
