@@ -10,7 +10,7 @@ SELECT create_distributed_table('u', 'k');
 SELECT create_distributed_table('i', 'k');
 SELECT create_distributed_table('r', 'id');
 
--- Statements of every form, over empty tables; those that move shards are not built.
+-- Statements of every form, over empty tables.
 SELECT * FROM t;
 SELECT t.*, u.name AS n FROM t JOIN u ON t.k = u.k;
 SELECT k + 1 AS a FROM t GROUP BY k + 1 ORDER BY a;

@@ -29,6 +29,9 @@ UPDATE u SET id = 2 WHERE k = 1;
 DELETE FROM t WHERE k IN (SELECT k FROM u);
 SELECT a FROM l;
 SELECT count(*) FROM t JOIN u ON t.k = u.k;
+SELECT citus_move_shard_placement(102008, 1, 1);
+SELECT citus_move_shard_placement(102008, 2, 1);
+SELECT citus_move_shard_placement(7, 1, 2);
 COPY t FROM STDIN;
 1
 \.
@@ -39,7 +42,7 @@ COPY r FROM STDIN;
 INSERT INTO t VALUES (3, 30), (1, 11);
 UPDATE t SET v = v + 9223372036854775807;
 SELECT 1 FROM t a, t b, t c, t d, t e, t f, t g, t h, t i;
-SELECT rebalance_table_shards();
+SELECT citus_move_shard_placement(102008, 1, 3);
 SELECT t.k FROM t JOIN u ON t.v = u.w;
 SELECT t.k FROM t, u;
 SELECT t.k FROM t LEFT JOIN u ON t.v = u.w;

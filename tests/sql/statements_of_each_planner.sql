@@ -1,4 +1,4 @@
--- Statements of each planner, over empty tables, and those that aren't built.
+-- Statements of each planner, over empty tables, and moves.
 
 -- Two distributed tables, and one that is not.
 CREATE TABLE sales (tenant bigint, id bigint, price bigint, quantity integer, note text, PRIMARY KEY (tenant, id));

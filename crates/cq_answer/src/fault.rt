@@ -1,4 +1,4 @@
-use cq_tree::Unsupported;
+use cq_tree::{Unsupported, Who};
 use cq_value::Text;
 
 /// What a limit is on.
@@ -125,8 +125,31 @@ pub enum Fault {
         before: u64,
         after: u64,
     },
+    /// 20: the same, of a store that was to take the shard's rows in a move: it is retired, and in no worker's list any more.
+    Retired {
+        node: u32,
+        shard: u64,
+        before: u64,
+        after: u64,
+    },
+    /// 21: a move of the group is in flight, which this statement began.
+    Moving {
+        by: Who,
+    },
+    /// 22: the group is on this node, to which it would be moved.
+    SameNode {
+        node: u32,
+    },
+    /// 23: the group is on this node, and not on the one from which it would be moved.
+    NotThere {
+        node: u32,
+    },
     /// 24: want of memory.
     Memory,
+    /// 25: no distributed table has a shard of this id.
+    NoShard {
+        shard: u64,
+    },
     /// 26: the node has so many spare stores, which are too few for those that are needed.
     NoRoom {
         node: u32,
@@ -156,6 +179,10 @@ pub enum Fault {
     Limit {
         what: What,
         number: u64,
+    },
+    /// 34: the run doesn't use a node of this number.
+    NoNode {
+        node: u32,
     },
     /// U1 to U6: no distributed plan takes the statement.
     Unsupported(Unsupported),

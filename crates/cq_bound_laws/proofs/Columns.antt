@@ -17,6 +17,7 @@ use Rattle.cq_catalog.specs.declared.error.CatalogError.TheVariants.{UnknownColu
 use Rattle.cq_catalog.specs.declared.info.Place.{Place}
 use Rattle.cq_catalog.specs.declared.info.Place.TheVariants.{Local, Distributed, Reference}
 use Rattle.cq_catalog.specs.declared.info.TableInfo.{TableInfo}
+use Rattle.cq_tree.specs.declared.journal.Who.{Who}
 use Rattle.cq_tree.specs.declared.statement.Statement.{Statement}
 use Rattle.cq_tree.specs.declared.statement.Statement.TheVariants as statement
 use Rattle.cq_answer.specs.declared.answer.Answer.{Answer}
@@ -30,7 +31,8 @@ use Rattle.cq_journal.specs.Records.{Journal}
 use Rattle.cq_history.specs.Run.{Run, Rules, Environment, first, after, environment_from}
 use Rattle.cq_history.specs.Standing.{View, Yields, Runs, RunsUnless, distribution_fault}
 use Rattle.cq_history.specs.Deeds.{Deed, Does, in_deed}
-use Rattle.cq_history.specs.Log.{AllDoneFrom}
+use Rattle.cq_history.specs.Log.{who_of, AllDoneFrom}
+use Rattle.cq_history.proofs.Moving.{failed_keeps_catalog}
 use Rattle.cq_bound_laws.specs.Laws.{HasColumns, ColumnsStand}
 
 -- ---- lists of tables
@@ -119,18 +121,18 @@ none_before : (o : Option CatalogError) (more : List (Option Fault)) → first_o
 none_before None more h = refl
 none_before (Some x) more h = absurd (cc h)
 
-module _ (rules : Rules) (run : Run) (e : Environment) (d : Deed) (columns : HasColumns e.catalog) where
-  runs : (s : Statement) (a : Answer) → IsGiven a → Does rules run e d (Some s) a → Runs (rules.touched e.catalog s) run e (in_deed e.catalog d) s a
+module _ (rules : Rules) (run : Run) (e : Environment) (who : Who) (d : Deed) (columns : HasColumns e.catalog) where
+  runs : (s : Statement) (a : Answer) → IsGiven a → Does rules run e who d (Some s) a → Runs (rules.touched e.catalog s) run e (in_deed e.catalog d) s a
   runs s a g h = given_runs (rules.refusal e s) (rules.touched e.catalog s) run e (in_deed e.catalog d) s a g h.stands
 
-  after_distribution : (table column : List ℕ) (count : Option ℕ) (beside : With) (done : Answer → Type 0) (a : Answer) → IsGiven a → Yields (distribution_fault run e.catalog e.settings.shard_count table column count beside) done a →
+  after_distribution : (table column : List ℕ) (count : Option ℕ) (beside : With) (done : Answer → Type 0) (a : Answer) → IsGiven a → (nodes : ℕ → ℕ) → Yields (distribution_fault run e.catalog e.retired nodes e.settings.shard_count table column count beside) done a →
       HasColumns (distributed_by e.catalog (decision_of e.catalog table column count beside e.settings.shard_count))
-  after_distribution table column count beside done a g y =
+  after_distribution table column count beside done a g nodes y =
       distributed e.catalog columns table column count beside e.settings.shard_count (none_before (distribution_refusal e.catalog table column count beside e.settings.shard_count) _ (given_yields _ done a g y))
 
-  after_tag : (s : Statement) (t : Tag) → Does rules run e d (Some s) (answer.Tag t) → HasColumns (after e (Some s) (answer.Tag t)).catalog
+  after_tag : (s : Statement) (t : Tag) → Does rules run e who d (Some s) (answer.Tag t) → HasColumns (after e (Some s) (answer.Tag t)).catalog
   after_tag (statement.CreateTable name cs key) t h = created e.catalog columns name cs key
-  after_tag (statement.Distribute table column count beside) t h = after_distribution table column count beside _ (answer.Tag t) tt (runs (statement.Distribute table column count beside) (answer.Tag t) tt h).1
+  after_tag (statement.Distribute table column count beside) t h = let r = runs (statement.Distribute table column count beside) (answer.Tag t) tt h in after_distribution table column count beside _ (answer.Tag t) tt r.1 r.3
   after_tag (statement.Reference table) t h = referenced e.catalog columns table
   after_tag (statement.Setting which value) t h = columns
   after_tag (statement.Select q) t h = columns
@@ -141,10 +143,10 @@ module _ (rules : Rules) (run : Run) (e : Environment) (d : Deed) (columns : Has
   after_tag (statement.Rebalance by_size) t h = columns
   after_tag (statement.RebalancePlan by_size) t h = columns
 
-  after_table : (s : Statement) (names : _) (rows : _) → Does rules run e d (Some s) (answer.Table names rows) → HasColumns (after e (Some s) (answer.Table names rows)).catalog
+  after_table : (s : Statement) (names : _) (rows : _) → Does rules run e who d (Some s) (answer.Table names rows) → HasColumns (after e (Some s) (answer.Table names rows)).catalog
   after_table (statement.CreateTable name cs key) names rows h = created e.catalog columns name cs key
   after_table (statement.Distribute table column count beside) names rows h =
-      after_distribution table column count beside _ (answer.Table names rows) tt (runs (statement.Distribute table column count beside) (answer.Table names rows) tt h).1
+      let r = runs (statement.Distribute table column count beside) (answer.Table names rows) tt h in after_distribution table column count beside _ (answer.Table names rows) tt r.1 r.3
   after_table (statement.Reference table) names rows h = referenced e.catalog columns table
   after_table (statement.Setting which value) names rows h = columns
   after_table (statement.Select q) names rows h = columns
@@ -155,17 +157,17 @@ module _ (rules : Rules) (run : Run) (e : Environment) (d : Deed) (columns : Has
   after_table (statement.Rebalance by_size) names rows h = columns
   after_table (statement.RebalancePlan by_size) names rows h = columns
 
-  after_any : (bound : Option Statement) (a : Answer) → Does rules run e d bound a → HasColumns (after e bound a).catalog
+  after_any : (bound : Option Statement) (a : Answer) → Does rules run e who d bound a → HasColumns (after e bound a).catalog
   after_any None (answer.Tag t) h = columns
   after_any None (answer.Table names rows) h = columns
-  after_any bound (answer.Failed f) h = columns
+  after_any bound (answer.Failed f) h = subst HasColumns (sym (failed_keeps_catalog e bound f)) columns
   after_any (Some s) (answer.Tag t) h = after_tag s t h
   after_any (Some s) (answer.Table names rows) h = after_table s names rows h
 
 after_all : (rules : Rules) (run : Run) (e : Environment) (last : Contents) (journals : List Journal) (answers : List Answered) → AllDoneFrom rules run e last journals answers → HasColumns e.catalog → HasColumns (environment_from e answers).catalog
 after_all rules run e last journals [] done h = h
 after_all rules run e last journals (a ∷ more) done h =
-    after_all rules run (after e a.bound a.answer) last journals more done.2 (after_any rules run e done.0.0 h a.bound a.answer done.0.1)
+    after_all rules run (after e a.bound a.answer) last journals more done.2 (after_any rules run e (who_of a) done.0.0 h a.bound a.answer done.0.1)
 
 pub columns_stand : ColumnsStand
 columns_stand rules run e answers journals c =

@@ -1,8 +1,7 @@
--- The counts of faults account for the answers, as shards come and as groups are closed.
-use Rattle.std.proofs.Common.{◌≡◌, ℕ, zero, suc, ◌+◌, ◌-◌, ◌<◌, ◌≤◌, inl, inr, Bool, true, false, cond, List, [], ◌∷◌, ◌++◌, get_or, map, refl, sym, ap, subst, arith, Some, slice_get}
-use Rattle.std.specs.Prelude.{nat_eq, nat_le, nat_lt, ◌&&◌}
+-- The counts of faults account for the answers, as shards come.
+use Rattle.std.proofs.Common.{◌≡◌, ℕ, zero, suc, ◌+◌, ◌-◌, ◌≤◌, inl, inr, Bool, true, false, cond, List, [], ◌∷◌, ◌++◌, map, sym, ap, subst, arith, Some, slice_get}
+use Rattle.std.specs.Prelude.{nat_le, nat_lt, ◌&&◌}
 use Rattle.std.specs.List.{AllByRecursion, flat_map}
-use Rattle.std.proofs.lemmas.List.Elements.{recursion_from_All}
 use Rattle.cq_value.specs.declared.schema.Shape.{Shape}
 use Rattle.cq_tree.specs.declared.journal.Entry.{Entry}
 use Rattle.cq_answer.specs.declared.answer.Answer.{Answer}
@@ -12,17 +11,15 @@ use Rattle.cq_answer.specs.declared.fault.Fault.TheVariants as fault
 use Rattle.cq_catalog.specs.Contents.{Contents}
 use Rattle.cq_history.specs.Faults.{AccountsFor, NamesBelow}
 use Rattle.cq_history.proofs.Faults.{new_accounts}
+use Rattle.cq_history.proofs.Lists.{all_filtered, all_append, all_weaker}
+use Rattle.cq_journal.specs.declared.journal.Journal.{Journal}
 use Rattle.cq_store.specs.Stores.{StoreState}
-use Rattle.cq_store.specs.declared.worker.Worker.{Worker}
 use Rattle.cq_group.specs.declared.group.GroupTable.{GroupTable}
 use Rattle.cq_group.specs.declared.group.GroupState.{GroupState}
 use Rattle.cq_group.specs.Groups.{Outline, outline, outlines, entries_of, copies_of, stores_of, AreReplicasFrom, IsTableKept, IsKept}
-use Rattle.cq_cluster.specs.Cluster.{IsWaiting, AreWorkers}
-use Rattle.cq_cluster.specs.Closing.{all_stores, stores_at, HaveBack}
 use Rattle.cq_cluster.specs.Steps.{KeepShards, AreGone, more_at, nothing_more, AreOpened}
-use Rattle.cq_cluster.specs.Accounts.{AreAccounted, AllAccounted}
-use Rattle.cq_cluster.proofs.ListLaws.{there, got_more}
-use Rattle.cq_cluster.proofs.CatalogLaws.{all_append, all_weaker}
+use Rattle.cq_cluster.specs.Accounts.{moved_by, later_than, AreAccounted}
+use Rattle.cq_cluster.proofs.ListLaws.{got_more}
 
 -- ---- ids that answers name
 
@@ -45,10 +42,20 @@ from_at low first o n h each = by_place (nat_le first h && nat_lt h (first + n))
     by_place true = (each (h - first), tt)
     by_place false = tt
 
+-- ---- the answers since a group was moved
+
+-- what is true of all answers is true of the later ones
+pub later_all : (P : Answered → Type 0) (n : ℕ) (answers : List Answered) → AllByRecursion P answers → AllByRecursion P (later_than n answers)
+later_all P n answers = all_filtered P (λ (a : Answered). nat_lt n a.statement) answers
+
 module _ {X : Type 0} (state : X → StoreState) where
   -- each store accounts for the answers
   abbrev pub Account : List Answered → List X → Type 0
   Account answers stores = AllByRecursion (λ (x : X). AccountsFor answers (state x)) stores
+
+  -- each store of the group for those since it was moved
+  abbrev pub GroupAccounts : List Answered → GroupState X → Type 0
+  GroupAccounts answers g = Account (later_than (moved_by (entries_of g)) answers) (stores_of g)
 
   -- ---- the shards of a group's stores
 
@@ -86,9 +93,11 @@ module _ {X : Type 0} (state : X → StoreState) where
   gone_accounted c next more answers old new le from gone all = record {
     stores = λ h g s.
         let was = gone.each h g s in
-        subst (Account answers) (sym was.2.stores)
-        (all_append (λ (x : X). AccountsFor answers (state x)) (stores_of was.0) was.2.added (all.stores h was.0 was.1)
-        (new_account c answers was.2.added all.below (shards_from c.next_shard (more h) was.2.added was.2.shards (from h))));
+        let later = later_than (moved_by (entries_of g)) answers in
+        subst (Account later) (sym was.2.stores)
+        (all_append (λ (x : X). AccountsFor later (state x)) (stores_of was.0) was.2.added
+        (subst (λ (j : Journal). Account (later_than (moved_by j.entries.list) answers) (stores_of was.0)) (sym was.2.journal) (all.stores h was.0 was.1))
+        (new_account c later was.2.added (later_all (λ (a : Answered). NamesBelow c.next_shard a.answer) (moved_by (entries_of g)) answers all.below) (shards_from c.next_shard (more h) was.2.added was.2.shards (from h))));
     below = all_below c.next_shard next.next_shard le answers all.below;
   }
 
@@ -104,10 +113,10 @@ module _ {X : Type 0} (state : X → StoreState) where
     below = all.below;
   }
     where
-      empty : (g : GroupState X) → g.tables.items ≡ [] → Account answers (stores_of g)
-      empty g none = subst (λ (ts : List (GroupTable X)). Account answers (flat_map (λ (t : GroupTable X). t.stores.items) ts)) (sym none) tt
+      empty : (g : GroupState X) → g.tables.items ≡ [] → GroupAccounts answers g
+      empty g none = subst (λ (ts : List (GroupTable X)). Account (later_than (moved_by (entries_of g)) answers) (flat_map (λ (t : GroupTable X). t.stores.items) ts)) (sym none) tt
 
-      at_place : (gs : List (GroupState X)) (h : ℕ) → ((i : ℕ) (g : GroupState X) → slice_get gs i ≡ Some g → Account answers (stores_of g)) → (g : GroupState X) → slice_get (gs ++ opened) h ≡ Some g → Account answers (stores_of g)
+      at_place : (gs : List (GroupState X)) (h : ℕ) → ((i : ℕ) (g : GroupState X) → slice_get gs i ≡ Some g → GroupAccounts answers g) → (g : GroupState X) → slice_get (gs ++ opened) h ≡ Some g → GroupAccounts answers g
       at_place [] h each g s = empty g (fresh h g s).tables
       at_place (f ∷ fs) zero each g s = each 0 g s
       at_place (f ∷ fs) (suc h) each g s = at_place fs h (λ i k t. each (suc i) k t) g s
@@ -117,40 +126,11 @@ module _ {X : Type 0} (state : X → StoreState) where
       AreAccounted state next answers (old ++ g ∷ [])
   put_accounted c next answers old g le kept from all = record {
     stores = λ h f s. elim (got_more old g h f s) [
-      | inl p ↦ subst (λ (v : GroupState X). Account answers (stores_of v)) (sym p.1) own
+      | inl p ↦ subst (GroupAccounts answers) (sym p.1) own
       | inr p ↦ all.stores h f p
     ];
     below = all_below c.next_shard next.next_shard le answers all.below;
   }
     where
-      own : Account answers (stores_of g)
-      own = new_account c answers (stores_of g) all.below (shards_kept (λ n. c.next_shard ≤ n) g.node (copies_of g) (entries_of g) g.tables.items kept.tables from)
-
-  -- ---- groups that are closed
-
-  all_account : (answers : List Answered) (groups : List (GroupState X)) → ((i : ℕ) (g : GroupState X) → slice_get groups i ≡ Some g → Account answers (stores_of g)) → Account answers (all_stores groups)
-  all_account answers [] each = tt
-  all_account answers (g ∷ gs) each = all_append (λ (x : X). AccountsFor answers (state x)) (stores_of g) (all_stores gs) (each 0 g refl) (all_account answers gs (λ i f s. each (suc i) f s))
-
-  -- those of a node
-  some_account : (P : X → Type 0) (place : ℕ) (xs : List X) → AllByRecursion P xs → AllByRecursion P (stores_at state place xs)
-  some_account P place [] all = tt
-  some_account P place (x ∷ xs) all = all_append P (cond (nat_eq (state x).node (place + 1)) (x ∷ []) []) (stores_at state place xs) (by_node (nat_eq (state x).node (place + 1))) (some_account P place xs all.1)
-    where
-      by_node : (b : Bool) → AllByRecursion P (cond b (x ∷ []) [])
-      by_node true = (all.0, tt)
-      by_node false = tt
-
-  pub final_accounted : (nodes : ℕ) (c : Contents) (answers : List Answered) (entry first workers : List (Worker X)) (groups : List (GroupState X)) → AreWorkers state nodes entry groups first → HaveBack state (all_stores groups) first workers →
-      AreAccounted state c answers groups → AllAccounted state nodes answers workers
-  final_accounted nodes c answers entry first workers groups now back all place w h s =
-      let v = get_or first place w in
-      let before = there first workers place w w back.same_length s in
-      let is = back.used place v w before s in
-      let P : X → Type 0 = λ x. 0 < (state x).shard → AccountsFor answers (state x) in
-      let own = some_account (λ (x : X). AccountsFor answers (state x)) place (all_stores groups) (all_account answers groups all.stores) in
-      let spare = recursion_from_All (λ (x : X). IsWaiting (place + 1) (state x)) v.stores.items (now.used place v h before).stores in
-      subst (AllByRecursion P) (sym is.stores)
-      (all_append P v.stores.items (stores_at state place (all_stores groups))
-      (all_weaker (λ (x : X). IsWaiting (place + 1) (state x)) P (λ x wait some. absurd (let none = wait.spare.spare in omega (arith, none, some))) v.stores.items spare)
-      (all_weaker (λ (x : X). AccountsFor answers (state x)) P (λ x accounts some. accounts) (stores_at state place (all_stores groups)) own))
+      own : GroupAccounts answers g
+      own = new_account c (later_than (moved_by (entries_of g)) answers) (stores_of g) (later_all (λ (a : Answered). NamesBelow c.next_shard a.answer) (moved_by (entries_of g)) answers all.below) (shards_kept (λ n. c.next_shard ≤ n) g.node (copies_of g) (entries_of g) g.tables.items kept.tables from)

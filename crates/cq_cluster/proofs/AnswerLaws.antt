@@ -1,11 +1,12 @@
 -- The counts of faults account for the answers, as statements are answered: no two stores of a cluster's groups have one node and shard id.
 use Rattle.std.proofs.Common.{◌≡◌, ◌≢◌, ◌⊎◌, inl, inr, ℕ, ◌+◌, ◌<◌, ◌≤◌, false, cond, List, [], ◌∷◌, ◌++◌, length, get_or, map, refl, sym, ap, subst, ◌∙◌, arith, Some, None, Option, slice_get}
-use Rattle.std.specs.Prelude.{nat_eq, ⊤}
+use Rattle.std.specs.Prelude.{nat_eq, nat_lt, ⊤}
 use Rattle.std.specs.List.{AllByRecursion, AllZip, flat_map}
+use Rattle.std.proofs.lemmas.Bool.{le-ltb, lt-ltb}
 use Rattle.std.proofs.lemmas.Bool.Decides.{eqb_tells}
-use Rattle.std.proofs.lemmas.List.Elements.{recursion_from_All}
 use Rattle.cq_value.specs.declared.schema.Shape.{Shape}
 use Rattle.cq_tree.specs.declared.journal.Entry.{Entry}
+use Rattle.cq_tree.specs.declared.journal.Who.{Who}
 use Rattle.cq_answer.specs.declared.answer.Answer.{Answer}
 use Rattle.cq_answer.specs.declared.answer.Answer.TheVariants as answer
 use Rattle.cq_answer.specs.declared.answered.Answered.{Answered}
@@ -17,26 +18,22 @@ use Rattle.cq_catalog.specs.declared.info.Colocation.{Colocation}
 use Rattle.cq_catalog.specs.declared.info.Place.{Place}
 use Rattle.cq_catalog.specs.declared.info.Place.TheVariants.{Local, Distributed, Reference}
 use Rattle.cq_catalog.specs.declared.info.TableInfo.{TableInfo}
-use Rattle.cq_journal.specs.Records.{Journal}
-use Rattle.cq_journal.specs.Stations.{node_of}
-use Rattle.cq_history.specs.Faults.{IsShardIn, IsOnNode, range_in, AccountsFor, NamesBelow}
+use Rattle.cq_history.specs.Faults.{IsShardIn, range_in, AccountsFor, NamesBelow}
 use Rattle.cq_history.specs.Laws.{StoreGoesOn}
 use Rattle.cq_history.proofs.Faults.{other_accounts, fault_accounts}
+use Rattle.cq_history.proofs.Lists.{two_ways, all_at, all_append, all_more, all_weaker, filter_none}
 use Rattle.cq_store.specs.Stores.{StoreState}
 use Rattle.cq_group.specs.declared.group.GroupTable.{GroupTable}
 use Rattle.cq_group.specs.declared.group.GroupState.{GroupState}
-use Rattle.cq_group.specs.Groups.{Outline, outline, outlines, entries_of, journal_of, copies_of, stores_of, shape_at, AreReplicasFrom, IsTableKept, AreDistinct}
+use Rattle.cq_group.specs.Groups.{Outline, outline, outlines, entries_of, copies_of, stores_of, shape_at, AreReplicasFrom, IsTableKept, AreDistinct}
 use Rattle.cq_group.specs.Calls.{GoesOn, Lifted, SomeZip, Failed}
 use Rattle.cq_group.specs.Resting.{GoOn, HasFailedAt}
 use Rattle.cq_cluster.specs.declared.cluster.Cluster.{Cluster}
 use Rattle.cq_cluster.specs.Cluster.{IsShardOf, IsSound}
-use Rattle.cq_cluster.specs.Accounts.{AreAccounted, NamesNone, NamesFailed, AnswerIsAccounted, OtherIsAccounted}
+use Rattle.cq_cluster.specs.Accounts.{moved_by, later_than, AreAccounted, IsNext, StayMoved, NamesNone, NamesFailed, AnswerIsAccounted, OtherIsAccounted}
 use Rattle.cq_cluster.proofs.ListLaws.{there, only_item}
-use Rattle.cq_cluster.proofs.CatalogLaws.{all_append, all_weaker}
-use Rattle.cq_cluster.proofs.AccountLaws.{Account, table_shards}
-use Rattle.cq_cluster.proofs.GroupLaws.{one_of, rests}
-use Rattle.cq_cluster.proofs.JournalLaws.{journal_at}
-use Rattle.cq_cluster.proofs.EndingLaws.{stores_on_node, stores_used}
+use Rattle.cq_cluster.proofs.AccountLaws.{Account, GroupAccounts, table_shards}
+use Rattle.cq_cluster.proofs.GroupLaws.{one_of}
 
 -- ---- which table and which group a shard id is of
 
@@ -276,60 +273,121 @@ module _ {X : Type 0} (state : X → StoreState) (answers : List Answered) (a : 
       )
     ]
 
-  module _ (cl : Cluster X) (new : List (GroupState X)) (s : IsSound state cl) (go : GoOn state cl.groups.items new) (all : AreAccounted state cl.catalog answers cl.groups.items) where
-    -- the groups in which no store is named
-    group_others : (group : ℕ) (g h : GroupState X) → slice_get cl.groups.items group ≡ Some g → slice_get new group ≡ Some h → AllByRecursion (λ (x : X). range_in (state x).node (state x).shard a.answer ≡ []) (stores_of g) →
-        Account state (answers ++ a ∷ []) (stores_of h)
-    group_others group g h at now none = others_account (stores_of g) (stores_of h) (go.each group g h at now).0.stores none (all.stores group g at)
+-- ---- the answers since a group was moved
 
-    module _ (node shard before after : ℕ) (is : a.answer ≡ answer.Failed (fault.Worker node shard before after)) (place : ℕ) (failed : HasFailedAt state place node shard before after cl.groups.items new) where
-      pub named_in : IsShardIn cl.catalog place shard
-      named_in = failed_shard state node shard before after (IsShardIn cl.catalog place) (stores_of failed.was) (stores_of failed.is) failed.failed (shards_in_group state cl place failed.was s failed.there)
+-- the next answer is a later one, where the group was moved before it
+pub later_more : (n : ℕ) (answers : List Answered) (a : Answered) → n < a.statement → later_than n (answers ++ a ∷ []) ≡ later_than n answers ++ a ∷ []
+later_more n [] a h = rw (lt-ltb n a.statement h) refl
+later_more n (b ∷ answers) a h = elim (two_ways (nat_lt n b.statement)) [
+  | inl y ↦ rw y (ap (λ (v : List Answered). b ∷ v) (later_more n answers a h))
+  | inr z ↦ rw z (later_more n answers a h)
+]
 
-      group_accounts : (group : ℕ) (g h : GroupState X) → slice_get cl.groups.items group ≡ Some g → slice_get new group ≡ Some h → Account state (answers ++ a ∷ []) (stores_of h)
-      group_accounts group g h at now = elim (eqb_tells group place) [
+-- no answer is later than the statement of the next one
+pub later_none : {X : Type 0} (who : Who) (a : Answered) (answers : List Answered) (groups : List (GroupState X)) → IsNext who a answers groups → later_than who.statement (answers ++ a ∷ []) ≡ []
+later_none who a answers groups next =
+    filter_none (λ (b : Answered). nat_lt who.statement b.statement) (answers ++ a ∷ [])
+    (all_weaker (λ (b : Answered). b.statement ≤ who.statement) (λ (b : Answered). nat_lt who.statement b.statement ≡ false) (λ b le. le-ltb who.statement b.statement le) (answers ++ a ∷ [])
+    (all_more (λ (b : Answered). b.statement ≤ who.statement) answers a
+    (all_weaker (λ (b : Answered). b.statement < who.statement) (λ (b : Answered). b.statement ≤ who.statement) (λ b low. omega (arith, low)) answers next.answered) (let is = next.is in omega (arith, is))))
+
+module _ {X : Type 0} (state : X → StoreState) where
+  -- each count accounts for no answers
+  pub account_none : (xs : List X) → AllByRecursion (λ (x : X). AccountsFor [] (state x)) xs
+  account_none [] = tt
+  account_none (x ∷ xs) = (record { climbs = omega arith; steady = λ k. refl }, account_none xs)
+
+  -- the next answer comes after the last move of a group that this statement didn't move
+  next_later : (who : Who) (a : Answered) (answers : List Answered) (groups : List (GroupState X)) (i : ℕ) (g : GroupState X) → IsNext who a answers groups → slice_get groups i ≡ Some g → moved_by (entries_of g) ≢ who.statement →
+      later_than (moved_by (entries_of g)) (answers ++ a ∷ []) ≡ later_than (moved_by (entries_of g)) answers ++ a ∷ []
+  next_later who a answers groups i g next at apart =
+      let low = all_at (λ (v : GroupState X). moved_by (entries_of v) ≤ who.statement) groups i g next.moved at in
+      later_more (moved_by (entries_of g)) answers a (omega (arith, low, next.is, apart))
+
+  -- a group's stores, which account for one more answer
+  group_more : (who : Who) (a : Answered) (answers : List Answered) (groups : List (GroupState X)) (i : ℕ) (g h : GroupState X) → IsNext who a answers groups → slice_get groups i ≡ Some g → moved_by (entries_of h) ≡ moved_by (entries_of g) →
+      Account state (later_than (moved_by (entries_of g)) answers ++ a ∷ []) (stores_of h) → GroupAccounts state (answers ++ a ∷ []) h
+  group_more who a answers groups i g h next at stay account =
+      elim (eqb_tells (moved_by (entries_of g)) who.statement) [
         | inl y ↦
-            let here : h ≡ failed.is = some_is (sym now ∙ ap (slice_get new) y.1 ∙ failed.here) in
-            subst (λ (v : GroupState X). Account state (answers ++ a ∷ []) (stores_of v)) (sym here)
-            (failing_account node shard before after is (stores_of failed.was) (stores_of failed.is) (go.each place failed.was failed.is failed.there failed.here).0.stores (keyed_group state cl place failed.was s failed.there) failed.failed
-            (all.stores place failed.was failed.there))
-        | inr z ↦ group_others group g h at now (all_weaker (λ (x : X). IsShardIn cl.catalog group (state x).shard) (λ (x : X). range_in (state x).node (state x).shard a.answer ≡ [])
-            (λ x own. other_named node shard before after is (state x) (λ p q. z.1 (one_group cl.catalog group place shard s.whole (subst (IsShardIn cl.catalog group) (sym q) own) named_in)))
-            (stores_of g) (shards_in_group state cl group g s at))
+            let no : later_than (moved_by (entries_of h)) (answers ++ a ∷ []) ≡ [] = ap (λ n. later_than n (answers ++ a ∷ [])) (stay ∙ y.1) ∙ later_none who a answers groups next in
+            subst (λ (v : List Answered). Account state v (stores_of h)) (sym no) (account_none (stores_of h))
+        | inr z ↦ subst (λ (v : List Answered). Account state v (stores_of h)) (sym (ap (λ n. later_than n (answers ++ a ∷ [])) stay ∙ next_later who a answers groups i g next at z.1)) account
       ]
-        where
-          some_is : {f g : GroupState X} → Some f ≡ Some g → f ≡ g
-          some_is e = cc
 
-    none_named : NamesNone a.answer → (xs : List X) → AllByRecursion (λ (x : X). range_in (state x).node (state x).shard a.answer ≡ []) xs
-    none_named none [] = tt
-    none_named none (x ∷ xs) = (not_named a.answer (state x) (λ n m b f e p q. none n m b f e), none_named none xs)
+module _ {X : Type 0} (state : X → StoreState) (answers : List Answered) (a : Answered) (cl : Cluster X) (new : List (GroupState X)) (who : Who) (s : IsSound state cl) (go : GoOn state cl.groups.items new) (stay : StayMoved cl.groups.items new)
+    (next : IsNext who a answers cl.groups.items) (all : AreAccounted state cl.catalog answers cl.groups.items) where
+  -- the groups in which no store is named
+  group_others : (group : ℕ) (g h : GroupState X) → slice_get cl.groups.items group ≡ Some g → slice_get new group ≡ Some h → AllByRecursion (λ (x : X). range_in (state x).node (state x).shard a.answer ≡ []) (stores_of g) →
+      GroupAccounts state (answers ++ a ∷ []) h
+  group_others group g h at now none =
+      group_more state who a answers cl.groups.items group g h next at (stay group g h at now)
+      (others_account state (later_than (moved_by (entries_of g)) answers) a (stores_of g) (stores_of h) (go.each group g h at now).0.stores none (all.stores group g at))
 
-    accounts : NamesFailed state a.answer cl.groups.items new → AreAccounted state cl.catalog (answers ++ a ∷ []) new
-    accounts named = record {
-      stores = λ group h now.
-          let at = there cl.groups.items new group h h go.count now in
-          let g = get_or cl.groups.items group h in
-          elim (is_fault a.answer) [
-            | inl f ↦ (let failed = named f.0 f.1 f.2 f.3 f.4 in group_accounts f.0 f.1 f.2 f.3 f.4 failed.0 failed.1 group g h at now)
-            | inr none ↦ group_others group g h at now (none_named none (stores_of g))
-          ];
-      below = all_append (λ (b : Answered). NamesBelow cl.catalog.next_shard b.answer) answers (a ∷ []) all.below (
-        names_below cl.catalog.next_shard a.answer (λ n m b f e. let failed = named n m b f e in given_out cl.catalog failed.0 m s.whole (named_in n m b f e failed.0 failed.1)),
-        tt,
-      );
-    }
+  module _ (node shard before after : ℕ) (is : a.answer ≡ answer.Failed (fault.Worker node shard before after)) (place : ℕ) (failed : HasFailedAt state place node shard before after cl.groups.items new) where
+    pub named_in : IsShardIn cl.catalog place shard
+    named_in = failed_shard state node shard before after (IsShardIn cl.catalog place) (stores_of failed.was) (stores_of failed.is) failed.failed (shards_in_group state cl place failed.was s failed.there)
+
+    failing_group : GroupAccounts state (answers ++ a ∷ []) failed.is
+    failing_group =
+        group_more state who a answers cl.groups.items place failed.was failed.is next failed.there (stay place failed.was failed.is failed.there failed.here)
+        (failing_account state (later_than (moved_by (entries_of failed.was)) answers) a node shard before after is (stores_of failed.was) (stores_of failed.is)
+        (go.each place failed.was failed.is failed.there failed.here).0.stores (keyed_group state cl place failed.was s failed.there) failed.failed (all.stores place failed.was failed.there))
+
+    group_accounts : (group : ℕ) (g h : GroupState X) → slice_get cl.groups.items group ≡ Some g → slice_get new group ≡ Some h → GroupAccounts state (answers ++ a ∷ []) h
+    group_accounts group g h at now = elim (eqb_tells group place) [
+      | inl y ↦
+          let here : h ≡ failed.is = some_is (sym now ∙ ap (slice_get new) y.1 ∙ failed.here) in
+          subst (GroupAccounts state (answers ++ a ∷ [])) (sym here) failing_group
+      | inr z ↦ group_others group g h at now (all_weaker (λ (x : X). IsShardIn cl.catalog group (state x).shard) (λ (x : X). range_in (state x).node (state x).shard a.answer ≡ [])
+          (λ x own. other_named state answers a node shard before after is (state x) (λ p q. z.1 (one_group cl.catalog group place shard s.whole (subst (IsShardIn cl.catalog group) (sym q) own) named_in)))
+          (stores_of g) (shards_in_group state cl group g s at))
+    ]
+      where
+        some_is : {f g : GroupState X} → Some f ≡ Some g → f ≡ g
+        some_is e = cc
+
+  none_named : NamesNone a.answer → (xs : List X) → AllByRecursion (λ (x : X). range_in (state x).node (state x).shard a.answer ≡ []) xs
+  none_named none [] = tt
+  none_named none (x ∷ xs) = (not_named a.answer (state x) (λ n m b f e p q. none n m b f e), none_named none xs)
+
+  accounts : NamesFailed state a.answer cl.groups.items new → AreAccounted state cl.catalog (answers ++ a ∷ []) new
+  accounts named = record {
+    stores = λ group h now.
+        let at = there cl.groups.items new group h h go.count now in
+        let g = get_or cl.groups.items group h in
+        elim (is_fault a.answer) [
+          | inl f ↦ (let failed = named f.0 f.1 f.2 f.3 f.4 in group_accounts f.0 f.1 f.2 f.3 f.4 failed.0 failed.1 group g h at now)
+          | inr none ↦ group_others group g h at now (none_named none (stores_of g))
+        ];
+    below = all_append (λ (b : Answered). NamesBelow cl.catalog.next_shard b.answer) answers (a ∷ []) all.below (
+      names_below cl.catalog.next_shard a.answer (λ n m b f e. let failed = named n m b f e in given_out cl.catalog failed.0 m s.whole (named_in n m b f e failed.0 failed.1)),
+      tt,
+    );
+  }
 
 pub answer_is_accounted : {X : Type 0} (state : X → StoreState) → AnswerIsAccounted state
-answer_is_accounted state cl new answers a s go named all = accounts state answers a cl new s go all named
+answer_is_accounted state cl new who answers a s go stay named next all = accounts state answers a cl new who s go stay next all named
 
 -- ---- an answer that names no store
 
+module _ {X : Type 0} (state : X → StoreState) (answers : List Answered) (a : Answered) (none : NamesNone a.answer) where
+  -- a group as it was
+  pub same_group : (who : Who) (groups : List (GroupState X)) (i : ℕ) (g : GroupState X) → IsNext who a answers groups → slice_get groups i ≡ Some g → GroupAccounts state answers g → GroupAccounts state (answers ++ a ∷ []) g
+  same_group who groups i g next at account =
+      let later = later_than (moved_by (entries_of g)) answers in
+      group_more state who a answers groups i g g next at refl
+      (all_weaker (λ (x : X). AccountsFor later (state x)) (λ (x : X). AccountsFor (later ++ a ∷ []) (state x))
+      (λ x accounts. other_accounts later a (state x) (state x) stays (not_named a.answer (state x) (λ n m b f e p q. none n m b f e)) accounts) (stores_of g) account)
+    where
+      stays : {s : StoreState} → StoreGoesOn s s
+      stays = record { node = refl; shard = refl; steady = refl; counts = omega arith }
+
+  pub still_below : (c : Contents) → AllByRecursion (λ (b : Answered). NamesBelow c.next_shard b.answer) answers → AllByRecursion (λ (b : Answered). NamesBelow c.next_shard b.answer) (answers ++ a ∷ [])
+  still_below c below = all_append (λ (b : Answered). NamesBelow c.next_shard b.answer) answers (a ∷ []) below (names_below c.next_shard a.answer (λ n m b f e. absurd (none n m b f e)), tt)
+
 pub other_is_accounted : {X : Type 0} (state : X → StoreState) → OtherIsAccounted state
-other_is_accounted {X} state c groups answers a none all = record {
-  stores = λ i g at. all_weaker (λ (x : X). AccountsFor answers (state x)) (λ (x : X). AccountsFor (answers ++ a ∷ []) (state x)) (λ x accounts. other_accounts answers a (state x) (state x) stays (not_named a.answer (state x) (λ n m b f e p q. none n m b f e)) accounts) (stores_of g) (all.stores i g at);
-  below = all_append (λ (b : Answered). NamesBelow c.next_shard b.answer) answers (a ∷ []) all.below (names_below c.next_shard a.answer (λ n m b f e. absurd (none n m b f e)), tt);
+other_is_accounted state c groups who answers a none next all = record {
+  stores = λ i g at. same_group state answers a none who groups i g next at (all.stores i g at);
+  below = still_below state answers a none c all.below;
 }
-  where
-    stays : {s : StoreState} → StoreGoesOn s s
-    stays = record { node = refl; shard = refl; steady = refl; counts = omega arith }

@@ -3,13 +3,14 @@ use Rattle.std.proofs.Common.{◌≡◌, ◌≢◌, ◌⊎◌, inl, inr, ℕ, ze
 use Rattle.std.specs.Prelude.{nat_eq, nat_le, nat_lt}
 use Rattle.std.specs.List.{AllByRecursion}
 use Rattle.std.proofs.lemmas.Bool.{cases_lt}
+use Rattle.std.proofs.lemmas.Nat.{mod_below}
 use Rattle.std.proofs.lemmas.Bool.Decides.{nat_tests, eqb_tells}
 use Rattle.std.proofs.lemmas.Option.{slice_get_within}
 use Rattle.cq_value.specs.declared.schema.Kind.{Kind}
 use Rattle.cq_value.specs.declared.schema.Shape.{Shape}
 use Rattle.cq_journal.specs.Stations.{node_of}
 use Rattle.cq_journal.specs.declared.journal.Journal.{Journal}
-use Rattle.cq_catalog.specs.Contents.{Contents, place_in, with_place, shape_of, count_in}
+use Rattle.cq_catalog.specs.Contents.{Contents, place_in, with_place, shape_of}
 use Rattle.cq_catalog.specs.Distribution.{spread, with_colocation}
 use Rattle.cq_catalog.specs.Placement.{place_at}
 use Rattle.cq_catalog.specs.Ranges.{ends}
@@ -20,12 +21,11 @@ use Rattle.cq_catalog.specs.declared.info.Place.TheVariants.{Local, Distributed,
 use Rattle.cq_catalog.specs.declared.info.TableInfo.{TableInfo}
 use Rattle.cq_store.specs.Stores.{StoreState}
 use Rattle.cq_planning.specs.Database.{shape_in}
-use Rattle.cq_cluster.specs.Room.{shards_on, taken_by, taken_in, taken}
 use Rattle.cq_group.specs.declared.group.GroupState.{GroupState}
 use Rattle.cq_group.specs.Groups.{IsKept, IsQuiet, Outline, outlines, journal_of, shape_at, stores_of}
-use Rattle.cq_cluster.specs.Cluster.{IsShardOf, IsReferenceGroup, IsCovered, IsReferenced, held, everywhere, AreGroups}
+use Rattle.cq_cluster.specs.Cluster.{IsShardOf, IsReferenceGroup, IsCovered, IsReferenced, IsUsed, home_of, held, everywhere, AreGroups}
 use Rattle.cq_cluster.specs.Steps.{Goes, AreGone, more_at, nothing_more, AreOpened}
-use Rattle.cq_cluster.proofs.GoneLaws.{goes_placed, placed_empty, held_gone, everywhere_gone}
+use Rattle.cq_cluster.proofs.GoneLaws.{goes_placed, goes_still, placed_empty, still_empty}
 
 -- ---- lists
 
@@ -103,6 +103,10 @@ placed_group c table group shard whole p = by_table (slice_get c.tables table) r
     by_table None s q = cc
     by_table (Some t) s q = (subst (IsPlaced c) q (whole.tables table t s).placed).0
 
+-- groups are opened on nodes that the run uses
+pub used_home : (nodes : ℕ) → 0 < nodes → (i : ℕ) → IsUsed nodes (home_of nodes i)
+used_home nodes some i = let low = mod_below i nodes some in record { some = omega arith; few = omega (arith, low) }
+
 -- what covers a group, in a catalogue that keeps it
 pub covered_again : (c next : Contents) (group : ℕ) → ((k : ℕ) (co : Colocation) → slice_get c.colocations k ≡ Some co → slice_get next.colocations k ≡ Some co) →
     ((table shard : ℕ) → place_at c table ≡ Reference group shard → place_at next table ≡ Reference group shard) → IsCovered c group ⊎ IsReferenced c group → IsCovered next group ⊎ IsReferenced next group
@@ -143,29 +147,17 @@ module _ {X : Type 0} (state : X → StoreState) (nodes : ℕ) where
           placed = goes_placed state was.0 g was.2 at.placed;
           number = ap (λ (j : Journal). j.group) was.2.journal ∙ at.number;
           opening = ap (λ (j : Journal). j.opening) was.2.journal ∙ at.opening;
-          node = was.2.node ∙ at.node;
+          node = subst (IsUsed nodes) (sym was.2.node) at.node;
+          still = goes_still state was.0 g was.2 at.still;
           shards = subst (AllByRecursion (IsShardOf c colocation i)) (sym same) at.shards;
           complete = λ table a first_shard p. subst (λ (os : List Outline). IsSome (shape_at os table)) (sym same) (at.complete table a first_shard p);
         };
     references = λ table group shard g placed s. let was = gone.each group g s in reference_goes c c table group shard was.0 g (all.references table group shard was.0 placed was.1) was.2 refl;
     covered = all.covered;
     apart = all.apart;
-    held = λ place h. let own = held_gone state place old new gone in let all_nodes = everywhere_gone state nothing_more old new gone (λ h g s node. refl) in omega (arith, own, all_nodes, all.held place h);
   }
 
   -- ---- a new co-location group
-
-  placed_below : (c : Contents) (ts : List TableInfo) → ((i : ℕ) (t : TableInfo) → slice_get ts i ≡ Some t → IsPlaced c t.place) → (g : Colocation) (place : ℕ) → taken_in nodes (c.colocations ++ g ∷ []) place ts ≡ taken_in nodes c.colocations place ts
-  placed_below c [] placed g place = refl
-  placed_below c (t ∷ ts) placed g place = both (by_place t.place (placed 0 t refl)) (placed_below c ts (λ i u s. placed (suc i) u s) g place)
-    where
-      both : {a b x y : ℕ} → a ≡ b → x ≡ y → a + x ≡ b + y
-      both e f = omega (arith, e, f)
-
-      by_place : (p : Place) → IsPlaced c p → taken_by nodes (c.colocations ++ g ∷ []) place p ≡ taken_by nodes c.colocations place p
-      by_place Local h = refl
-      by_place (Reference group shard) h = refl
-      by_place (Distributed at colocation first_shard) h = ap (λ (o : Option Colocation). shards_on nodes (count_in o) place) (before_more c.colocations (g ∷ []) colocation h.0)
 
   pub held_empty : (place first : ℕ) (old opened : List (GroupState X)) → AreOpened state nodes first opened → held place (old ++ opened) ≡ held place old
   held_empty place first [] opened all = none 0 opened (λ i g s. (all i g s).tables)
@@ -195,9 +187,9 @@ module _ {X : Type 0} (state : X → StoreState) (nodes : ℕ) where
           rw no (by_node (nat_eq g.node 0) (none gs (λ i h s. empty (suc i) h s)))
   everywhere_empty first (g ∷ gs) opened all = ap (λ n. cond (nat_eq g.node 0) (length (outlines g)) 0 + n) (everywhere_empty first gs opened all)
 
-  pub groups_opened : (c : Contents) (kind : Kind) (count : ℕ) (joinable : Bool) (old opened : List (GroupState X)) → IsWhole c → AreGroups state nodes c old → length opened ≡ count → AreOpened state nodes c.groups opened →
+  pub groups_opened : 0 < nodes → (c : Contents) (kind : Kind) (count : ℕ) (joinable : Bool) (old opened : List (GroupState X)) → IsWhole c → AreGroups state nodes c old → length opened ≡ count → AreOpened state nodes c.groups opened →
       AreGroups state nodes (with_colocation c kind count joinable) (old ++ opened)
-  groups_opened c kind count joinable old opened whole all number fresh =
+  groups_opened some c kind count joinable old opened whole all number fresh =
       let more : Colocation = record { kind = kind; count = count; first_group = c.groups; joinable = joinable; ends = ends count } in
       record {
         count = omega (arith, length-append old opened, all.count, number);
@@ -206,7 +198,7 @@ module _ {X : Type 0} (state : X → StoreState) (nodes : ℕ) where
               let cut = whole.cut colocation co before in
               let g_was : slice_get old (co.first_group + i) ≡ Some g = sym (before_more old opened (co.first_group + i) (omega (arith, cut.within, within, all.count))) ∙ s in
               let at = all.each colocation i co g before within g_was in
-              record { kept = at.kept; quiet = at.quiet; placed = at.placed; number = at.number; opening = at.opening; node = at.node; shards = at.shards; complete = at.complete }
+              record { kept = at.kept; quiet = at.quiet; placed = at.placed; number = at.number; opening = at.opening; node = at.node; still = at.still; shards = at.shards; complete = at.complete }
           | inr new ↦
               let start : co.first_group ≡ c.groups = sym (ap (λ (x : Colocation). x.first_group) new.1) in
               let index : co.first_group + i ≡ length old + i = omega (arith, start, all.count) in
@@ -218,7 +210,8 @@ module _ {X : Type 0} (state : X → StoreState) (nodes : ℕ) where
                 placed = placed_empty g at.entries (at.opening ∙ sym at.node);
                 number = omega (arith, at.number, start);
                 opening = at.opening;
-                node = at.node;
+                node = subst (IsUsed nodes) (sym at.node) (used_home nodes some i);
+                still = still_empty g at.entries;
                 shards = rw at.tables tt;
                 complete = λ table a first_shard p. absurd (beyond table a colocation first_shard p new.0);
               }
@@ -242,11 +235,6 @@ module _ {X : Type 0} (state : X → StoreState) (nodes : ℕ) where
             | inr q ↦ p.0 ∙ sym q.0
           ]
         ];
-        held = λ place h.
-            let own = held_empty place c.groups old opened fresh in
-            let all_nodes = everywhere_empty c.groups old opened fresh in
-            let same = placed_below c c.tables (λ i t s. (whole.tables i t s).placed) more place in
-            omega (arith, own, all_nodes, all.held place h, same);
       }
     where
       beyond : (table a colocation first_shard : ℕ) → place_at c table ≡ Distributed a colocation first_shard → colocation ≡ length c.colocations → ⊥
@@ -277,13 +265,6 @@ same_shape (t ∷ ts) zero (suc i) p = refl
 same_shape (t ∷ ts) (suc n) zero p = refl
 same_shape (t ∷ ts) (suc n) (suc i) p = same_shape ts n i p
 
-pub taken_placed : (nodes : ℕ) (cs : List Colocation) (place : ℕ) (ts : List TableInfo) (n : ℕ) (p : Place) (t : TableInfo) → slice_get ts n ≡ Some t → t.place ≡ Local → taken_in nodes cs place (with_place ts n p) ≡ taken_in nodes cs place ts + taken_by nodes cs place p
-taken_placed nodes cs place [] n p t s local = cc
-taken_placed nodes cs place (u ∷ ts) zero p t s local =
-    let none : taken_by nodes cs place u.place ≡ 0 = ap (taken_by nodes cs place) (ap (λ (v : TableInfo). v.place) (some_is s) ∙ local) in
-    omega (arith, none)
-taken_placed nodes cs place (u ∷ ts) (suc n) p t s local = let further = taken_placed nodes cs place ts n p t s local in omega (arith, further)
-
 two_ways : (b : Bool) → (b ≡ true) ⊎ (b ≡ false)
 two_ways true = inl refl
 two_ways false = inr refl
@@ -311,9 +292,8 @@ more_outside first o n h out = elim (two_ways (nat_le first h)) [
 module _ {X : Type 0} (state : X → StoreState) (nodes : ℕ) where
   -- the table is there and local, and its shards are added to the groups of the co-location group
   pub groups_spread : (c : Contents) (table at colocation shards : ℕ) (co : Colocation) (info : TableInfo) (old new : List (GroupState X)) → IsWhole c → slice_get c.tables table ≡ Some info → info.place ≡ Local →
-      slice_get c.colocations colocation ≡ Some co → AreGone state (more_at co.first_group (λ j. (table, shape_in c table, c.next_shard + j, 1)) co.count) old new →
-      ((place : ℕ) → place < nodes → held place new ≡ held place old + shards_on nodes co.count place) → AreGroups state nodes c old → AreGroups state nodes (spread c table (Distributed at colocation c.next_shard) shards) new
-  groups_spread c table at colocation shards co info old new whole there local joins gone counted all =
+      slice_get c.colocations colocation ≡ Some co → AreGone state (more_at co.first_group (λ j. (table, shape_in c table, c.next_shard + j, 1)) co.count) old new → AreGroups state nodes c old → AreGroups state nodes (spread c table (Distributed at colocation c.next_shard) shards) new
+  groups_spread c table at colocation shards co info old new whole there local joins gone all =
       let place = Distributed at colocation c.next_shard in
       let next = spread c table place shards in
       let o : ℕ → Outline = λ j. (table, shape_in c table, c.next_shard + j, 1) in
@@ -323,7 +303,7 @@ module _ {X : Type 0} (state : X → StoreState) (nodes : ℕ) where
       let kept_place : (t : ℕ) → t ≢ table → place_at next t ≡ place_at c t = λ t ne. ap place_in (other_place c.tables table t place ne) in
       let outside : (h : ℕ) (g : GroupState X) → slice_get old h ≡ Some g → g.node ≡ 0 → more_at co.first_group o co.count h ≡ [] =
       λ h g s node. more_outside co.first_group o co.count h (λ j l e.
-      let on_one = (all.each colocation j co g joins l (subst (λ n. slice_get old n ≡ Some g) e s)).node in
+      let on_one = (all.each colocation j co g joins l (subst (λ n. slice_get old n ≡ Some g) e s)).node.some in
       omega (arith, on_one, node)) in
       record {
         count = gone.count ∙ all.count;
@@ -342,7 +322,8 @@ module _ {X : Type 0} (state : X → StoreState) (nodes : ℕ) where
                     placed = goes_placed state was.0 g added is.placed;
                     number = ap (λ (j : Journal). j.group) added.journal ∙ is.number;
                     opening = ap (λ (j : Journal). j.opening) added.journal ∙ is.opening;
-                    node = added.node ∙ is.node;
+                    node = subst (IsUsed nodes) (sym added.node) is.node;
+                    still = goes_still state was.0 g added is.still;
                     shards = subst (AllByRecursion (IsShardOf next k i)) (sym added.outlined) (all_append (IsShardOf next k i) (outlines was.0) (o i ∷ []) shards_kept (own, tt));
                     complete = λ t a first_shard p. subst (λ (os : List Outline). IsSome (shape_at os t)) (sym added.outlined) (elim (eqb_tells t table) [
                       | inl e ↦ subst (λ m. IsSome (shape_at (outlines was.0 ++ o i ∷ []) m)) (sym e.1) (is_some_last (outlines was.0) (o i))
@@ -359,7 +340,8 @@ module _ {X : Type 0} (state : X → StoreState) (nodes : ℕ) where
                     placed = goes_placed state was.0 g same is.placed;
                     number = ap (λ (j : Journal). j.group) same.journal ∙ is.number;
                     opening = ap (λ (j : Journal). j.opening) same.journal ∙ is.opening;
-                    node = same.node ∙ is.node;
+                    node = subst (IsUsed nodes) (sym same.node) is.node;
+                    still = goes_still state was.0 g same is.still;
                     shards = subst (AllByRecursion (IsShardOf next k i)) (sym alike) shards_kept;
                     complete = λ t a first_shard p. subst (λ (os : List Outline). IsSome (shape_at os t)) (sym alike) (elim (eqb_tells t table) [
                       | inl e ↦ absurd (z.1 (same_colocation a k first_shard at colocation c.next_shard (sym p ∙ ap (place_at next) e.1 ∙ is_here)))
@@ -375,12 +357,6 @@ module _ {X : Type 0} (state : X → StoreState) (nodes : ℕ) where
             reference_goes state nodes c next t group shard was.0 g is same (kept_shape t);
         covered = λ group h. covered_again c next group (λ k v s. s) (λ t shard p. kept_place t (λ e. not_local group shard (sym p ∙ ap (place_at c) e ∙ was_local)) ∙ p) (all.covered group h);
         apart = all.apart;
-        held = λ p h.
-            let own = counted p h in
-            let all_nodes = everywhere_gone state (more_at co.first_group o co.count) old new gone outside in
-            let more : taken_in nodes c.colocations p (with_place c.tables table place) ≡ taken nodes c p + shards_on nodes co.count p =
-            taken_placed nodes c.colocations p c.tables table place info there local ∙ ap (λ (v : Option Colocation). taken nodes c p + shards_on nodes (count_in v) p) joins in
-            omega (arith, own, all_nodes, all.held p h, more);
       }
     where
       same_colocation : (a k f a' k' f' : ℕ) → Distributed a k f ≡ Distributed a' k' f' → k ≡ k'

@@ -17,11 +17,9 @@ use Rattle.cq_catalog.specs.Whole.{IsWhole}
 use Rattle.cq_catalog.specs.declared.error.CatalogError.{CatalogError}
 use Rattle.cq_catalog.specs.declared.error.CatalogError.TheVariants.{NameTaken, Limit}
 use Rattle.cq_catalog.specs.declared.error.Limited.TheVariants.{Columns, Tables}
-use Rattle.cq_catalog.specs.declared.info.Colocation.{Colocation}
 use Rattle.cq_catalog.specs.declared.info.Place.TheVariants.{Local, Distributed, Reference}
 use Rattle.cq_catalog.specs.declared.info.TableInfo.{TableInfo}
 use Rattle.cq_planning.specs.Database.{shape_in}
-use Rattle.cq_cluster.specs.Room.{taken_in}
 use Rattle.cq_store.specs.Stores.{StoreState}
 use Rattle.cq_group.specs.declared.group.GroupState.{GroupState}
 use Rattle.cq_group.specs.Groups.{Outline, outlines}
@@ -119,10 +117,6 @@ module _ (c : Contents) (name : List ℕ) (columns : List Column) (key : List �
         | inr new ↦ absurd (local_or (ap (λ (u : TableInfo). u.place) new.1 ∙ q))
       ]
 
-  taken_more : (nodes : ℕ) (cs : List Colocation) (place : ℕ) (ts : List TableInfo) → taken_in nodes cs place (ts ++ more ∷ []) ≡ taken_in nodes cs place ts
-  taken_more nodes cs place [] = refl
-  taken_more nodes cs place (t ∷ ts) = let further = taken_more nodes cs place ts in omega (arith, further)
-
   shard_kept : (colocation i : ℕ) (o : Outline) → IsShardOf c colocation i o → IsShardOf (with_table c name columns key) colocation i o
   shard_kept colocation i o h =
       (h.0, h.1, place_kept o.0 h.0 colocation h.1 h.2, h.3 ∙ ap (λ (v : Shape). (o.0, v, h.1 + i, 1)) (sym (shape_kept o.0 h.0 colocation h.1 h.2)))
@@ -140,6 +134,7 @@ module _ (c : Contents) (name : List ℕ) (columns : List Column) (key : List �
             number = at.number;
             opening = at.opening;
             node = at.node;
+            still = at.still;
             shards = all_weaker (IsShardOf c colocation i) (IsShardOf (with_table c name columns key) colocation i) (shard_kept colocation i) (outlines g) at.shards;
             complete = λ table a first_shard p. at.complete table a first_shard (place_before table a colocation first_shard p);
           };
@@ -158,13 +153,12 @@ module _ (c : Contents) (name : List ℕ) (columns : List Column) (key : List �
           };
       covered = λ group h. covered_again c (with_table c name columns key) group (λ k co there. there) (λ table shard p. (reference_kept table group shard p).0) (all.covered group h);
       apart = all.apart;
-      held = λ place h. all.held place h ∙ sym (taken_more nodes c.colocations place c.tables);
     }
 
 -- a cluster stays sound
 pub sound_created : {X : Type 0} (state : X → StoreState) (old new : Cluster X) (name : List ℕ) (columns : List Column) (key : List ℕ) → IsSound state old → creation_refusal old.catalog name columns ≡ None →
-    new.catalog ≡ with_table old.catalog name columns key → new.groups ≡ old.groups → new.workers ≡ old.workers → new.nodes ≡ old.nodes → IsSound state new
-sound_created state old new name columns key s allowed made groups workers nodes =
+    new.catalog ≡ with_table old.catalog name columns key → new.groups ≡ old.groups → new.workers ≡ old.workers → new.nodes ≡ old.nodes → new.retired ≡ old.retired → IsSound state new
+sound_created state old new name columns key s allowed made groups workers nodes retired =
     let c = old.catalog in
     record {
       groups = subst (λ (v : Contents). AreGroups state new.nodes v new.groups.items) (sym made) (rw (groups, nodes) (groups_created c name columns key state old.nodes old.groups.items s.groups));
@@ -173,7 +167,8 @@ sound_created state old new name columns key s allowed made groups workers nodes
       some = rw nodes s.some;
       few = rw nodes s.few;
       enough = rw (workers, nodes) s.enough;
-      workers = (s.workers.0, rw (groups, workers, nodes) s.workers.1);
+      workers = (s.workers.0, rw (groups, workers, nodes, retired) s.workers.1);
+      retired = rw retired s.retired;
     }
 
 -- and no shard id is given out

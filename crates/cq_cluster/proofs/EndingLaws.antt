@@ -4,7 +4,6 @@ use Rattle.std.specs.Prelude.{nat_eq}
 use Rattle.std.specs.List.{AllByRecursion, AllZip, flat_map}
 use Rattle.std.proofs.lemmas.Bool.{ne_eqb}
 use Rattle.std.proofs.lemmas.Bool.Decides.{eqb_tells}
-use Rattle.std.proofs.lemmas.Nat.{mod_below}
 use Rattle.std.proofs.lemmas.Option.{slice_get_within}
 use Rattle.std.proofs.lemmas.List.{map-append}
 use Rattle.std.proofs.lemmas.List.Elements.{recursion_from_All, All-weaker, All-nil, All-cons}
@@ -13,6 +12,7 @@ use Rattle.cq_tree.specs.declared.journal.Entry.{Entry}
 use Rattle.cq_journal.specs.Journals.{replay}
 use Rattle.cq_journal.specs.declared.journal.Journal.{Journal}
 use Rattle.cq_journal.specs.Records.{Journal as Record}
+use Rattle.cq_journal.specs.Stations.{node_of}
 use Rattle.cq_catalog.specs.Contents.{Contents}
 use Rattle.cq_catalog.specs.Placement.{place_at}
 use Rattle.cq_catalog.specs.declared.info.Colocation.{Colocation}
@@ -24,7 +24,7 @@ use Rattle.cq_group.specs.declared.group.GroupTable.{GroupTable}
 use Rattle.cq_group.specs.declared.group.GroupState.{GroupState}
 use Rattle.cq_group.specs.Groups.{Outline, outline, outlines, shape_at, entries_of, journal_of, stores_of, node_at, copies_of, AreReplicasFrom, IsReplica, IsTableKept, IsTableQuiet, IsKept}
 use Rattle.cq_group.specs.Groups.{AreDistinct as HaveNumbers}
-use Rattle.cq_cluster.specs.Cluster.{Either, home_of, IsShardOf, IsGroupOf, IsReferenceGroup, IsCovered, IsReferenced, AreGroups, IsWaiting, held, everywhere, AreWorkers}
+use Rattle.cq_cluster.specs.Cluster.{Either, IsShardOf, IsGroupOf, IsReferenceGroup, IsCovered, IsReferenced, AreGroups, IsWaiting, held, everywhere, AreWorkers}
 use Rattle.cq_cluster.specs.Closing.{all_stores, stores_at, AreKept, HasRoom, HaveRoom, HaveBack}
 use Rattle.cq_group.specs.Resting.{journals_of}
 use Rattle.cq_cluster.specs.Ending.{record_of, IsShard, IsIn, AreDistinct, AreOfGroup, AreOfReference, BeginWith, AreOnNode, IsFinal}
@@ -125,7 +125,7 @@ module _ {X : Type 0} (state : X → StoreState) where
       subst (λ (xs : List X). AllZip (IsShard c colocation i node es) (t.table ∷ numbers ts) (map state (xs ++ rest))) (sym all.0.only)
       (shard_store c colocation i node es t all.0.store all.0.replica still.0 are.0, shard_stores c colocation i node es ts all.1 quiet.1 are.1)
 
-module _ {X : Type 0} (state : X → StoreState) (nodes : ℕ) (some : 0 < nodes) where
+module _ {X : Type 0} (state : X → StoreState) (nodes : ℕ) where
   of_group : (c : Contents) (colocation i : ℕ) (co : Colocation) (g : GroupState X) → slice_get c.colocations colocation ≡ Some co → i < co.count → IsGroupOf state nodes c colocation co i g →
       AreOfGroup c g.journal (map state (stores_of g))
   of_group c colocation i co g there_is within is =
@@ -138,8 +138,8 @@ module _ {X : Type 0} (state : X → StoreState) (nodes : ℕ) (some : 0 < nodes
         within = within;
         is = is.number;
         tables = numbers ts;
-        each = subst (λ n. AllZip (IsShard c colocation i n (entries_of g)) (numbers ts) (map state (stores_of g))) (is.node ∙ sym is.opening)
-            (shard_stores state c colocation i g.node (entries_of g) ts (kept_stores state g is.kept (let at = is.node in omega (arith, at))) is.quiet is.shards);
+        each = subst (λ n. AllZip (IsShard c colocation i n (entries_of g)) (numbers ts) (map state (stores_of g))) (sym is.placed)
+            (shard_stores state c colocation i g.node (entries_of g) ts (kept_stores state g is.kept is.node.some) is.quiet is.shards);
         complete = λ table at first_shard placed. in_numbers ts table (is.complete table at first_shard placed);
         once = distinct ts is.kept.distinct;
       }
@@ -148,7 +148,7 @@ module _ {X : Type 0} (state : X → StoreState) (nodes : ℕ) (some : 0 < nodes
 
   -- what a closed group leaves on the node at a place: the store of a reference table, or the stores of its tables, or none
   abbrev Leaves : Contents → ℕ → Journal → List X → Type 0
-  Leaves c place j own = Either (nat_eq j.opening 0) (AreOfReference c j (place + 1) (map state own)) (Either (nat_eq j.opening (place + 1)) (AreOfGroup c j (map state own)) (own ≡ []))
+  Leaves c place j own = Either (nat_eq (node_of (record_of j)) 0) (AreOfReference c j (place + 1) (map state own)) (Either (nat_eq (node_of (record_of j)) (place + 1)) (AreOfGroup c j (map state own)) (own ≡ []))
 
   abbrev IsUsed : X → Type 0
   IsUsed x = (0 < (state x).node) × ((state x).node ≤ nodes)
@@ -177,33 +177,35 @@ module _ {X : Type 0} (state : X → StoreState) (nodes : ℕ) (some : 0 < nodes
   all_used node [] low high all = tt
   all_used node (x ∷ xs) low high all = ((omega (arith, all.0, low), omega (arith, all.0, high)), all_used node xs low high all.1)
 
-  -- a group's node is one of those that the run uses
-  within_nodes : (i : ℕ) (g : GroupState X) → g.node ≡ home_of nodes i → g.node ≤ nodes
-  within_nodes i g at = let low = mod_below i nodes some in omega (arith, at, low)
+  -- a group that is on one node leaves all its stores there, and none elsewhere
+  leaves_own : (A : Type 0) (Own : List X → Type 0) (place at node : ℕ) (stores own : List X) → at ≡ node → 0 < node → own ≡ cond (nat_eq node (place + 1)) stores [] → Own stores →
+      Either (nat_eq at 0) A (Either (nat_eq at (place + 1)) (Own own) (own ≡ []))
+  leaves_own A Own place at node stores own same low exact of = subst (λ n. Either (nat_eq n 0) A (Either (nat_eq n (place + 1)) (Own own) (own ≡ []))) (sym same) (rw off by_place)
+    where
+      off : nat_eq node 0 ≡ false
+      off = ne_eqb node 0 (λ e. absurd (omega (arith, e, low)))
+
+      by_place : Either (nat_eq node (place + 1)) (Own own) (own ≡ [])
+      by_place = elim (eqb_tells node (place + 1)) [
+        | inl y ↦ rw y.0 (subst Own (sym (exact ∙ ap (λ b. cond b stores []) y.0)) of)
+        | inr z ↦ rw z.0 (exact ∙ ap (λ b. cond b stores []) z.0)
+      ]
+
+  -- and one that is on all nodes leaves its own on each
+  leaves_copy : (A B : Type 0) (at : ℕ) → at ≡ 0 → A → Either (nat_eq at 0) A B
+  leaves_copy A B at is a = rw is a
 
   closed_one : (c : Contents) (colocation i : ℕ) (co : Colocation) (g : GroupState X) → slice_get c.colocations colocation ≡ Some co → i < co.count → IsGroupOf state nodes c colocation co i g → IsClosed c g
   closed_one c colocation i co g there_is within is =
-      let node = is.node in
-      let low : 0 < g.node = omega (arith, node) in
+      let low = is.node.some in
       let all = recursion_from_All (λ (x : X). (state x).node ≡ g.node) (stores_of g) (stores_on_node state g is.kept low) in
-      let opened : g.journal.opening ≡ g.node = is.opening ∙ sym is.node in
       let off : nat_eq g.node 0 ≡ false = ne_eqb g.node 0 (λ e. absurd (omega (arith, e, low))) in
-      let off_journal : nat_eq g.journal.opening 0 ≡ false = ap (λ n. nat_eq n 0) opened ∙ off in
       record {
         kept = is.kept;
-        used = all_used g.node (stores_of g) low (within_nodes i g is.node) all;
-        own = λ place h.
-            let own = stores_at state place (stores_of g) in
-            let exact = all_at place g.node (stores_of g) all in
-            rw off_journal (elim (eqb_tells g.journal.opening (place + 1)) [
-              | inl y ↦
-                  let yes : nat_eq g.node (place + 1) ≡ true = sym (ap (λ n. nat_eq n (place + 1)) opened) ∙ y.0 in
-                  let same : own ≡ stores_of g = exact ∙ ap (λ b. cond b (stores_of g) []) yes in
-                  rw y.0 (subst (λ (v : List X). AreOfGroup c g.journal (map state v)) (sym same) (of_group c colocation i co g there_is within is))
-              | inr z ↦
-                  let no : nat_eq g.node (place + 1) ≡ false = sym (ap (λ n. nat_eq n (place + 1)) opened) ∙ z.0 in
-                  rw z.0 (exact ∙ ap (λ b. cond b (stores_of g) []) no)
-            ]);
+        used = all_used g.node (stores_of g) low is.node.few all;
+        own = λ place h. leaves_own (AreOfReference c g.journal (place + 1) (map state (stores_at state place (stores_of g)))) (λ (v : List X). AreOfGroup c g.journal (map state v)) place (node_of (record_of g.journal)) g.node (stores_of g)
+            (stores_at state place (stores_of g)) is.placed low
+            (all_at place g.node (stores_of g) all) (of_group c colocation i co g there_is within is);
         count = λ place h. let exact = ap length (all_at place g.node (stores_of g) all) in rw off (counted (nat_eq g.node (place + 1)) (stores_of g) exact);
       }
     where
@@ -277,7 +279,8 @@ module _ {X : Type 0} (state : X → StoreState) (nodes : ℕ) (some : 0 < nodes
         used = subst (AllByRecursion IsUsed) (sym exact) (used_from es t.0.table t.0.shape t.0.shard 0 stores on_all (omega (arith, number)));
         own = λ place h.
             let here = one place h in
-            rw is.opening (record {
+            leaves_copy (AreOfReference c g.journal (place + 1) (map state (stores_at state place (stores_of g)))) (Either (nat_eq (node_of (record_of g.journal)) (place + 1)) (AreOfGroup c g.journal (map state (stores_at state place (stores_of g)))) (stores_at state place (stores_of g) ≡ []))
+            (node_of (record_of g.journal)) (is.placed ∙ is.node) (record {
               table = table;
               shard = shard;
               placed = placed ∙ ap (λ n. Reference n shard) (sym is.number);
@@ -346,8 +349,9 @@ module _ {X : Type 0} (state : X → StoreState) (nodes : ℕ) (some : 0 < nodes
       let both = count_both state place (stores_of g) (all_stores gs) in
       omega (arith, here, further, both)
 
-  pub have_room : (c : Contents) (entry : List (Worker X)) (groups : List (GroupState X)) (workers : List (Worker X)) → nodes ≤ length workers → AreGroups state nodes c groups → AreWorkers state nodes entry groups workers → HaveRoom state (all_stores groups) workers
-  have_room c entry groups workers enough all now =
+  pub have_room : (c : Contents) (entry : List (Worker X)) (retired : List ℕ) (groups : List (GroupState X)) (workers : List (Worker X)) → nodes ≤ length workers → AreGroups state nodes c groups → AreWorkers state nodes entry retired groups workers →
+      HaveRoom state (all_stores groups) workers
+  have_room c entry retired groups workers enough all now =
       let closed = closed_groups c groups all in
       weaker IsUsed (HasRoom state (all_stores groups) workers) (welcome closed) (all_stores groups) (used_stores c groups closed)
     where
@@ -385,13 +389,13 @@ module _ {X : Type 0} (state : X → StoreState) (nodes : ℕ) (some : 0 < nodes
       let P = AreOnNode c (place + 1) (map (λ (f : GroupState X). f.journal) gs) in
       let own = stores_at state place (stores_of g) in
       let rest = stores_at state place (all_stores gs) in
-      subst (λ (v : List X). Either (nat_eq j.opening 0) (BeginWith (AreOfReference c j (place + 1)) P (map state v)) (Either (nat_eq j.opening (place + 1)) (BeginWith (AreOfGroup c j) P (map state v)) (P (map state v))))
+      subst (λ (v : List X). Either (nat_eq (node_of (record_of j)) 0) (BeginWith (AreOfReference c j (place + 1)) P (map state v)) (Either (nat_eq (node_of (record_of j)) (place + 1)) (BeginWith (AreOfGroup c j) P (map state v)) (P (map state v))))
       (sym (at_both state place (stores_of g) (all_stores gs)))
-      (begins c place j P (nat_eq j.opening 0) (nat_eq j.opening (place + 1)) own rest (all.0.own place h) (stores_end c place gs h all.1))
+      (begins c place j P (nat_eq (node_of (record_of j)) 0) (nat_eq (node_of (record_of j)) (place + 1)) own rest (all.0.own place h) (stores_end c place gs h all.1))
 
-  pub final_of : (c : Contents) (entry first workers : List (Worker X)) (groups : List (GroupState X)) → AreGroups state nodes c groups → AreWorkers state nodes entry groups first → HaveBack state (all_stores groups) first workers →
-      IsFinal state nodes entry c (map (λ (g : GroupState X). g.journal) groups) workers
-  final_of c entry first workers groups all now back =
+  pub final_of : (c : Contents) (retired : List ℕ) (entry first workers : List (Worker X)) (groups : List (GroupState X)) → AreGroups state nodes c groups → AreWorkers state nodes entry retired groups first →
+      HaveBack state (all_stores groups) first workers → IsFinal state nodes entry c retired (map (λ (g : GroupState X). g.journal) groups) workers
+  final_of c retired entry first workers groups all now back =
       let closed = closed_groups c groups all in
       record {
         same_length = back.same_length ∙ now.same_length;
@@ -403,7 +407,11 @@ module _ {X : Type 0} (state : X → StoreState) (nodes : ℕ) (some : 0 < nodes
             let own = stores_at state place (all_stores groups) in
             record {
               node = is.node ∙ was.node;
-              total = ap length is.stores ∙ length-append v.stores.items own ∙ ap (λ n. length v.stores.items + n) (stores_count c place groups h closed) ∙ was.total;
+              total =
+                  let given = ap length is.stores ∙ length-append v.stores.items own in
+                  let count = stores_count c place groups h closed in
+                  let whole = was.total in
+                  omega (arith, given, count, whole);
               stores = (
                 v.stores.items,
                 own,

@@ -1,3 +1,4 @@
+pub mod CountLaws
 pub mod ListLaws
 pub mod WaitingLaws
 pub mod ShardLaws
@@ -8,12 +9,16 @@ pub mod TargetLaws
 pub mod CatalogLaws
 pub mod JournalLaws
 pub mod RoomLaws
+pub mod HeldLaws
 pub mod AccountLaws
 pub mod SoundLaws
 pub mod MakingLaws
 pub mod ClosingLaws
 pub mod EndingLaws
 pub mod AnswerLaws
+pub mod FinalLaws
+pub mod RetiringLaws
+pub mod NextLaws
 pub mod DistributeLaws
 pub mod PlanLaws
 pub mod DoneLaws
@@ -21,3 +26,11 @@ pub mod CreatingLaws
 pub mod GroupLaws
 pub mod LendingLaws
 pub mod ReferenceLaws
+pub mod MovingLaws
+pub mod MovingLawsAnswers
+pub mod MovingLawsDone
+pub mod MovingLawsEnd
+pub mod MovingLawsGroups
+pub mod MovingLawsRoom
+pub mod MovingLawsStores
+pub mod PlannedLaws

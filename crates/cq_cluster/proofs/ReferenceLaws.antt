@@ -11,7 +11,7 @@ use Rattle.cq_answer.specs.declared.fault.Fault.{Fault}
 use Rattle.cq_answer.specs.declared.fault.Fault.TheVariants as fault
 use Rattle.cq_answer.specs.Faults.{fault_of_catalog}
 use Rattle.cq_answer.specs.declared.answered.Settings.{Settings}
-use Rattle.cq_catalog.specs.Contents.{Contents, place_in, with_place}
+use Rattle.cq_catalog.specs.Contents.{Contents, place_in}
 use Rattle.cq_catalog.specs.Distribution.{spread, with_group, with_reference, reference_refusal, reference_opened}
 use Rattle.cq_catalog.specs.Placement.{place_at}
 use Rattle.cq_catalog.specs.Refusals.{first_of, IsCause}
@@ -24,8 +24,7 @@ use Rattle.cq_planning.specs.Database.{shape_in}
 use Rattle.cq_history.specs.Deeds.{Grows}
 use Rattle.cq_history.specs.Journals.{none}
 use Rattle.cq_history.specs.Laws.{OpensGroups}
-use Rattle.cq_history.specs.Run.{room_fault}
-use Rattle.cq_history.specs.Run as history
+use Rattle.cq_history.specs.Room.{room_fault}
 use Rattle.cq_history.specs.Standing.{reference_fault}
 use Rattle.cq_journal.specs.Stations.{node_of}
 use Rattle.cq_store.specs.Stores.{StoreState}
@@ -34,15 +33,14 @@ use Rattle.cq_group.specs.declared.group.GroupState.{GroupState}
 use Rattle.cq_group.specs.Groups.{IsKept, IsQuiet, Outline, entries_of, outlines, stores_of, journal_of}
 use Rattle.cq_group.specs.Resting.{journals_of}
 use Rattle.cq_cluster.specs.declared.cluster.Cluster.{Cluster}
-use Rattle.cq_cluster.specs.Cluster.{IsShardOf, held, everywhere, AreGroups, AreWorkers, journals, run_of, IsSound, KeepsStores}
+use Rattle.cq_cluster.specs.Cluster.{IsShardOf, held, everywhere, AreGroups, AreWorkers, HasStores, node_in, retired_nodes, journals, run_of, IsSound, KeepsStores}
 use Rattle.cq_cluster.specs.Accounts.{AreAccounted}
-use Rattle.cq_cluster.specs.Room.{taken, taken_in}
 use Rattle.cq_cluster.specs.Steps.{shortage, IsUndone}
-use Rattle.cq_cluster.specs.References.{HaveLent, IsNewReference, IsReferencePlanned}
-use Rattle.cq_cluster.proofs.RoomLaws.{one_on}
+use Rattle.cq_cluster.specs.References.{lent_at, HaveLent, IsNewReference, IsReferencePlanned}
+use Rattle.cq_cluster.proofs.LendingLaws.{lent_here, lent_none}
 use Rattle.cq_cluster.proofs.GoneLaws.{placed_empty}
-use Rattle.cq_cluster.proofs.AddingLaws.{spent_none}
-use Rattle.cq_cluster.proofs.CatalogLaws.{before_more, last_there, all_weaker, covered_again, reference_still, other_place, own_place, same_shape, taken_placed, placed_group}
+use Rattle.cq_cluster.proofs.AddingLaws.{spent_none, spent_alike}
+use Rattle.cq_cluster.proofs.CatalogLaws.{before_more, last_there, all_weaker, covered_again, reference_still, other_place, own_place, same_shape, placed_group}
 use Rattle.cq_cluster.proofs.JournalLaws.{AreNew, opened_grow, opens_referenced}
 use Rattle.cq_cluster.proofs.AccountLaws.{AreFrom, put_accounted}
 use Rattle.cq_cluster.proofs.SoundLaws.{keeps_all, have_stores, room_same}
@@ -84,6 +82,7 @@ module _ {X : Type 0} (state : X → StoreState) (nodes : ℕ) where
               number = is.number;
               opening = is.opening;
               node = is.node;
+              still = is.still;
               shards = all_weaker (IsShardOf c k i) (IsShardOf next k i) (λ o h. (h.0, h.1, kept_place o.0 (λ e. not_local h.0 k h.1 (sym h.2 ∙ ap (place_at c) e ∙ was_local)) ∙ h.2, h.3 ∙ ap (λ (v : Shape). (o.0, v, h.1 + i, 1)) (sym (kept_shape o.0)))) (outlines f) is.shards;
               complete = λ t a first_shard p. is.complete t a first_shard (sym (kept_place t (λ e. not_both a k first_shard c.groups c.next_shard (sym p ∙ ap (place_at next) e ∙ is_here))) ∙ p);
             };
@@ -111,11 +110,6 @@ module _ {X : Type 0} (state : X → StoreState) (nodes : ℕ) where
           | inr l ↦ (let same : c.groups ≡ group = omega (arith, h, l) in inr (record { table = number; shard = c.next_shard; placed = is_here ∙ ap (λ n. Reference n c.next_shard) same }))
         ];
         apart = all.apart;
-        held = λ p h.
-            let own = held_more p old g new.node in
-            let all_nodes = everywhere_more old g (number, shape_in c number, c.next_shard, nodes) new.node new.only in
-            let more : taken_in nodes c.colocations p (with_place c.tables number place) ≡ taken nodes c p + 1 = taken_placed nodes c.colocations p c.tables number place at.0 at.1 at.2 in
-            omega (arith, own, all_nodes, all.held p h, more);
       }
     where
       some_is : {a b : GroupState X} → Some a ≡ Some b → a ≡ b
@@ -135,43 +129,36 @@ module _ {X : Type 0} (state : X → StoreState) (nodes : ℕ) where
 
 -- ---- room
 
--- one store of each node is as many as one shard for each
-short_same : (run : history.Run) (c : Contents) (needed other : ℕ → ℕ) (place more : ℕ) → ((at : ℕ) → at < place + more → needed at ≡ other at) → history.room_from run c needed place more ≡ history.room_from run c other place more
-short_same run c needed other place zero same = refl
-short_same run c needed other place (suc more) same =
-    let here : needed place ≡ other place = same place (omega arith) in
-    rw (here, short_same run c needed other (place + 1) more (λ at h. same at (omega (arith, h)))) refl
-
 only_of : {A : Type 0} (o : Option A) → first_of (o ∷ []) ≡ o
 only_of None = refl
 only_of (Some x) = refl
 
 module _ {X : Type 0} (state : X → StoreState) (cl : Cluster X) (table : List ℕ) where
   -- why a reference table is refused for want of stores, or isn't
-  pub by_room : (r : Option Fault) → IsSound state cl → reference_refusal cl.catalog table ≡ None → shortage cl.nodes cl.nodes cl.workers.items ≡ r → (initial : Settings) (entry : List (Worker X)) → AreWorkers state cl.nodes entry cl.groups.items cl.workers.items →
-      reference_fault (run_of cl.nodes initial entry) cl.catalog table ≡ r
+  pub by_room : (r : Option Fault) → IsSound state cl → reference_refusal cl.catalog table ≡ None → shortage cl.nodes (λ place. 1) cl.workers.items ≡ r → (initial : Settings) (entry : List (Worker X)) → HasStores state entry cl →
+      reference_fault (run_of cl.nodes initial entry) cl.catalog (retired_nodes cl) (node_in cl.groups.items) table ≡ r
   by_room r s allowed short initial entry at =
       let run = run_of cl.nodes initial entry in
       let c = cl.catalog in
-      let each : room_fault run c (history.shards_on run cl.nodes) ≡ room_fault run c (λ place. 1) = short_same run c (history.shards_on run cl.nodes) (λ place. 1) 0 cl.nodes (λ place h. one_on cl.nodes s.some place (omega (arith, h))) in
-      ap (λ (o : Option CatalogError). first_of (option_map fault_of_catalog o ∷ room_fault run c (λ place. 1) ∷ [])) allowed
-      ∙ only_of (room_fault run c (λ place. 1)) ∙ sym each ∙ sym (room_same state cl.nodes s.some c initial entry cl.groups.items cl.workers.items cl.nodes s.enough s.groups at) ∙ short
+      ap (λ (o : Option CatalogError). first_of (option_map fault_of_catalog o ∷ room_fault run c (retired_nodes cl) (node_in cl.groups.items) (λ place. 1) ∷ [])) allowed
+      ∙ only_of (room_fault run c (retired_nodes cl) (node_in cl.groups.items) (λ place. 1))
+      ∙ sym (room_same state cl.nodes s.some c initial entry (retired_nodes cl) cl.groups.items cl.workers.items (λ place. 1) s.enough s.groups at) ∙ short
 
   -- the error of the catalogue is the cause
-  pub by_catalog : (e : CatalogError) (f : Fault) → f ≡ fault_of_catalog e → IsCause e (reference_refusal cl.catalog table) → (initial : Settings) (entry : List (Worker X)) → (f ≡ fault.Memory) ⊎ (reference_fault (run_of cl.nodes initial entry) cl.catalog table ≡ Some f)
+  pub by_catalog : (e : CatalogError) (f : Fault) → f ≡ fault_of_catalog e → IsCause e (reference_refusal cl.catalog table) → (initial : Settings) (entry : List (Worker X)) → (f ≡ fault.Memory) ⊎ (reference_fault (run_of cl.nodes initial entry) cl.catalog (retired_nodes cl) (node_in cl.groups.items) table ≡ Some f)
   by_catalog e f is cause initial entry = elim cause [
     | inl m ↦ inl (is ∙ ap fault_of_catalog m ∙ memory_is)
-    | inr h ↦ inr (ap (λ (o : Option CatalogError). first_of (option_map fault_of_catalog o ∷ room_fault (run_of cl.nodes initial entry) cl.catalog (λ place. 1) ∷ [])) h ∙ ap Some (sym is))
+    | inr h ↦ inr (ap (λ (o : Option CatalogError). first_of (option_map fault_of_catalog o ∷ room_fault (run_of cl.nodes initial entry) cl.catalog (retired_nodes cl) (node_in cl.groups.items) (λ place. 1) ∷ [])) h ∙ ap Some (sym is))
   ]
 
   -- nothing is lent yet, and each node has a store to lend
-  pub can_open : IsSound state cl → shortage cl.nodes cl.nodes cl.workers.items ≡ None → HaveLent state cl.nodes 0 cl.workers.items cl.workers.items
+  pub can_open : IsSound state cl → shortage cl.nodes (λ place. 1) cl.workers.items ≡ None → HaveLent state cl.nodes 0 cl.workers.items cl.workers.items
   can_open s room = record {
     some = s.some;
     enough = s.enough;
     few = omega arith;
-    stores = have_stores state cl.nodes s.some cl.groups.items s.workers.0 cl.workers.items cl.nodes s.enough s.workers.1 room;
-    spent = spent_none state cl.nodes s.some cl.workers.items (all_wait state cl s);
+    stores = have_stores state cl.nodes s.some cl.groups.items s.workers.0 cl.workers.items (retired_nodes cl) (λ place. 1) s.enough s.workers.1 room;
+    spent = spent_alike state cl.nodes cl.workers.items cl.workers.items (λ place. 0) (lent_at 0) lent_none (spent_none state cl.nodes cl.workers.items (all_wait state cl s));
   }
 
 -- ---- the second look of the catalogue, which is as it was
@@ -191,10 +178,10 @@ lent_back state on nodes full given after same step lent = subst (λ n. HaveLent
 module _ {X : Type 0} (state : X → StoreState) (old new : Cluster X) where
   -- ---- all is as it was
 
-  pub given_back : IsSound state old → new.catalog ≡ old.catalog → new.nodes ≡ old.nodes → new.groups.items ≡ old.groups.items → HaveLent state old.nodes 0 old.workers.items new.workers.items → IsAsItWas state old new
-  given_back s same nodes groups lent =
-      as_it_was state old new s same nodes
-      (subst (λ (gs : List (GroupState X)). IsUndone state old.nodes old.groups.items old.workers.items gs new.workers.items) (sym groups) (record { gone = (still_sound state old s).gone; spent = lent.spent }))
+  pub given_back : IsSound state old → new.catalog ≡ old.catalog → new.nodes ≡ old.nodes → new.retired ≡ old.retired → new.groups.items ≡ old.groups.items → HaveLent state old.nodes 0 old.workers.items new.workers.items → IsAsItWas state old new
+  given_back s same nodes retired groups lent =
+      as_it_was state old new s same nodes retired
+      (subst (λ (gs : List (GroupState X)). IsUndone state old.nodes old.groups.items old.workers.items gs new.workers.items) (sym groups) (record { gone = (still_sound state old s).gone; spent = spent_alike state old.nodes old.workers.items new.workers.items (lent_at 0) (λ place. 0) (λ place. sym (lent_none place)) lent.spent }))
 
   -- ---- the table is a reference table
 
@@ -215,30 +202,30 @@ module _ {X : Type 0} (state : X → StoreState) (old new : Cluster X) where
       some_is e = cc
   only_new first g number entries (suc i) f at = cc
 
-  pub referred : (table : List ℕ) (o : Opened) (g : GroupState X) → IsSound state old → IsReferencePlanned old.nodes old.catalog old.workers.items table o → new.catalog ≡ with_reference old.catalog table → new.nodes ≡ old.nodes →
+  pub referred : (table : List ℕ) (o : Opened) (g : GroupState X) → IsSound state old → IsReferencePlanned old.nodes old.catalog old.workers.items table o → new.catalog ≡ with_reference old.catalog table → new.nodes ≡ old.nodes → new.retired ≡ old.retired →
       new.groups.items ≡ old.groups.items ++ g ∷ [] → IsNewReference state old.nodes o.first_group o.table (shape_in old.catalog o.table) o.first_shard g → HaveLent state old.nodes old.nodes old.workers.items new.workers.items → IsReferred
-  referred table o g s p made nodes groups is lent =
+  referred table o g s p made nodes retired groups is lent =
       let c = old.catalog in
       let exact : IsNewReference state old.nodes c.groups (reference_opened c table).table (shape_in c (reference_opened c table).table) c.next_shard g =
       subst (λ (v : Opened). IsNewReference state old.nodes v.first_group v.table (shape_in c v.table) v.first_shard g) p.opened is in
       let local : IsLocalAt c (reference_opened c table).table = subst (λ (v : Opened). IsLocalAt c v.table) p.opened p.local in
       let after : AreGroups state old.nodes (with_reference c table) (old.groups.items ++ g ∷ []) = groups_referenced state old.nodes c (reference_opened c table).table old.groups.items g s.whole local exact s.groups in
       let whole : IsWhole (with_reference c table) = whole_referenced c (reference_opened c table).table s.whole p.few local in
-      let kept : (entry : List (Worker X)) → AreWorkers state old.nodes entry old.groups.items old.workers.items → AreWorkers state old.nodes entry (old.groups.items ++ g ∷ []) new.workers.items =
-      keeps_all state old.nodes s.some old.groups.items (old.groups.items ++ g ∷ []) old.workers.items new.workers.items old.nodes s.enough lent.spent (λ place h.
+      let kept : (entry : List (Worker X)) (gone : List ℕ) → AreWorkers state old.nodes entry gone old.groups.items old.workers.items → AreWorkers state old.nodes entry gone (old.groups.items ++ g ∷ []) new.workers.items =
+      keeps_all state old.nodes s.some old.groups.items (old.groups.items ++ g ∷ []) old.workers.items new.workers.items (lent_at old.nodes) s.enough lent.spent (λ place h.
       let own = held_more state old.nodes place old.groups.items g exact.node in
       let all_nodes = everywhere_more state old.nodes old.groups.items g _ exact.node exact.only in
-      let one = one_on old.nodes s.some place h in
+      let one = lent_here old.nodes place h in
       omega (arith, own, all_nodes, one)) in
-      let stores : (entry : List (Worker X)) → AreWorkers state old.nodes entry old.groups.items old.workers.items → AreWorkers state old.nodes entry new.groups.items new.workers.items =
-      λ entry at. subst (λ (gs : List (GroupState X)). AreWorkers state old.nodes entry gs new.workers.items) (sym groups) (kept entry at) in
+      let stores : (entry : List (Worker X)) (gone : List ℕ) → AreWorkers state old.nodes entry gone old.groups.items old.workers.items → AreWorkers state old.nodes entry gone new.groups.items new.workers.items =
+      λ entry gone at. subst (λ (gs : List (GroupState X)). AreWorkers state old.nodes entry gone gs new.workers.items) (sym groups) (kept entry gone at) in
       record {
-        sound = sound_of state old new s nodes (subst (λ (v : Contents). AreGroups state old.nodes v new.groups.items) (sym made) (subst (λ (gs : List (GroupState X)). AreGroups state old.nodes (with_reference c table) gs) (sym groups) after))
+        sound = sound_of state old new s nodes retired (subst (λ (v : Contents). AreGroups state old.nodes v new.groups.items) (sym made) (subst (λ (gs : List (GroupState X)). AreGroups state old.nodes (with_reference c table) gs) (sym groups) after))
             (subst IsWhole (sym made) whole) (subst (λ (v : Contents). 0 < v.next_shard) (sym made) (omega (arith, s.ids))) lent.spent.same_length stores;
         grows = λ who. opened_grow who c.groups old.groups.items (g ∷ []) (journals new) (only_new c.groups g exact.group exact.entries) (sym s.groups.count) (ap (λ (gs : List (GroupState X)). journals_of gs) groups ∙ map-append (λ (f : GroupState X). journal_of f) old.groups.items (g ∷ []));
         opens = λ initial entry. subst (λ (v : Contents). OpensGroups (run_of old.nodes initial entry) c v (journals new)) (sym made)
             (subst (λ (gs : List (GroupState X)). OpensGroups (run_of old.nodes initial entry) c (with_reference c table) (journals_of gs)) (sym groups) (opens_referenced state old.nodes initial entry c table (old.groups.items ++ g ∷ []) after whole));
-        stores = keeps_stores state old new nodes stores;
+        stores = keeps_stores state old new nodes retired stores;
         accounted = λ answers was. subst (λ (v : Contents). AreAccounted state v answers new.groups.items) (sym made)
             (subst (λ (gs : List (GroupState X)). AreAccounted state (with_reference c table) answers gs) (sym groups)
             (put_accounted state c (with_reference c table) answers old.groups.items g (omega arith) exact.kept (subst (AreFrom c.next_shard) (sym exact.only) (omega arith, tt)) was));

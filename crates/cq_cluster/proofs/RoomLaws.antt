@@ -1,89 +1,118 @@
--- How many of a table's shards are on a node, one shard after another, and the stores that the catalogue's tables have.
-use Rattle.std.proofs.Common.{◌≡◌, ◌≢◌, inl, inr, ℕ, ◌+◌, ◌-◌, ◌*◌, ◌%◌, ◌<◌, ◌≤◌, List, [], ◌∷◌, suc, Some, None, Option, slice_get, refl, sym, ap, ◌∙◌, arith}
-use Rattle.std.specs.Prelude.{◌/◌}
-use Rattle.std.proofs.lemmas.Bool.{cases_lt}
-use Rattle.std.proofs.lemmas.Nat.{div-mul-add, div-add-mod', le-div, mod_below}
-use Rattle.cq_catalog.specs.declared.info.Colocation.{Colocation}
-use Rattle.cq_catalog.specs.declared.info.Place.{Place}
-use Rattle.cq_catalog.specs.declared.info.Place.TheVariants.{Local, Distributed, Reference}
-use Rattle.cq_catalog.specs.declared.info.TableInfo.{TableInfo}
-use Rattle.cq_history.specs.Run.{Run}
-use Rattle.cq_history.specs.Run as history
+-- How many of a table's shards are on a node, one shard after another, and the lowest node with too few stores.
+use Rattle.std.proofs.Common.{◌≡◌, ◌≢◌, ◌⊎◌, inl, inr, ℕ, zero, ◌+◌, ◌-◌, ◌<◌, ◌≤◌, Bool, true, false, cond, List, [], ◌∷◌, ◌++◌, length, filter, suc, Some, None, Option, slice_get, refl, sym, ap, ◌∙◌, arith}
+use Rattle.std.specs.Prelude.{nat_eq}
+use Rattle.std.specs.List.{sum_by}
+use Rattle.std.proofs.lemmas.Bool.{ne_eqb}
+use Rattle.std.proofs.Common.{eq-eqb, get_or, length-set}
+use Rattle.std.proofs.Math.ListN.{set}
+use Rattle.std.proofs.lemmas.Bool.Decides.{eqb_tells}
+use Rattle.std.proofs.lemmas.List.{get_or-set_same}
+use Rattle.std.proofs.lemmas.Option.{get_or_from_slice_get, slice_get-get_or}
+use Rattle.cq_planning.specs.Touched.{numbers}
 use Rattle.cq_answer.specs.declared.fault.Fault.{Fault}
 use Rattle.cq_catalog.specs.Refusals.{first_of}
 use Rattle.cq_store.specs.declared.worker.Worker.{Worker}
 use Rattle.cq_cluster.specs.Cluster.{stores_in}
-use Rattle.cq_cluster.specs.Steps.{short_of, shortage_from}
-use Rattle.cq_cluster.specs.Room.{shards_on, taken_by, taken_in}
+use Rattle.cq_cluster.specs.Steps.{shards_on, short_of, shortage_from}
+use Rattle.cq_cluster.proofs.ListLaws.{got_other}
+use Rattle.cq_cluster.proofs.CountLaws.{length_sum, sum_passing, sum_alike}
 
-module _ (nodes : ℕ) (some : 0 < nodes) where
-  -- whole rounds, of one shard on each node, and a last round that doesn't come to the node at this place
-  whole_rounds : (rounds last place : ℕ) → last ≤ place → place < nodes → shards_on nodes (rounds * nodes + last) place ≡ rounds
-  whole_rounds rounds last place short within =
-      let parts : rounds * nodes + last + nodes - 1 - place ≡ rounds * nodes + (last + (nodes - 1 - place)) = omega (arith, within) in
-      ap (λ n. n / nodes) parts ∙ div-mul-add rounds nodes (last + (nodes - 1 - place)) (omega (arith, short, within))
+two_ways : (b : Bool) → (b ≡ true) ⊎ (b ≡ false)
+two_ways true = inl refl
+two_ways false = inr refl
 
-  -- and one that does
-  last_round : (rounds last place : ℕ) → place < last → last ≤ nodes → shards_on nodes (rounds * nodes + last) place ≡ rounds + 1
-  last_round rounds last place far within =
-      let once : (rounds + 1) * nodes ≡ rounds * nodes + nodes = omega arith in
-      let parts : rounds * nodes + last + nodes - 1 - place ≡ (rounds + 1) * nodes + (last - 1 - place) = omega (arith, far, once) in
-      ap (λ n. n / nodes) parts ∙ div-mul-add (rounds + 1) nodes (last - 1 - place) (omega (arith, far, within))
+abbrev one_if : Bool → ℕ
+one_if b = cond b 1 0
 
-  -- the next shard is on the node at this place
-  pub next_here : (n place : ℕ) → place ≡ n % nodes → shards_on nodes (n + 1) place ≡ shards_on nodes n place + 1
-  next_here n place e =
-      let rounds = n / nodes in
-      let all = div-add-mod' n nodes in
-      let low = mod_below n nodes some in
-      let now : n ≡ rounds * nodes + place = omega (arith, all, e) in
-      let next : n + 1 ≡ rounds * nodes + (place + 1) = omega (arith, now) in
-      ap (λ m. shards_on nodes m place) next ∙ last_round rounds (place + 1) place (omega arith) (omega (arith, e, low))
-      ∙ sym (ap (λ m. m + 1) (ap (λ m. shards_on nodes m place) now ∙ whole_rounds rounds place place (omega arith) (omega (arith, e, low))))
+-- ---- the next shard
+
+numbers_last : (low n : ℕ) → numbers low (suc n) ≡ numbers low n ++ (low + n) ∷ []
+numbers_last low zero = ap (λ m. m ∷ []) (let e : low ≡ low + 0 = omega arith in e)
+numbers_last low (suc n) =
+    let e : low + 1 + n ≡ low + suc n = omega arith in
+    ap (λ (ns : List ℕ). low ∷ ns) (numbers_last (low + 1) n ∙ ap (λ m. numbers (low + 1) n ++ m ∷ []) e)
+
+count_last : (p : ℕ → Bool) (xs : List ℕ) (x : ℕ) → length (filter p (xs ++ x ∷ [])) ≡ length (filter p xs) + cond (p x) 1 0
+count_last p [] x = elim (two_ways (p x)) [ inl t ↦ rw t (omega arith) | inr f ↦ rw f (omega arith) ]
+count_last p (y ∷ xs) x =
+    let further = count_last p xs x in
+    elim (two_ways (p y)) [ inl t ↦ rw t (omega (arith, further)) | inr f ↦ rw f further ]
+
+module _ (node : ℕ → ℕ) where
+  pub next_on : (n place : ℕ) → shards_on node (n + 1) place ≡ shards_on node n place + cond (nat_eq (node n) (place + 1)) 1 0
+  next_on n place =
+      let next : n + 1 ≡ suc n = omega arith in
+      let index : 0 + n ≡ n = omega arith in
+      let p : ℕ → Bool = λ i. nat_eq (node i) (place + 1) in
+      ap (λ m. length (filter p (numbers 0 m))) next ∙ ap (λ (ns : List ℕ). length (filter p ns)) (numbers_last 0 n)
+      ∙ count_last p (numbers 0 n) (0 + n) ∙ ap (λ m. length (filter p (numbers 0 n)) + cond (p m) 1 0) index
+
+  -- it is on the node at this place
+  pub next_here : (n place : ℕ) → node n ≡ place + 1 → shards_on node (n + 1) place ≡ shards_on node n place + 1
+  next_here n place e = next_on n place ∙ ap (λ (b : Bool). shards_on node n place + cond b 1 0) (eq-eqb (node n) (place + 1) e)
 
   -- and not on another
-  pub next_elsewhere : (n place : ℕ) → place < nodes → place ≢ n % nodes → shards_on nodes (n + 1) place ≡ shards_on nodes n place
-  next_elsewhere n place within apart =
-      let rounds = n / nodes in
-      let last = n % nodes in
-      let now : n ≡ rounds * nodes + last = sym (div-add-mod' n nodes) in
-      let next : n + 1 ≡ rounds * nodes + (last + 1) = omega (arith, now) in
-      let low = mod_below n nodes some in
-      ap (λ m. shards_on nodes m place) next ∙ elim (cases_lt place last) [
-        | inl far ↦ last_round rounds (last + 1) place (omega (arith, far)) (omega (arith, low)) ∙ sym (last_round rounds last place far (omega (arith, low)))
-        | inr short ↦ whole_rounds rounds (last + 1) place (omega (arith, short, apart)) within ∙ sym (whole_rounds rounds last place (omega (arith, short)) within)
-      ] ∙ sym (ap (λ m. shards_on nodes m place) now)
+  pub next_elsewhere : (n place : ℕ) → node n ≢ place + 1 → shards_on node (n + 1) place ≡ shards_on node n place
+  next_elsewhere n place apart =
+      let other : ◌≡◌ {A = ℕ} (cond (nat_eq (node n) (place + 1)) 1 0) 0 = ap (λ (b : Bool). one_if b) (ne_eqb (node n) (place + 1) apart) in
+      let next = next_on n place in
+      omega (arith, next, other)
 
-  pub none_on : (place : ℕ) → place < nodes → shards_on nodes 0 place ≡ 0
-  none_on place within =
-      let parts : 0 + nodes - 1 - place ≡ 0 * nodes + (nodes - 1 - place) = omega (arith, within) in
-      ap (λ n. n / nodes) parts ∙ div-mul-add 0 nodes (nodes - 1 - place) (omega (arith, within))
-
-  -- one shard for each node
-  pub one_on : (place : ℕ) → place < nodes → shards_on nodes nodes place ≡ 1
-  one_on place within =
-      let all : 0 * nodes + nodes ≡ nodes = omega arith in
-      ap (λ n. shards_on nodes n place) (sym all) ∙ last_round 0 nodes place within (omega arith)
+  pub none_on : (place : ℕ) → shards_on node 0 place ≡ 0
+  none_on place = refl
 
   -- more shards are no fewer on a node
-  rises : (m n : ℕ) → m ≤ n → m / nodes ≤ n / nodes
-  rises m n less = let all = div-add-mod' m nodes in le-div (m / nodes) n nodes some (omega (arith, all, less))
+  rises : (n more place : ℕ) → shards_on node n place ≤ shards_on node (n + more) place
+  rises n zero place = let same : shards_on node (n + 0) place ≡ shards_on node n place = ap (λ m. shards_on node m place) (let e : n + 0 ≡ n = omega arith in e) in omega (arith, same)
+  rises n (suc more) place =
+      let further = rises n more place in
+      let same : shards_on node (n + suc more) place ≡ shards_on node (n + more + 1) place = ap (λ m. shards_on node m place) (let e : n + suc more ≡ n + more + 1 = omega arith in e) in
+      let next = next_on (n + more) place in
+      omega (arith, further, same, next)
 
-  pub fewer_on : (n count place : ℕ) → n < count → place ≡ n % nodes → shards_on nodes n place < shards_on nodes count place
+  pub fewer_on : (n count place : ℕ) → n < count → node n ≡ place + 1 → shards_on node n place < shards_on node count place
   fewer_on n count place less e =
       let more = next_here n place e in
-      let up = rises (n + 1 + nodes - 1 - place) (count + nodes - 1 - place) (omega (arith, less)) in
-      omega (arith, more, up)
+      let up = rises (n + 1) (count - (n + 1)) place in
+      let same : shards_on node (n + 1 + (count - (n + 1))) place ≡ shards_on node count place = ap (λ m. shards_on node m place) (let e : n + 1 + (count - (n + 1)) ≡ count = omega (arith, less) in e) in
+      omega (arith, more, up, same)
 
--- the stores that tables have, as answers are judged by them
-same_taken_by : (run : Run) (cs : List Colocation) (at : ℕ) (p : Place) → history.taken_by run cs at p ≡ taken_by run.workers cs at p
-same_taken_by run cs at Local = refl
-same_taken_by run cs at (Distributed column colocation first_shard) = refl
-same_taken_by run cs at (Reference group shard) = refl
+  pub few_on : (n place : ℕ) → shards_on node n place ≤ n
+  few_on zero place = omega arith
+  few_on (suc n) place =
+      let further = few_on n place in
+      let same : shards_on node (suc n) place ≡ shards_on node (n + 1) place = ap (λ m. shards_on node m place) (let e : suc n ≡ n + 1 = omega arith in e) in
+      let next = next_on n place in
+      let most : cond (nat_eq (node n) (place + 1)) 1 0 ≤ 1 = one_most (nat_eq (node n) (place + 1)) in
+      omega (arith, further, same, next, most)
+    where
+      one_most : (b : Bool) → one_if b ≤ 1
+      one_most true = omega arith
+      one_most false = omega arith
 
-pub same_taken : (run : Run) (cs : List Colocation) (at : ℕ) (ts : List TableInfo) → history.taken_in run cs at ts ≡ taken_in run.workers cs at ts
-same_taken run cs at [] = refl
-same_taken run cs at (t ∷ ts) = let first = same_taken_by run cs at t.place in let further = same_taken run cs at ts in omega (arith, first, further)
+  -- the counts by place, after the next shard, which is on the node of this one
+  pub counts_more : (counts : List ℕ) (n at : ℕ) → length counts ≡ 16 → node n ≡ at + 1 → at < 16 → ((place : ℕ) → place < 16 → slice_get counts place ≡ Some (shards_on node n place)) → (place : ℕ) → place < 16 →
+      slice_get (set counts at (get_or counts at 0 + 1)) place ≡ Some (shards_on node (n + 1) place)
+  counts_more counts n at many is low each place less =
+      let more = get_or counts at 0 + 1 in
+      elim (eqb_tells place at) [
+        | inl y ↦
+            let old : get_or counts at 0 ≡ shards_on node n at = get_or_from_slice_get counts at (shards_on node n at) 0 (each at low) in
+            let one = next_here n at is in
+            let here : more ≡ shards_on node (n + 1) at = omega (arith, old, one) in
+            let long = length-set counts at more in
+            ap (slice_get (set counts at more)) y.1 ∙ slice_get-get_or (set counts at more) at 0 (omega (arith, long, many, low))
+            ∙ ap (λ (m : ℕ). Some m) (get_or-set_same counts at more 0 (omega (arith, many, low)) ∙ here) ∙ ap (λ p. Some (shards_on node (n + 1) p)) (sym y.1)
+        | inr z ↦ got_other counts at more place z.1 ∙ each place less ∙ ap (λ (m : ℕ). Some m) (sym (next_elsewhere n place (λ e. z.1 (omega (arith, e, is)))))
+      ]
+
+-- shards that are on the same nodes
+pub alike_on : (f h : ℕ → ℕ) (n place : ℕ) → ((i : ℕ) → i < n → f i ≡ h i) → shards_on f n place ≡ shards_on h n place
+alike_on f h n place same =
+    counted f ∙ sum_alike (λ i. cond (nat_eq (f i) (place + 1)) 1 0) (λ i. cond (nat_eq (h i) (place + 1)) 1 0) 0 n (λ i least most. ap (λ m. cond (nat_eq m (place + 1)) 1 0) (same i (omega (arith, most)))) ∙ sym (counted h)
+  where
+    counted : (k : ℕ → ℕ) → shards_on k n place ≡ sum_by (λ i. cond (nat_eq (k i) (place + 1)) 1 0) (numbers 0 n)
+    counted k = sym (length_sum (filter (λ i. nat_eq (k i) (place + 1)) (numbers 0 n))) ∙ sum_passing (λ i. 1) (λ i. nat_eq (k i) (place + 1)) (numbers 0 n)
 
 -- ---- the lowest node with too few stores
 
@@ -94,15 +123,15 @@ only_of : {A : Type 0} (o : Option A) → first_of (o ∷ []) ≡ o
 only_of None = refl
 only_of (Some x) = refl
 
-module _ {X : Type 0} (nodes count place : ℕ) (workers : List (Worker X)) where
-  pub shortage_here : (f : Fault) → place < nodes → short_of nodes count place (stores_in (slice_get workers place)) ≡ Some f → shortage_from nodes count workers place (nodes - place) ≡ Some f
+module _ {X : Type 0} (nodes : ℕ) (needed : ℕ → ℕ) (place : ℕ) (workers : List (Worker X)) where
+  pub shortage_here : (f : Fault) → place < nodes → short_of (needed place) place (stores_in (slice_get workers place)) ≡ Some f → shortage_from needed workers place (nodes - place) ≡ Some f
   shortage_here f h short =
-      ap (shortage_from nodes count workers place) (next_node nodes place h)
-      ∙ ap (λ (o : Option Fault). first_of (o ∷ shortage_from nodes count workers (place + 1) (nodes - (place + 1)) ∷ [])) short
+      ap (shortage_from needed workers place) (next_node nodes place h)
+      ∙ ap (λ (o : Option Fault). first_of (o ∷ shortage_from needed workers (place + 1) (nodes - (place + 1)) ∷ [])) short
 
-  pub shortage_beyond : place < nodes → short_of nodes count place (stores_in (slice_get workers place)) ≡ None →
-      shortage_from nodes count workers place (nodes - place) ≡ shortage_from nodes count workers (place + 1) (nodes - (place + 1))
+  pub shortage_beyond : place < nodes → short_of (needed place) place (stores_in (slice_get workers place)) ≡ None →
+      shortage_from needed workers place (nodes - place) ≡ shortage_from needed workers (place + 1) (nodes - (place + 1))
   shortage_beyond h enough =
-      ap (shortage_from nodes count workers place) (next_node nodes place h)
-      ∙ ap (λ (o : Option Fault). first_of (o ∷ shortage_from nodes count workers (place + 1) (nodes - (place + 1)) ∷ [])) enough
-      ∙ only_of (shortage_from nodes count workers (place + 1) (nodes - (place + 1)))
+      ap (shortage_from needed workers place) (next_node nodes place h)
+      ∙ ap (λ (o : Option Fault). first_of (o ∷ shortage_from needed workers (place + 1) (nodes - (place + 1)) ∷ [])) enough
+      ∙ only_of (shortage_from needed workers (place + 1) (nodes - (place + 1)))

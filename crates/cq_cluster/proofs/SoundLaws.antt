@@ -35,22 +35,22 @@ use Rattle.cq_store.specs.declared.worker.Worker.{Worker}
 use Rattle.cq_planning.specs.Database.{shape_in}
 use Rattle.cq_history.specs.Deeds.{Grows}
 use Rattle.cq_history.specs.Journals.{none as nothing_made}
-use Rattle.cq_history.specs.Run as history
+use Rattle.cq_history.specs.Room.{shards_at, free_at, short_at, room_from, room_fault}
 use Rattle.cq_cluster.specs.declared.shards.Shards.{Shards}
-use Rattle.cq_cluster.specs.Room.{shards_on, taken}
 use Rattle.cq_group.specs.declared.group.GroupState.{GroupState}
 use Rattle.cq_group.specs.Groups.{IsKept, IsNamed, IsQuiet, Outline, outlines, shape_at, entries_of, journal_of}
 use Rattle.cq_group.specs.Resting.{journals_of}
-use Rattle.cq_cluster.specs.Cluster.{Either, home_of, IsCovered, IsReferenced, IsWaiting, held, everywhere, AreGroups, whole_at, AreWorkers, run_of, stores_in}
+use Rattle.cq_cluster.specs.Cluster.{Either, home_of, IsCovered, IsReferenced, IsUsed, IsWaiting, node_in, node_of_item, held, everywhere, AreGroups, AreWorkers, run_of, stores_in}
 use Rattle.cq_cluster.specs.Accounts.{AreAccounted}
-use Rattle.cq_cluster.specs.Steps.{Goes, AreGone, more_at, nothing_more, AreSpent, HaveStores, AreOpened, IsUnwritten, shard_outline, Adding, short_of, shortage_from, shortage, shards_of, HasOpened, IsBegun, forgotten, CanBegin, IsOpen, IsUndone}
+use Rattle.cq_cluster.specs.Steps.{Goes, AreGone, more_at, nothing_more, shards_on, shard_node, AreSpent, HaveStores, AreOpened, IsUnwritten, shard_outline, Adding, short_of, shortage_from, shortage, shards_of, HasOpened, IsBegun, forgotten, CanBegin, IsOpen, IsUndone}
 use Rattle.cq_cluster.proofs.ListLaws.{there, item_at}
 use Rattle.cq_cluster.proofs.GoneLaws.{goes_same, more_none, gone_journals, held_gone, everywhere_gone}
 use Rattle.cq_cluster.proofs.JournalLaws.{same_grows, opened_grow}
 use Rattle.cq_cluster.proofs.AddingLaws.{spent_none}
 use Rattle.cq_cluster.proofs.AccountLaws.{from_at, gone_accounted, opened_accounted}
-use Rattle.cq_cluster.proofs.RoomLaws.{none_on, same_taken}
-use Rattle.cq_cluster.proofs.CatalogLaws.{no_shard, more_outside, groups_opened, groups_spread, held_empty, everywhere_empty, before_more, behind_more, last_there}
+use Rattle.cq_cluster.proofs.RoomLaws.{none_on, alike_on}
+use Rattle.cq_cluster.proofs.HeldLaws.{held_on}
+use Rattle.cq_cluster.proofs.CatalogLaws.{used_home, no_shard, more_outside, groups_opened, groups_spread, held_empty, everywhere_empty, before_more, behind_more, last_there}
 
 -- ---- what a group that hasn't a table has no write of
 
@@ -110,9 +110,9 @@ module _ {X : Type 0} (state : X → StoreState) (nodes : ℕ) (some : 0 < nodes
 
   -- ---- the workers
 
-  short_none : (count place free : ℕ) → short_of nodes count place free ≡ None → shards_on nodes count place ≤ free
-  short_none count place free h = elim (cases_lt free (shards_on nodes count place)) [
-    | inl less ↦ absurd (refused (let yes : nat_lt free (shards_on nodes count place) ≡ true = grind (arith, nat_tests, less) in rw yes at h))
+  short_none : (needed place free : ℕ) → short_of needed place free ≡ None → needed ≤ free
+  short_none needed place free h = elim (cases_lt free needed) [
+    | inl less ↦ absurd (refused (let yes : nat_lt free needed ≡ true = grind (arith, nat_tests, less) in rw yes at h))
     | inr enough ↦ omega (arith, enough)
   ]
     where
@@ -124,7 +124,7 @@ module _ {X : Type 0} (state : X → StoreState) (nodes : ℕ) (some : 0 < nodes
   -- where the shards of a table go: its groups are those of a co-location group, or are to be opened
   begun_joins : (c : Contents) (o : Opened) (shape : Shape) (co : Colocation) (colocation : ℕ) (groups : List (GroupState X)) (workers : List (Worker X)) → IsWhole c → AreGroups state nodes c groups → place_at c o.table ≡ Local →
       slice_get c.colocations colocation ≡ Some co → o.first_group ≡ co.first_group → o.count ≡ co.count → o.first_shard ≡ c.next_shard → 0 < c.next_shard → c.next_shard < 4294967296 →
-      nodes ≤ length workers → HaveStores state nodes o.count workers → Adding state (shards_of nodes o) shape groups workers 0 groups workers
+      nodes ≤ length workers → HaveStores state nodes (shards_on (shard_node groups o.first_group) o.count) workers → Adding state (shards_of nodes o) shape groups workers 0 groups workers
   begun_joins c o shape co colocation groups workers whole all local joins first count shard first_id few both stores =
       let free = free_group c o.table groups all local in
       let cut = whole.cut colocation co joins in
@@ -141,12 +141,12 @@ module _ {X : Type 0} (state : X → StoreState) (nodes : ℕ) (some : 0 < nodes
             let i = h - co.first_group in
             let index : h ≡ co.first_group + i = omega (arith, first, least) in
             let at = all.each colocation i co g joins (omega (arith, first, count, least, most)) (subst (λ n. slice_get groups n ≡ Some g) index s) in
-            (f.free, at.node ∙ ap (home_of nodes) (let e : i ≡ h - o.first_group = omega (arith, first) in e));
+            (f.free, at.node);
         stores = stores;
         gone = gone_free o.table o.first_group (shard_outline (shards_of nodes o) shape) groups free;
-        held = λ place h. let zero_more = none_on nodes some place h in omega (arith, zero_more);
+        held = λ place h. let zero_more = none_on (shard_node groups o.first_group) place in omega (arith, zero_more);
         unwritten = unwritten_free o.table groups free;
-        spent = spent_none state nodes some workers (λ place w h s. (stores place w h s).1);
+        spent = spent_none state nodes workers (λ place w h s. (stores place w h s).1);
       }
 
   behind_opened : (groups opened : List (GroupState X)) (h : ℕ) (g : GroupState X) → slice_get (groups ++ opened) h ≡ Some g → (slice_get groups h ≡ Some g) ⊎ ((length groups ≤ h) × (slice_get opened (h - length groups) ≡ Some g))
@@ -155,9 +155,12 @@ module _ {X : Type 0} (state : X → StoreState) (nodes : ℕ) (some : 0 < nodes
     | inr l ↦ inr (omega (arith, l), sym (behind_more groups opened (h - length groups)) ∙ ap (slice_get (groups ++ opened)) (let e : length groups + (h - length groups) ≡ h = omega (arith, l) in e) ∙ s)
   ]
 
+  have_alike : (needed other : ℕ → ℕ) (workers : List (Worker X)) → ((place : ℕ) → place < nodes → needed place ≡ other place) → HaveStores state nodes needed workers → HaveStores state nodes other workers
+  have_alike needed other workers same stores place w h s = let at = stores place w h s in (at.0, at.1, (let least = at.2 in let e = same place h in omega (arith, least, e)))
+
   begun_opens : (c : Contents) (o : Opened) (shape : Shape) (groups opened : List (GroupState X)) (workers : List (Worker X)) → AreGroups state nodes c groups → place_at c o.table ≡ Local →
       o.first_group ≡ c.groups → o.count ≤ 128 → o.first_group + o.count ≤ 512 → o.first_shard ≡ c.next_shard → 0 < c.next_shard → c.next_shard < 4294967296 → length opened ≡ o.count → AreOpened state nodes o.first_group opened →
-      nodes ≤ length workers → HaveStores state nodes o.count workers → Adding state (shards_of nodes o) shape (groups ++ opened) workers 0 (groups ++ opened) workers
+      nodes ≤ length workers → HaveStores state nodes (shards_on (home_of nodes) o.count) workers → Adding state (shards_of nodes o) shape (groups ++ opened) workers 0 (groups ++ opened) workers
   begun_opens c o shape groups opened workers all local first count numbers shard first_id few number fresh both stores =
       let free : (h : ℕ) (g : GroupState X) → slice_get (groups ++ opened) h ≡ Some g → IsFree o.table g =
       λ h g s. elim (behind_opened groups opened h g s) [
@@ -176,41 +179,49 @@ module _ {X : Type 0} (state : X → StoreState) (nodes : ℕ) (some : 0 < nodes
             let f = free h g s in
             elim (behind_opened groups opened h g s) [
               | inl p ↦ absurd (let below = slice_get_within groups h g p in omega (arith, below, first, least, all.count))
-              | inr p ↦ (let at = fresh (h - length groups) g p.1 in (f.free, at.node ∙ ap (home_of nodes) (let e : h - length groups ≡ h - o.first_group = omega (arith, first, all.count) in e)))
+              | inr p ↦ (let at = fresh (h - length groups) g p.1 in (f.free, subst (IsUsed nodes) (sym at.node) (used_home nodes some (h - length groups))))
             ];
-        stores = stores;
+        stores = have_alike (shards_on (home_of nodes) o.count) (shards_on (shard_node (groups ++ opened) o.first_group) o.count) workers (λ place h. alike_on (home_of nodes) (shard_node (groups ++ opened) o.first_group) o.count place homes) stores;
         gone = gone_free o.table o.first_group (shard_outline (shards_of nodes o) shape) (groups ++ opened) free;
-        held = λ place h. let zero_more = none_on nodes some place h in omega (arith, zero_more);
+        held = λ place h. let zero_more = none_on (shard_node (groups ++ opened) o.first_group) place in omega (arith, zero_more);
         unwritten = unwritten_free o.table (groups ++ opened) free;
-        spent = spent_none state nodes some workers (λ place w h s. (stores place w h s).1);
+        spent = spent_none state nodes workers (λ place w h s. (stores place w h s).1);
       }
+    where
+      -- each new group is on its home
+      homes : (i : ℕ) → i < o.count → home_of nodes i ≡ shard_node (groups ++ opened) o.first_group i
+      homes i less =
+          let x = item_at opened i (omega (arith, less, number)) in
+          let index : o.first_group + i ≡ length groups + i = omega (arith, first, all.count) in
+          let is : slice_get (groups ++ opened) (o.first_group + i) ≡ Some x.0 = ap (slice_get (groups ++ opened)) index ∙ behind_more groups opened i ∙ x.1 in
+          sym (ap (λ (v : Option (GroupState X)). node_of_item v) is ∙ (fresh i x.0 x.1).node)
 
   -- the workers have the stores, where none is short
-  pub have_stores : (groups : List (GroupState X)) (entry workers : List (Worker X)) (count : ℕ) → nodes ≤ length workers → AreWorkers state nodes entry groups workers → shortage nodes count workers ≡ None → HaveStores state nodes count workers
-  have_stores groups entry workers count both all enough place w h s =
+  pub have_stores : (groups : List (GroupState X)) (entry workers : List (Worker X)) (retired : List ℕ) (needed : ℕ → ℕ) → nodes ≤ length workers → AreWorkers state nodes entry retired groups workers → shortage nodes needed workers ≡ None → HaveStores state nodes needed workers
+  have_stores groups entry workers retired needed both all enough place w h s =
       let at = all.used place w h s in
       let short = none_short 0 nodes enough place (omega arith) (omega (arith, h)) in (
         at.node,
         subst (λ n. All (λ (x : X). IsWaiting n (state x)) w.stores.items) (sym at.node) at.stores,
-        (let had = short_none count place _ short in let e = ap stores_in s in omega (arith, had, e)),
+        (let had = short_none (needed place) place _ short in let e = ap stores_in s in omega (arith, had, e)),
       )
     where
       first_none : {A : Type 0} (o : Option A) (rest : List (Option A)) → first_of (o ∷ rest) ≡ None → (o ≡ None) × (first_of rest ≡ None)
       first_none None rest h = (refl, h)
       first_none (Some x) rest h = cc
 
-      none_short : (first more : ℕ) → shortage_from nodes count workers first more ≡ None → (k : ℕ) → first ≤ k → k < first + more → short_of nodes count k (stores_in (slice_get workers k)) ≡ None
+      none_short : (first more : ℕ) → shortage_from needed workers first more ≡ None → (k : ℕ) → first ≤ k → k < first + more → short_of (needed k) k (stores_in (slice_get workers k)) ≡ None
       none_short first zero free k least most = absurd (omega (arith, least, most))
       none_short first (suc more) free k least most =
-          let here = first_none (short_of nodes count first (stores_in (slice_get workers first))) (shortage_from nodes count workers (first + 1) more ∷ []) free in
-          let rest = first_none (shortage_from nodes count workers (first + 1) more) [] here.1 in
+          let here = first_none (short_of (needed first) first (stores_in (slice_get workers first))) (shortage_from needed workers (first + 1) more ∷ []) free in
+          let rest = first_none (shortage_from needed workers (first + 1) more) [] here.1 in
           elim (eqb_tells k first) [
-            | inl y ↦ subst (λ j. short_of nodes count j (stores_in (slice_get workers j)) ≡ None) (sym y.1) here.0
+            | inl y ↦ subst (λ j. short_of (needed j) j (stores_in (slice_get workers j)) ≡ None) (sym y.1) here.0
             | inr z ↦ none_short (first + 1) more rest.0 k (omega (arith, z.1, least)) (omega (arith, most))
           ]
 
   pub can_begin_at : (c : Contents) (table : ℕ) (target : Target) (shape : Shape) (groups : List (GroupState X)) (workers : List (Worker X)) → IsWhole c → AreGroups state nodes c groups → place_at c table ≡ Local → CanOpen c target →
-      0 < c.next_shard → c.next_shard < 4294967296 → nodes ≤ length workers → HaveStores state nodes (opened_at c table target).count workers → CanBegin state nodes (opened_at c table target) shape groups workers
+      0 < c.next_shard → c.next_shard < 4294967296 → nodes ≤ length workers → HaveStores state nodes (shards_at nodes (node_in groups) (opened_at c table target)) workers → CanBegin state nodes (opened_at c table target) shape groups workers
   can_begin_at c table (Opens count joinable) shape groups workers whole all local can first_id few both stores begun has =
       let opened = has.0 in
       subst (λ (gs : List (GroupState X)). Adding state (shards_of nodes (opened_at c table (Opens count joinable))) shape gs workers 0 gs workers) (sym has.1)
@@ -231,7 +242,7 @@ module _ {X : Type 0} (state : X → StoreState) (nodes : ℕ) (some : 0 < nodes
   pub record IsDone (c next : Contents) (old groups : List (GroupState X)) (full workers : List (Worker X)) : Type 0 where
     pub after : AreGroups state nodes next groups
     pub grows : (who : Who) → Grows who nothing_made (journals_of old) (journals_of groups)
-    pub stores : (entry : List (Worker X)) → AreWorkers state nodes entry old full → AreWorkers state nodes entry groups workers
+    pub stores : (entry : List (Worker X)) (retired : List ℕ) → AreWorkers state nodes entry retired old full → AreWorkers state nodes entry retired groups workers
     pub same_length : length workers ≡ length full
     pub accounted : (answers : List Answered) → AreAccounted state c answers old → AreAccounted state next answers groups
 
@@ -239,11 +250,11 @@ module _ {X : Type 0} (state : X → StoreState) (nodes : ℕ) (some : 0 < nodes
   adding_everywhere : (shards : Shards) (shape : Shape) (old groups : List (GroupState X)) (full workers : List (Worker X)) (n : ℕ) → Adding state shards shape old full n groups workers → everywhere groups ≡ everywhere old
   adding_everywhere shards shape old groups full workers n a =
       everywhere_gone state (more_at shards.first_group (shard_outline shards shape) n) old groups a.gone
-      (λ h g s node. more_outside shards.first_group (shard_outline shards shape) n h (λ j l e. absurd (let r = a.ready h g (omega (arith, e)) (omega (arith, e, l, a.few)) s in omega (arith, r.1, node))))
+      (λ h g s node. more_outside shards.first_group (shard_outline shards shape) n h (λ j l e. absurd (let r = (a.ready h g (omega (arith, e)) (omega (arith, e, l, a.few)) s).1.some in omega (arith, r, node))))
 
-  pub keeps_all : (old groups : List (GroupState X)) (full workers : List (Worker X)) (n : ℕ) → nodes ≤ length full → AreSpent state nodes n full workers →
-      ((place : ℕ) → place < nodes → held place groups + everywhere groups ≡ held place old + everywhere old + shards_on nodes n place) → (entry : List (Worker X)) → AreWorkers state nodes entry old full → AreWorkers state nodes entry groups workers
-  keeps_all old groups full workers n both spent count entry now = record {
+  pub keeps_all : (old groups : List (GroupState X)) (full workers : List (Worker X)) (out : ℕ → ℕ) → nodes ≤ length full → AreSpent state nodes out full workers → ((place : ℕ) → place < nodes → held place groups + everywhere groups ≡ held place old + everywhere old + out place) →
+      (entry : List (Worker X)) (retired : List ℕ) → AreWorkers state nodes entry retired old full → AreWorkers state nodes entry retired groups workers
+  keeps_all old groups full workers out both spent count entry retired now = record {
     same_length = spent.same_length ∙ now.same_length;
     used = λ place w h s.
         let before = there full workers place w w spent.same_length s in
@@ -258,9 +269,9 @@ module _ {X : Type 0} (state : X → StoreState) (nodes : ℕ) (some : 0 < nodes
     unused = λ place h. spent.unused place h ∙ now.unused place h;
   }
 
-  keeps : (old groups : List (GroupState X)) (full workers : List (Worker X)) (n : ℕ) → nodes ≤ length full → AreSpent state nodes n full workers → ((place : ℕ) → place < nodes → held place groups ≡ held place old + shards_on nodes n place) →
-      everywhere groups ≡ everywhere old → (entry : List (Worker X)) → AreWorkers state nodes entry old full → AreWorkers state nodes entry groups workers
-  keeps old groups full workers n both spent count all_nodes = keeps_all old groups full workers n both spent (λ place h. omega (arith, count place h, all_nodes))
+  keeps : (old groups : List (GroupState X)) (full workers : List (Worker X)) (out : ℕ → ℕ) → nodes ≤ length full → AreSpent state nodes out full workers → ((place : ℕ) → place < nodes → held place groups ≡ held place old + out place) →
+      everywhere groups ≡ everywhere old → (entry : List (Worker X)) (retired : List ℕ) → AreWorkers state nodes entry retired old full → AreWorkers state nodes entry retired groups workers
+  keeps old groups full workers out both spent count all_nodes = keeps_all old groups full workers out both spent (λ place h. omega (arith, count place h, all_nodes))
 
   pub done_at : (c : Contents) (table column : ℕ) (kind : Kind) (target : Target) (shape : Shape) (info : TableInfo) (old groups : List (GroupState X)) (full workers : List (Worker X)) → IsWhole c → AreGroups state nodes c old → slice_get c.tables table ≡ Some info →
       info.place ≡ Local → CanOpen c target → shape ≡ shape_in c table → IsOpen state nodes (opened_at c table target) shape old full groups workers → IsDone c (distributed_at c table column kind target) old groups full workers
@@ -276,11 +287,12 @@ module _ {X : Type 0} (state : X → StoreState) (nodes : ℕ) (some : 0 < nodes
       subst (λ (s : Shape). AreGone state (more_at co.0.first_group (λ j. (table, s, c.next_shard + j, 1)) co.0.count) old groups) is
       (subst (λ n. AreGone state (more_at co.0.first_group (λ j. (table, shape, c.next_shard + j, 1)) n) old groups) count
       (subst (λ n. AreGone state (more_at n (λ j. (table, shape, c.next_shard + j, 1)) o.count) old groups) first gone)) in
-      let number : (place : ℕ) → place < nodes → held place groups ≡ held place old + shards_on nodes o.count place = λ place h. a.held place h ∙ ap (λ (gs : List (GroupState X)). held place gs + shards_on nodes o.count place) same in
+      let out : ℕ → ℕ = shards_on (shard_node done.begun o.first_group) o.count in
+      let number : (place : ℕ) → place < nodes → held place groups ≡ held place old + out place = λ place h. a.held place h ∙ ap (λ (gs : List (GroupState X)). held place gs + out place) same in
       record {
-        after = groups_spread state nodes c table column colocation (count_in (slice_get c.colocations colocation)) co.0 info old groups whole there local co.1 exact (λ place h. number place h ∙ ap (λ n. held place old + shards_on nodes n place) count) all;
+        after = groups_spread state nodes c table column colocation (count_in (slice_get c.colocations colocation)) co.0 info old groups whole there local co.1 exact all;
         grows = λ who. same_grows who (journals_of old) (journals_of groups) (gone_journals state _ old groups gone);
-        stores = keeps old groups full workers o.count a.enough a.spent number (adding_everywhere (shards_of nodes o) shape done.begun groups full workers o.count a ∙ ap (λ (gs : List (GroupState X)). everywhere gs) same);
+        stores = keeps old groups full workers out a.enough a.spent number (adding_everywhere (shards_of nodes o) shape done.begun groups full workers o.count a ∙ ap (λ (gs : List (GroupState X)). everywhere gs) same);
         same_length = a.spent.same_length;
         accounted = λ answers was.
             let next = distributed_at c table column kind (Joins colocation) in
@@ -298,15 +310,16 @@ module _ {X : Type 0} (state : X → StoreState) (nodes : ℕ) (some : 0 < nodes
       let opened = done.begins.0 in
       let next = with_colocation c kind count joinable in
       let co : Colocation = record { kind = kind; count = count; first_group = c.groups; joinable = joinable; ends = ends count } in
-      let begun_groups : AreGroups state nodes next done.begun = subst (AreGroups state nodes next) (sym done.begins.1) (groups_opened state nodes c kind count joinable old opened whole all done.begins.2 done.begins.3) in
+      let begun_groups : AreGroups state nodes next done.begun = subst (AreGroups state nodes next) (sym done.begins.1) (groups_opened state nodes some c kind count joinable old opened whole all done.begins.2 done.begins.3) in
       let exact : AreGone state (more_at c.groups (λ j. (table, shape_in next table, c.next_shard + j, 1)) count) done.begun groups =
       subst (λ (s : Shape). AreGone state (more_at c.groups (λ j. (table, s, c.next_shard + j, 1)) count) done.begun groups) is a.gone in
+      let out : ℕ → ℕ = shards_on (shard_node done.begun o.first_group) count in
       let empty : (place : ℕ) → held place done.begun ≡ held place old = λ place. ap (held place) done.begins.1 ∙ held_empty state nodes place c.groups old opened done.begins.3 in
       record {
-        after = groups_spread state nodes next table column (length c.colocations) count co info done.begun groups (whole_opened c kind count joinable whole can) there local (last_there c.colocations co) exact a.held begun_groups;
+        after = groups_spread state nodes next table column (length c.colocations) count co info done.begun groups (whole_opened c kind count joinable whole can) there local (last_there c.colocations co) exact begun_groups;
         grows = λ who. opened_grow who c.groups old opened (journals_of groups) (λ i g s. let is = done.begins.3 i g s in (is.number, is.entries)) (sym all.count)
             (gone_journals state _ done.begun groups a.gone ∙ ap (λ (gs : List (GroupState X)). journals_of gs) done.begins.1 ∙ map-append (λ (g : GroupState X). journal_of g) old opened);
-        stores = keeps old groups full workers count a.enough a.spent (λ place h. a.held place h ∙ ap (λ n. n + shards_on nodes count place) (empty place))
+        stores = keeps old groups full workers out a.enough a.spent (λ place h. a.held place h ∙ ap (λ n. n + out place) (empty place))
             (adding_everywhere (shards_of nodes o) shape done.begun groups full workers count a ∙ ap (λ (gs : List (GroupState X)). everywhere gs) done.begins.1 ∙ everywhere_empty state nodes c.groups old opened done.begins.3);
         same_length = a.spent.same_length;
         accounted = λ answers was.
@@ -317,34 +330,35 @@ module _ {X : Type 0} (state : X → StoreState) (nodes : ℕ) (some : 0 < nodes
 
   -- ---- nothing happened
 
-  pub undone_stores : (old groups : List (GroupState X)) (full workers : List (Worker X)) → nodes ≤ length full → IsUndone state nodes old full groups workers → (entry : List (Worker X)) → AreWorkers state nodes entry old full → AreWorkers state nodes entry groups workers
+  pub undone_stores : (old groups : List (GroupState X)) (full workers : List (Worker X)) → nodes ≤ length full → IsUndone state nodes old full groups workers → (entry : List (Worker X)) (retired : List ℕ) → AreWorkers state nodes entry retired old full → AreWorkers state nodes entry retired groups workers
   undone_stores old groups full workers both undone =
-      keeps old groups full workers 0 both undone.spent (λ place h. let same = held_gone state place old groups undone.gone in let none = none_on nodes some place h in omega (arith, same, none))
+      keeps old groups full workers (λ place. 0) both undone.spent (λ place h. let same = held_gone state place old groups undone.gone in omega (arith, same))
       (everywhere_gone state nothing_more old groups undone.gone (λ h g s node. refl))
 
   -- ---- room
 
-  short_same : (c : Contents) (initial : Settings) (entry : List (Worker X)) (groups : List (GroupState X)) (workers : List (Worker X)) (count place : ℕ) → place < nodes → nodes ≤ length workers → AreGroups state nodes c groups → AreWorkers state nodes entry groups workers →
-      short_of nodes count place (stores_in (slice_get workers place)) ≡ history.short_at (run_of nodes initial entry) c (history.shards_on (run_of nodes initial entry) count) place
-  short_same c initial entry groups workers count place h enough all now =
-      let w = item_at workers place (omega (arith, h, enough)) in
-      let at = now.used place w.0 h w.1 in
-      let all_taken : history.taken_in (run_of nodes initial entry) c.colocations place c.tables ≡ taken nodes c place = same_taken (run_of nodes initial entry) c.colocations place c.tables in
-      let free : stores_in (slice_get workers place) ≡ whole_at entry place - history.taken_in (run_of nodes initial entry) c.colocations place c.tables =
-      ap stores_in w.1 ∙ (let t = at.total in let e = all.held place h in omega (arith, t, e, all_taken)) in
-      ap (short_of nodes count place) free
+  module _ (c : Contents) (initial : Settings) (entry : List (Worker X)) (retired : List ℕ) (groups : List (GroupState X)) (workers : List (Worker X)) (needed : ℕ → ℕ) (enough : nodes ≤ length workers) (all : AreGroups state nodes c groups)
+      (now : AreWorkers state nodes entry retired groups workers) where
+    -- what stands in a worker's list is what the catalogue says
+    pub free_same : (place : ℕ) → place < nodes → stores_in (slice_get workers place) ≡ free_at (run_of nodes initial entry) c retired (node_in groups) place
+    free_same place h =
+        let w = item_at workers place (omega (arith, h, enough)) in
+        let at = now.used place w.0 h w.1 in
+        let own = held_on state nodes c groups all place in
+        ap stores_in w.1 ∙ (let t = at.total in omega (arith, t, own))
 
-  same_from : (c : Contents) (initial : Settings) (entry : List (Worker X)) (groups : List (GroupState X)) (workers : List (Worker X)) (count place more : ℕ) → place + more ≤ nodes → nodes ≤ length workers → AreGroups state nodes c groups →
-      AreWorkers state nodes entry groups workers → shortage_from nodes count workers place more ≡ history.room_from (run_of nodes initial entry) c (history.shards_on (run_of nodes initial entry) count) place more
-  same_from c initial entry groups workers count place zero h enough all now = refl
-  same_from c initial entry groups workers count place (suc more) h enough all now =
-      let run = run_of nodes initial entry in
-      ap (λ (o : Option Fault). first_of (o ∷ shortage_from nodes count workers (place + 1) more ∷ [])) (short_same c initial entry groups workers count place (omega (arith, h)) enough all now)
-      ∙ ap (λ (o : Option Fault). first_of (history.short_at run c (history.shards_on run count) place ∷ o ∷ [])) (same_from c initial entry groups workers count (place + 1) more (omega (arith, h)) enough all now)
+    short_same : (place : ℕ) → place < nodes → short_of (needed place) place (stores_in (slice_get workers place)) ≡ short_at (run_of nodes initial entry) c retired (node_in groups) (needed place) place
+    short_same place h = ap (short_of (needed place) place) (free_same place h)
 
-  pub room_same : (c : Contents) (initial : Settings) (entry : List (Worker X)) (groups : List (GroupState X)) (workers : List (Worker X)) (count : ℕ) → nodes ≤ length workers → AreGroups state nodes c groups → AreWorkers state nodes entry groups workers →
-      shortage nodes count workers ≡ history.room_fault (run_of nodes initial entry) c (history.shards_on (run_of nodes initial entry) count)
-  room_same c initial entry groups workers count enough all now = same_from c initial entry groups workers count 0 nodes (omega arith) enough all now
+    same_from : (place more : ℕ) → place + more ≤ nodes → shortage_from needed workers place more ≡ room_from (run_of nodes initial entry) c retired (node_in groups) needed place more
+    same_from place zero h = refl
+    same_from place (suc more) h =
+        let run = run_of nodes initial entry in
+        ap (λ (o : Option Fault). first_of (o ∷ shortage_from needed workers (place + 1) more ∷ [])) (short_same place (omega (arith, h)))
+        ∙ ap (λ (o : Option Fault). first_of (short_at run c retired (node_in groups) (needed place) place ∷ o ∷ [])) (same_from (place + 1) more (omega (arith, h)))
+
+    pub room_same : shortage nodes needed workers ≡ room_fault (run_of nodes initial entry) c retired (node_in groups) needed
+    room_same = same_from 0 nodes (omega arith)
 
   -- ---- undone
 

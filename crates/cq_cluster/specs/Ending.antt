@@ -10,6 +10,8 @@ use Rattle.cq_catalog.specs.declared.info.Place.TheVariants.{Distributed, Refere
 use Rattle.cq_journal.specs.Journals.{replay}
 use Rattle.cq_journal.specs.declared.journal.Journal.{Journal}
 use Rattle.cq_journal.specs.Records as records
+use Rattle.cq_journal.specs.Stations.{node_of}
+use Rattle.cq_history.specs.Room.{retired_of}
 use Rattle.cq_planning.specs.Database.{shape_in}
 use Rattle.cq_store.specs.Stores.{StoreState, IsSpare}
 use Rattle.cq_store.specs.declared.worker.Worker.{Worker}
@@ -46,7 +48,7 @@ pub record AreOfGroup (c : Contents) (j : Journal) (stores : List StoreState) : 
   pub within : i < co.count
   pub is : j.group ≡ co.first_group + i
   pub tables : List ℕ
-  pub each : AllZip (IsShard c colocation i j.opening j.entries.list) tables stores
+  pub each : AllZip (IsShard c colocation i (node_of (record_of j)) j.entries.list) tables stores
   pub complete : (table at first_shard : ℕ) → place_at c table ≡ Distributed at colocation first_shard → IsIn table tables
   pub once : AreDistinct tables
 
@@ -70,21 +72,23 @@ pub record AreOfReference (c : Contents) (j : Journal) (node : ℕ) (stores : Li
 abbrev pub BeginWith : (List StoreState → Type 0) → (List StoreState → Type 0) → List StoreState → Type 0
 BeginWith Own P stores = (own : List StoreState) × (rest : List StoreState) × (stores ≡ own ++ rest) × Own own × P rest
 
--- the stores of the groups with these journals that are on the node, in order of group: a reference table's group, which was opened on 0, is on each
+-- the stores of the groups with these journals that are on the node, in order of group: a reference table's group, which is on 0, is on each
 abbrev pub AreOnNode : Contents → ℕ → List Journal → List StoreState → Type 0
 AreOnNode c node [] stores = stores ≡ []
 AreOnNode c node (j ∷ js) stores =
-    Either (nat_eq j.opening 0) (BeginWith (AreOfReference c j node) (AreOnNode c node js) stores)
-    (Either (nat_eq j.opening node) (BeginWith (AreOfGroup c j) (AreOnNode c node js) stores) (AreOnNode c node js stores))
+    Either (nat_eq (node_of (record_of j)) 0) (BeginWith (AreOfReference c j node) (AreOnNode c node js) stores)
+    (Either (nat_eq (node_of (record_of j)) node) (BeginWith (AreOfGroup c j) (AreOnNode c node js) stores) (AreOnNode c node js stores))
 
--- a used worker at the end: as many stores as at entry, some spare and empty ones, and then those of the shard groups on the node
-pub record IsWorkerFinal {X : Type 0} (state : X → StoreState) (c : Contents) (journals : List Journal) (whole place : ℕ) (w : Worker X) : Type 0 where
+-- a used worker at the end: as many stores as at entry, but for those that are retired, some spare and empty ones, and then those of the shard
+-- groups on the node
+pub record IsWorkerFinal {X : Type 0} (state : X → StoreState) (c : Contents) (retired : List ℕ) (journals : List Journal) (whole place : ℕ) (w : Worker X) : Type 0 where
   pub node : w.node ≡ place + 1
-  pub total : length w.stores.items ≡ whole
+  pub total : length w.stores.items + retired_of (place + 1) retired ≡ whole
   pub stores : (spare kept : List X) × (w.stores.items ≡ spare ++ kept) × AllByRecursion (λ x. IsSpare (state x)) spare × AreOnNode c (place + 1) journals (map state kept)
 
--- the workers at the end of a run: nothing is lost, each shard's rows stand once, on its node, and every other store is spare
-pub record IsFinal {X : Type 0} (state : X → StoreState) (nodes : ℕ) (entry : List (Worker X)) (c : Contents) (journals : List Journal) (workers : List (Worker X)) : Type 0 where
+-- the workers at the end of a run, where stores of these nodes are retired: nothing is lost, each shard's rows stand once, on its node, and
+-- every other store is spare
+pub record IsFinal {X : Type 0} (state : X → StoreState) (nodes : ℕ) (entry : List (Worker X)) (c : Contents) (retired : List ℕ) (journals : List Journal) (workers : List (Worker X)) : Type 0 where
   pub same_length : length workers ≡ length entry
-  pub used : (place : ℕ) (w : Worker X) → place < nodes → slice_get workers place ≡ Some w → IsWorkerFinal state c journals (whole_at entry place) place w
+  pub used : (place : ℕ) (w : Worker X) → place < nodes → slice_get workers place ≡ Some w → IsWorkerFinal state c retired journals (whole_at entry place) place w
   pub unused : (place : ℕ) → nodes ≤ place → slice_get workers place ≡ slice_get entry place

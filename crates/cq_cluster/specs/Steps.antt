@@ -1,11 +1,12 @@
 -- How groups and workers change as a table's shards are added one by one, and taken out again.
-use Rattle.std.specs.Prelude.{◌≡◌, ◌+◌, ◌-◌, ◌<◌, ◌≤◌, ℕ, zero, suc, true, ◌&&◌, List, [], ◌∷◌, ◌++◌, length, take, All, Option, None, Some, slice_get, nat_le, nat_lt, if◌then◌else◌}
+use Rattle.std.specs.Prelude.{◌≡◌, ◌+◌, ◌-◌, ◌<◌, ◌≤◌, ℕ, zero, suc, true, false, ◌&&◌, List, [], ◌∷◌, ◌++◌, length, take, filter, All, Option, None, Some, slice_get, nat_eq, nat_le, nat_lt, if◌then◌else◌}
 use Rattle.std.specs.List.{AllByRecursion, AllZip}
 use Rattle.cq_store.specs.Stores.{StoreState}
 use Rattle.cq_store.specs.Workers.{room}
 use Rattle.cq_store.specs.declared.worker.Worker.{Worker}
 use Rattle.cq_planning.specs.Database.{shape_in}
-use Rattle.cq_cluster.specs.Room.{shards_on}
+use Rattle.cq_planning.specs.Touched.{numbers}
+use Rattle.cq_history.specs.Room.{node_for, shards_at}
 use Rattle.cq_group.specs.declared.group.GroupState.{GroupState}
 use Rattle.cq_group.specs.Groups.{IsKept, IsQuiet, Outline, outlines, entries_of, stores_of, shape_at}
 use Rattle.cq_value.specs.declared.schema.Shape.{Shape}
@@ -21,7 +22,7 @@ use Rattle.cq_catalog.specs.Contents.{Contents}
 use Rattle.cq_catalog.specs.Distribution.{decision_of, distribution_refusal, opened_by}
 use Rattle.cq_catalog.specs.Refusals.{first_of}
 use Rattle.cq_catalog.specs.declared.info.Opened.{Opened}
-use Rattle.cq_cluster.specs.Cluster.{Either, IsWaiting, home_of, held, stores_in, most_nodes}
+use Rattle.cq_cluster.specs.Cluster.{Either, IsWaiting, IsUsed, home_of, held, node_in, stores_in, most_nodes}
 
 -- a store of this node, in use or not
 abbrev pub IsStoreOf : ℕ → StoreState → Type 0
@@ -82,21 +83,29 @@ more_at first o n h = if nat_le first h && nat_lt h (first + n) then o (h - firs
 abbrev pub nothing_more : ℕ → List Outline
 nothing_more h = []
 
--- the workers while so many shards more have a store out of their lists
-pub record AreSpent {X : Type 0} (state : X → StoreState) (nodes n : ℕ) (old new : List (Worker X)) : Type 0 where
+-- how many of the first shards of a table, so many, are on the node at this place, where each is on this node
+abbrev pub shards_on : (ℕ → ℕ) → ℕ → ℕ → ℕ
+shards_on node n place = length (filter (λ i. nat_eq (node i) (place + 1)) (numbers 0 n))
+
+-- the node of a table's i-th shard, whose group is the i-th from this one on
+abbrev pub shard_node : {X : Type 0} → List (GroupState X) → ℕ → ℕ → ℕ
+shard_node groups first i = node_in groups (first + i)
+
+-- the workers while so many stores more of each place are out of their lists
+pub record AreSpent {X : Type 0} (state : X → StoreState) (nodes : ℕ) (out : ℕ → ℕ) (old new : List (Worker X)) : Type 0 where
   pub same_length : length new ≡ length old
-  pub used : (place : ℕ) (v w : Worker X) → place < nodes → slice_get old place ≡ Some v → slice_get new place ≡ Some w → Lacks (shards_on nodes n place) v w × AllWait state w
+  pub used : (place : ℕ) (v w : Worker X) → place < nodes → slice_get old place ≡ Some v → slice_get new place ≡ Some w → Lacks (out place) v w × AllWait state w
   pub unused : (place : ℕ) → nodes ≤ place → slice_get new place ≡ slice_get old place
 
--- the groups that so many shards of a new table are added to: on their nodes, and without the table
+-- the groups that so many shards of a new table are added to: on nodes that the run uses, and without the table
 abbrev pub AreReady : {X : Type 0} → ℕ → ℕ → ℕ → ℕ → List (GroupState X) → Type 0
 AreReady {X} nodes table first n groups = (h : ℕ) (g : GroupState X) → first ≤ h → h < first + n → slice_get groups h ≡ Some g →
-    (shape_at (outlines g) table ≡ None) × (g.node ≡ home_of nodes (h - first))
+    (shape_at (outlines g) table ≡ None) × IsUsed nodes g.node
 
--- the workers have a store for each of so many shards
-abbrev pub HaveStores : {X : Type 0} → (X → StoreState) → ℕ → ℕ → List (Worker X) → Type 0
-HaveStores {X} state nodes n workers = (place : ℕ) (w : Worker X) → place < nodes → slice_get workers place ≡ Some w →
-    (w.node ≡ place + 1) × AllWait state w × (shards_on nodes n place ≤ length w.stores.items)
+-- the workers have as many stores as are needed at each place
+abbrev pub HaveStores : {X : Type 0} → (X → StoreState) → ℕ → (ℕ → ℕ) → List (Worker X) → Type 0
+HaveStores {X} state nodes needed workers = (place : ℕ) (w : Worker X) → place < nodes → slice_get workers place ≡ Some w →
+    (w.node ≡ place + 1) × AllWait state w × (needed place ≤ length w.stores.items)
 
 -- groups that were just opened, from this number on: without tables, and with empty journals
 pub record IsOpened {X : Type 0} (state : X → StoreState) (nodes first i : ℕ) (g : GroupState X) : Type 0 where
@@ -129,26 +138,33 @@ pub record Adding {X : Type 0} (state : X → StoreState) (shards : Shards) (sha
   pub some : 0 < shards.nodes
   pub enough : shards.nodes ≤ length full
   pub ready : AreReady shards.nodes shards.table shards.first_group shards.count old
-  pub stores : HaveStores state shards.nodes shards.count full
+  pub stores : HaveStores state shards.nodes (shards_on (shard_node old shards.first_group) shards.count) full
   pub gone : AreGone state (more_at shards.first_group (shard_outline shards shape) n) old groups
-  pub held : (place : ℕ) → place < shards.nodes → held place groups ≡ held place old + shards_on shards.nodes n place
+  pub held : (place : ℕ) → place < shards.nodes → held place groups ≡ held place old + shards_on (shard_node old shards.first_group) n place
   pub unwritten : AllByRecursion (λ (g : GroupState X). IsUnwritten shards.table (entries_of g)) groups
-  pub spent : AreSpent state shards.nodes n full workers
+  pub spent : AreSpent state shards.nodes (shards_on (shard_node old shards.first_group) n) full workers
 
 -- ---- room
 
--- the worker at a place has fewer stores than so many shards need there
-abbrev pub short_of : ℕ → ℕ → ℕ → ℕ → Option Fault
-short_of nodes count place free = if nat_lt free (shards_on nodes count place) then Some (fault.NoRoom (place + 1) free (shards_on nodes count place)) else None
+-- the worker at a place has fewer stores than are needed there
+abbrev pub short_of : ℕ → ℕ → ℕ → Option Fault
+short_of needed place free = if nat_lt free needed then Some (fault.NoRoom (place + 1) free needed) else None
 
 -- the lowest node with too few stores
-abbrev pub shortage_from : {X : Type 0} → ℕ → ℕ → List (Worker X) → ℕ → ℕ → Option Fault
-shortage_from nodes count workers place zero = None
-shortage_from nodes count workers place (suc more) =
-    first_of (short_of nodes count place (stores_in (slice_get workers place)) ∷ shortage_from nodes count workers (place + 1) more ∷ [])
+abbrev pub shortage_from : {X : Type 0} → (ℕ → ℕ) → List (Worker X) → ℕ → ℕ → Option Fault
+shortage_from needed workers place zero = None
+shortage_from needed workers place (suc more) = first_of (short_of (needed place) place (stores_in (slice_get workers place)) ∷ shortage_from needed workers (place + 1) more ∷ [])
 
-abbrev pub shortage : {X : Type 0} → ℕ → ℕ → List (Worker X) → Option Fault
-shortage nodes count workers = shortage_from nodes count workers 0 nodes
+abbrev pub shortage : {X : Type 0} → ℕ → (ℕ → ℕ) → List (Worker X) → Option Fault
+shortage nodes needed workers = shortage_from needed workers 0 nodes
+
+-- the groups of a table's shards are there, where they aren't opened for it
+abbrev pub AreThere : {X : Type 0} → List (GroupState X) → Opened → Type 0
+AreThere groups o = o.fresh ≡ false → (o.first_group + o.count ≤ length groups) × (o.first_group + o.count ≤ 512)
+
+-- each of its shards is to be on a node that the run uses
+abbrev pub AreUsed : {X : Type 0} → ℕ → List (GroupState X) → Opened → Type 0
+AreUsed nodes groups o = (i : ℕ) → i < o.count → IsUsed nodes (node_for nodes (node_in groups) o i)
 
 -- ---- a whole distribution
 
@@ -179,13 +195,13 @@ pub record IsOpen {X : Type 0} (state : X → StoreState) (nodes : ℕ) (o : Ope
 -- the groups and workers are as they were
 pub record IsUndone {X : Type 0} (state : X → StoreState) (nodes : ℕ) (old : List (GroupState X)) (full : List (Worker X)) (groups : List (GroupState X)) (workers : List (Worker X)) : Type 0 where
   pub gone : AreGone state nothing_more old groups
-  pub spent : AreSpent state nodes 0 full workers
+  pub spent : AreSpent state nodes (λ place. 0) full workers
 
 -- nothing refuses a distribution, and what it opens
-pub record IsPlanned {X : Type 0} (nodes : ℕ) (c : Contents) (workers : List (Worker X)) (table column : List ℕ) (count : Option ℕ) (beside : With) (default : ℕ) (o : Opened) : Type 0 where
+pub record IsPlanned {X : Type 0} (nodes : ℕ) (c : Contents) (groups : List (GroupState X)) (workers : List (Worker X)) (table column : List ℕ) (count : Option ℕ) (beside : With) (default : ℕ) (o : Opened) : Type 0 where
   pub allowed : distribution_refusal c table column count beside default ≡ None
   pub opened : o ≡ opened_by c (decision_of c table column count beside default)
-  pub room : shortage nodes o.count workers ≡ None
+  pub room : shortage nodes (shards_at nodes (node_in groups) o) workers ≡ None
 
 -- a cluster to which the shards of a table of its catalogue can be added
 pub record IsReady {X : Type 0} (state : X → StoreState) (cl : Cluster X) (o : Opened) : Type 0 where

@@ -5,3 +5,6 @@ pub mod PlanAnswers
 pub mod RefusalAnswers
 pub mod Naming
 pub mod Tags
+pub mod Staying
+pub mod RebalanceAnswers
+pub mod RebalancingAnswers

@@ -7,12 +7,17 @@ use Rattle.cq_group.specs.declared.group.GroupState.{GroupState}
 use Rattle.cq_group.specs.Resting.{journals_of}
 use Rattle.cq_history.specs.Journals.{journal_in}
 use Rattle.cq_history.proofs.Lists.{got}
-use Rattle.cq_cluster.specs.Cluster.{IsSound, journals}
+use Rattle.cq_cluster.specs.Cluster.{IsSound, node_of_item, node_in, retired_nodes, journals}
+use Rattle.cq_cluster.specs.declared.retired.Retired.{Retired}
 use Rattle.cq_cluster.specs.declared.cluster.Cluster.{Cluster}
 use Rattle.cq_cluster.proofs.GroupLaws.{rests}
 use Rattle.cq_cluster.proofs.JournalLaws.{journal_at}
 
 module _ {X : Type 0} where
+  -- where no store was retired
+  pub kept_nodes : (old new : Cluster X) → new.retired ≡ old.retired → retired_nodes new ≡ retired_nodes old
+  kept_nodes old new same = ap (λ (v : _). map (λ (r : Retired X). r.node) v.items) same
+
   node_at : (groups : List (GroupState X)) (i : ℕ) (g : GroupState X) → slice_get groups i ≡ Some g → slice_index_or (map (λ (h : GroupState X). h.node) groups) i 0 ≡ g.node
   node_at [] i g e = cc
   node_at (h ∷ hs) zero g e = let same : h ≡ g = cc in ap (λ (v : GroupState X). v.node) same
@@ -34,3 +39,10 @@ module _ {X : Type 0} where
         let x = got cl.groups.items g (omega (arith, l, count)) in
         ap (λ (v : List ℕ). slice_index_or v g 0) are ∙ (node_at cl.groups.items g x.0 x.1
         ∙ (sym (rests state cl s g x.0 x.1).placed ∙ ap node_of (sym (journal_at cl.groups.items g x.0 x.1))))
+
+    -- and so is the node of each
+    pub told_in : (g : ℕ) → g < cl.catalog.groups → node_in cl.groups.items g ≡ node_of (journal_in (journals cl) g)
+    told_in g l =
+        let count = s.groups.count in
+        let x = got cl.groups.items g (omega (arith, l, count)) in
+        ap node_of_item x.1 ∙ (sym (rests state cl s g x.0 x.1).placed ∙ ap node_of (sym (journal_at cl.groups.items g x.0 x.1)))

@@ -5,12 +5,12 @@ use Rattle.cq_answer.specs.declared.answer.Answer.{Answer}
 use Rattle.cq_answer.specs.declared.answer.Answer.TheVariants as answer
 use Rattle.cq_answer.specs.declared.answer.Tag.TheVariants as tag
 use Rattle.cq_history.specs.Run.{Environment}
-use Rattle.cq_cluster.specs.Cluster.{journals as journals_in}
+use Rattle.cq_cluster.specs.Cluster.{retired_nodes, journals as journals_in}
 use Rattle.cq_coordinator.specs.declared.coordinator.Coordinator.{Coordinator}
 
--- the catalogue and the settings that the next statement runs in
+-- the catalogue, the settings and the retired stores that the next statement finds
 abbrev pub environment : {X : Type 0} → Coordinator X → Environment
-environment co = record { catalog = co.cluster.catalog; settings = co.settings }
+environment co = record { catalog = co.cluster.catalog; settings = co.settings; retired = retired_nodes co.cluster }
 
 -- the journals of the shard groups, in order of group
 abbrev pub journals : {X : Type 0} → Coordinator X → List Journal

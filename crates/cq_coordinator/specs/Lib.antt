@@ -1,1 +1,3 @@
 pub mod Coordination
+pub mod Moves
+pub mod Rebalances

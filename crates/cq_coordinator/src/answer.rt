@@ -10,14 +10,15 @@ ghost use Rattle.cq_history.specs.Legality.{IsLegal, IsKeyed};
 ghost use Rattle.cq_history.specs.Refusals.{rules};
 ghost use Rattle.cq_history.specs.Log.{IsAnswered};
 ghost use Rattle.cq_store.specs.declared.worker.Worker.{Worker};
-ghost use Rattle.cq_cluster.specs.Cluster.{IsSound, KeepsStores, AreWorkers, run_of};
+ghost use Rattle.cq_cluster.specs.Cluster.{IsSound, KeepsStores, HasStores, run_of};
 ghost use Rattle.cq_answer.specs.declared.answered.Answered.{Answered};
-ghost use Rattle.cq_cluster.specs.Accounts.{AreAccounted};
+ghost use Rattle.cq_cluster.specs.Accounts.{IsNext, AreAccounted, Retires};
 ghost use Rattle.cq_coordinator.specs.Coordination.{environment, journals, IsNoCopy};
 
 use crate::coordinator::Coordinator;
 use cq_answer::{Answer, Fault};
 use cq_catalog::{Catalog, Place};
+use cq_group::Gate;
 use cq_refusals::refusal_of;
 use cq_relations::place_of;
 use cq_store::Store;
@@ -47,17 +48,24 @@ fn has_shards(catalog: &Catalog, op: &ShardOp) -> bool
 
 impl<S: Store> Coordinator<S> {
     /// The answer of a statement that planning supports.
-    fn answer_supported(&mut self, alloc: Global, who: Who, statement: &Statement) -> Answer
+    fn answer_supported<G: Gate>(
+        &mut self,
+        alloc: Global,
+        gate: &G,
+        who: Who,
+        statement: &Statement,
+    ) -> Answer
         requires sound { IsSound S.state self.old.cluster }
         requires legal { (g : ℕ) → IsLegal self.old.cluster.catalog g (journal_in (journals self.old) g) }
         requires keyed { (table : ℕ) → IsKeyed self.old.cluster.catalog table }
         requires computable { IsComputable self.old.cluster.catalog statement.now }
         requires supported { refusal_by_rule self.old.settings.repartition self.old.cluster.catalog statement.now ≡ None }
-        ensures answered { (initial : Settings) (entry : List (Worker S)) → AreWorkers S.state self.old.cluster.nodes entry self.old.cluster.groups.items self.old.cluster.workers.items → IsAnswered rules (run_of self.old.cluster.nodes initial entry) (environment self.old) (environment self.new) who (journals self.old) (journals self.new) (Some statement.now) result }
+        ensures answered { (initial : Settings) (entry : List (Worker S)) → HasStores S.state entry self.old.cluster → IsAnswered rules (run_of self.old.cluster.nodes initial entry) (environment self.old) (environment self.new) who (journals self.old) (journals self.new) (Some statement.now) result }
         ensures tag { IsNoCopy result }
         ensures sound { IsSound S.state self.new.cluster }
         ensures stores { KeepsStores S.state self.old.cluster self.new.cluster }
-        ensures accounted { (answers : List Answered) (a : Answered) → a.answer ≡ result → AreAccounted S.state self.old.cluster.catalog answers self.old.cluster.groups.items → AreAccounted S.state self.new.cluster.catalog (answers ++ a ∷ []) self.new.cluster.groups.items }
+        ensures accounted { (answers : List Answered) (a : Answered) → a.answer ≡ result → IsNext who a answers self.old.cluster.groups.items → AreAccounted S.state self.old.cluster.catalog answers self.old.cluster.groups.items → AreAccounted S.state self.new.cluster.catalog (answers ++ a ∷ []) self.new.cluster.groups.items }
+        ensures retires { Retires who result self.old.cluster.retired.items self.new.cluster.retired.items }
     {
         match statement {
             Statement::CreateTable { name, columns, key } => {
@@ -80,10 +88,12 @@ impl<S: Store> Coordinator<S> {
                     Answer::Failed(Fault::NotBuilt)
                 }
             }
-            Statement::Copy { .. }
-            | Statement::Move { .. }
-            | Statement::Rebalance { .. }
-            | Statement::RebalancePlan { .. } => Answer::Failed(Fault::NotBuilt),
+            Statement::Move { shard, from, to } => {
+                self.move_shard(alloc, gate, who, *shard, *from, *to)
+            }
+            Statement::RebalancePlan { by_size } => self.plan_rebalance(alloc, who, *by_size),
+            Statement::Rebalance { by_size } => self.rebalance(alloc, gate, who, *by_size),
+            Statement::Copy { .. } => Answer::Failed(Fault::NotBuilt),
         }
     }
 
@@ -92,16 +102,23 @@ impl<S: Store> Coordinator<S> {
     /// Conditions: the journals are legal, primary keys of distributed tables have the distribution column, and the statement can be
     /// computed and planned, as the binder makes sure. The answer is what `IsAnswered` says: the statement's meaning over the
     /// undistributed database, or a refusal with its cause, or want of memory.
-    pub fn answer(&mut self, alloc: Global, who: Who, statement: &Statement) -> Answer
+    pub fn answer<G: Gate>(
+        &mut self,
+        alloc: Global,
+        gate: &G,
+        who: Who,
+        statement: &Statement,
+    ) -> Answer
         requires sound { IsSound S.state self.old.cluster }
         requires legal { (g : ℕ) → IsLegal self.old.cluster.catalog g (journal_in (journals self.old) g) }
         requires keyed { (table : ℕ) → IsKeyed self.old.cluster.catalog table }
         requires computable { IsComputable self.old.cluster.catalog statement.now }
-        ensures answered { (initial : Settings) (entry : List (Worker S)) → AreWorkers S.state self.old.cluster.nodes entry self.old.cluster.groups.items self.old.cluster.workers.items → IsAnswered rules (run_of self.old.cluster.nodes initial entry) (environment self.old) (environment self.new) who (journals self.old) (journals self.new) (Some statement.now) result }
+        ensures answered { (initial : Settings) (entry : List (Worker S)) → HasStores S.state entry self.old.cluster → IsAnswered rules (run_of self.old.cluster.nodes initial entry) (environment self.old) (environment self.new) who (journals self.old) (journals self.new) (Some statement.now) result }
         ensures tag { IsNoCopy result }
         ensures sound { IsSound S.state self.new.cluster }
         ensures stores { KeepsStores S.state self.old.cluster self.new.cluster }
-        ensures accounted { (answers : List Answered) (a : Answered) → a.answer ≡ result → AreAccounted S.state self.old.cluster.catalog answers self.old.cluster.groups.items → AreAccounted S.state self.new.cluster.catalog (answers ++ a ∷ []) self.new.cluster.groups.items }
+        ensures accounted { (answers : List Answered) (a : Answered) → a.answer ≡ result → IsNext who a answers self.old.cluster.groups.items → AreAccounted S.state self.old.cluster.catalog answers self.old.cluster.groups.items → AreAccounted S.state self.new.cluster.catalog (answers ++ a ∷ []) self.new.cluster.groups.items }
+        ensures retires { Retires who result self.old.cluster.retired.items self.new.cluster.retired.items }
     {
         let Ok(refusal) = refusal_of(
             alloc,
@@ -114,6 +131,6 @@ impl<S: Store> Coordinator<S> {
         if let Some(why) = refusal {
             return Answer::Failed(Fault::Unsupported(why));
         }
-        self.answer_supported(alloc, who, statement)
+        self.answer_supported(alloc, gate, who, statement)
     }
 }

@@ -4,9 +4,12 @@
 mod answer;
 mod coordinator;
 mod definitions;
+mod moves;
 mod notice;
 mod plans;
 mod queries;
+mod rebalance;
+mod rebalancing;
 mod writes;
 
 pub use coordinator::Coordinator;

@@ -9,7 +9,7 @@ ghost use Rattle.cq_history.specs.Log.{IsAnswered};
 ghost use Rattle.cq_store.specs.declared.worker.Worker.{Worker};
 ghost use Rattle.cq_cluster.specs.Cluster.{IsSound, KeepsStores, run_of};
 ghost use Rattle.cq_answer.specs.declared.answered.Answered.{Answered};
-ghost use Rattle.cq_cluster.specs.Accounts.{AreAccounted};
+ghost use Rattle.cq_cluster.specs.Accounts.{IsNext, AreAccounted, Retires};
 ghost use Rattle.cq_coordinator.specs.Coordination.{environment, journals, IsNoCopy};
 
 use crate::coordinator::Coordinator;
@@ -30,7 +30,8 @@ impl<S: Store> Coordinator<S> {
         ensures tag { IsNoCopy result }
         ensures sound { IsSound S.state self.new.cluster }
         ensures stores { KeepsStores S.state self.old.cluster self.new.cluster }
-        ensures accounted { (answers : List Answered) (a : Answered) → a.answer ≡ result → AreAccounted S.state self.old.cluster.catalog answers self.old.cluster.groups.items → AreAccounted S.state self.new.cluster.catalog (answers ++ a ∷ []) self.new.cluster.groups.items }
+        ensures accounted { (answers : List Answered) (a : Answered) → a.answer ≡ result → IsNext who a answers self.old.cluster.groups.items → AreAccounted S.state self.old.cluster.catalog answers self.old.cluster.groups.items → AreAccounted S.state self.new.cluster.catalog (answers ++ a ∷ []) self.new.cluster.groups.items }
+        ensures retires { Retires who result self.old.cluster.retired.items self.new.cluster.retired.items }
     {
         answer_query(
             alloc,

@@ -9,9 +9,9 @@ ghost use Rattle.cq_history.specs.Computable.{IsComputable};
 ghost use Rattle.cq_history.specs.Log.{IsAnswered};
 ghost use Rattle.cq_store.specs.declared.worker.Worker.{Worker};
 ghost use Rattle.cq_groups.specs.Answers.{answer_by};
-ghost use Rattle.cq_cluster.specs.Cluster.{IsSound, KeepsStores, AreWorkers, run_of};
+ghost use Rattle.cq_cluster.specs.Cluster.{IsSound, KeepsStores, HasStores, run_of};
 ghost use Rattle.cq_answer.specs.declared.answered.Answered.{Answered};
-ghost use Rattle.cq_cluster.specs.Accounts.{AreAccounted};
+ghost use Rattle.cq_cluster.specs.Accounts.{IsNext, AreAccounted, Retires};
 ghost use Rattle.cq_coordinator.specs.Coordination.{environment, journals, IsNoCopy};
 
 use crate::coordinator::Coordinator;
@@ -74,11 +74,12 @@ impl<S: Store> Coordinator<S> {
         requires keyed { (table : ℕ) → IsKeyed self.old.cluster.catalog table }
         requires computable { IsComputable self.old.cluster.catalog (statement.Write op.now) }
         requires runs { write_refusal self.old.cluster.catalog op.now ≡ None }
-        ensures answered { (initial : Settings) (entry : List (Worker S)) → AreWorkers S.state self.old.cluster.nodes entry self.old.cluster.groups.items self.old.cluster.workers.items → IsAnswered rules (run_of self.old.cluster.nodes initial entry) (environment self.old) (environment self.new) who (journals self.old) (journals self.new) (Some (statement.Write op.now)) result }
+        ensures answered { (initial : Settings) (entry : List (Worker S)) → HasStores S.state entry self.old.cluster → IsAnswered rules (run_of self.old.cluster.nodes initial entry) (environment self.old) (environment self.new) who (journals self.old) (journals self.new) (Some (statement.Write op.now)) result }
         ensures tag { IsNoCopy result }
         ensures sound { IsSound S.state self.new.cluster }
         ensures stores { KeepsStores S.state self.old.cluster self.new.cluster }
-        ensures accounted { (answers : List Answered) (a : Answered) → a.answer ≡ result → AreAccounted S.state self.old.cluster.catalog answers self.old.cluster.groups.items → AreAccounted S.state self.new.cluster.catalog (answers ++ a ∷ []) self.new.cluster.groups.items }
+        ensures accounted { (answers : List Answered) (a : Answered) → a.answer ≡ result → IsNext who a answers self.old.cluster.groups.items → AreAccounted S.state self.old.cluster.catalog answers self.old.cluster.groups.items → AreAccounted S.state self.new.cluster.catalog (answers ++ a ∷ []) self.new.cluster.groups.items }
+        ensures retires { Retires who result self.old.cluster.retired.items self.new.cluster.retired.items }
     {
         let Ok(divided) = parts(alloc, op, &self.cluster.catalog) else {
             return Answer::Failed(Fault::Memory);

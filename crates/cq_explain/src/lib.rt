@@ -1,4 +1,5 @@
-//! The plan of a query as EXPLAIN shows it, and its text. Each function gives what the definitions of `cq_outline` give.
+//! The plan of a query as EXPLAIN shows it, its text, and how the rows of its tasks become its own. Each function gives what the definitions
+//! of `cq_outline` give.
 #![tactic(auto)]
 
 mod block;
@@ -20,3 +21,4 @@ mod tasking;
 pub use explaining::explain;
 pub use lines::Lines;
 pub use rows::rows_of;
+pub use tasking::{combine_by, shares_rows};

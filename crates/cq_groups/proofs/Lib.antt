@@ -18,3 +18,6 @@ pub mod Judging
 pub mod Answering
 pub mod ShardLaws
 pub mod JoinLaws
+pub mod PartLaws
+pub mod HomeLaws
+pub mod KindLaws

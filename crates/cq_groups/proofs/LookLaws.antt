@@ -135,15 +135,17 @@ module _ {X : Type 0} (c : Contents) (groups : List (GroupState X)) {nodes : ℕ
   pub can_look_at : (node : ℕ) → 0 < node → node ≤ nodes → (gs : List ℕ) → AllByRecursion (CanLook node groups) (looks_by c tables (in_order c gs))
   can_look_at node some few gs = can_looks node some few (in_order c gs) (in_order_below c gs)
 
-  -- ---- what is read is within its columns' widths
+  -- ---- what is read is of its group, and within its columns' widths
 
   module _ (legal : (g : ℕ) → IsLegal c g (journal_in (journals_of groups) g)) where
-    rows_within : (g t : ℕ) → has_shard c g t ≡ true → AllWithin (column_bits c t) (rows_at c groups g t)
-    rows_within g t s =
+    pub rows_placed : (g t : ℕ) → has_shard c g t ≡ true → AllByRecursion (IsRowOf c g t) (rows_at c groups g t)
+    rows_placed g t s =
         let j = journal_in (journals_of groups) g in
         let all : AllByRecursion (IsRowOf c g t) (rows_of (held_in c (cut (length j.entries) j) t)) = can_hold c g j (length j.entries) (legal g) t (has_its_shard c g t s) in
-        all_weaker (IsRowOf c g t) (Within (column_bits c t)) (λ row h. fits_within (shape_in c t) row h.1) (rows_at c groups g t)
-        (subst (λ (es : List Entry). AllByRecursion (IsRowOf c g t) (rows_of (held_in c (record j { entries = es }) t))) (take_all (length j.entries) j.entries (omega arith)) all)
+        subst (λ (es : List Entry). AllByRecursion (IsRowOf c g t) (rows_of (held_in c (record j { entries = es }) t))) (take_all (length j.entries) j.entries (omega arith)) all
+
+    rows_within : (g t : ℕ) → has_shard c g t ≡ true → AllWithin (column_bits c t) (rows_at c groups g t)
+    rows_within g t s = all_weaker (IsRowOf c g t) (Within (column_bits c t)) (λ row h. fits_within (shape_in c t) row h.1) (rows_at c groups g t) (rows_placed g t s)
 
     seen_within : (g t : ℕ) (there : List ℕ) → AllByRecursion (λ u. has_shard c g u ≡ true) there → AllWithin (column_bits c t) (gathered (seen_of c g (rows_at c groups g) t there) t)
     seen_within g t [] all = tt

@@ -71,10 +71,10 @@ module _ {X : Type 0} (c : Contents) (q : Query) (groups : List (GroupState X)) 
   plan_ascends looks is =
       subst (λ gs. IsAscendingFrom 0 gs) (sym (ap groups_in is ∙ groups_looked c (tables_of_statement q) (touched c (statement.Select q)))) (in_order_ascends c (touched_by_query c q))
 
-  module _ (run : Run) (settings : Settings) (not_refused : refusal_in (environment_at c settings) (statement.Select q) ≡ None) where
+  module _ (run : Run) (settings : Settings) (retired : List ℕ) (not_refused : refusal_in (environment_at c settings retired) (statement.Select q) ≡ None) where
     module _ (who : Who) (new : List (GroupState X)) (count : length (journals_of new) ≡ length (journals_of groups)) where
       abbrev pub the_environment : Environment
-      the_environment = record { catalog = c; settings = settings }
+      the_environment = record { catalog = c; settings = settings; retired = retired }
 
       the_groups : groups_in (looks_of c q) ≡ touched c (statement.Select q)
       the_groups = groups_looked c (tables_of_statement q) (touched c (statement.Select q))
@@ -155,16 +155,16 @@ pick_stops state who near g old new group.Memory f same = tt
 
 -- ---- a query that isn't read
 
-module _ (run : Run) (c : Contents) (settings : Settings) (who : Who) (js : List Journal) (q : Query) where
+module _ (run : Run) (c : Contents) (settings : Settings) (retired : List ℕ) (who : Who) (js : List Journal) (q : Query) where
   -- memory ran out first
-  pub query_lacks_memory : IsAnswered rules run (environment_at c settings) (environment_at c settings) who js js (Some (statement.Select q)) (answer.Failed fault.Memory)
-  query_lacks_memory = by_refusal (refusal_in (environment_at c settings) (statement.Select q)) refl
+  pub query_lacks_memory : IsAnswered rules run (environment_at c settings retired) (environment_at c settings retired) who js js (Some (statement.Select q)) (answer.Failed fault.Memory)
+  query_lacks_memory = by_refusal (refusal_in (environment_at c settings retired) (statement.Select q)) refl
     where
-      by_refusal : (o : Option Fault) → refusal_in (environment_at c settings) (statement.Select q) ≡ o → IsAnswered rules run (environment_at c settings) (environment_at c settings) who js js (Some (statement.Select q)) (answer.Failed fault.Memory)
-      by_refusal None r = read_lacks_memory rules run (environment_at c settings) who js js q [] r (λ g m. cc) (none_grow who (λ g. Read) js) refl
+      by_refusal : (o : Option Fault) → refusal_in (environment_at c settings retired) (statement.Select q) ≡ o → IsAnswered rules run (environment_at c settings retired) (environment_at c settings retired) who js js (Some (statement.Select q)) (answer.Failed fault.Memory)
+      by_refusal None r = read_lacks_memory rules run (environment_at c settings retired) who js js q [] r (λ g m. cc) (none_grow who (λ g. Read) js) refl
       by_refusal (Some f) r =
-          idle_is_answered rules run (environment_at c settings) who js (Some (statement.Select q)) (answer.Failed fault.Memory)
-          (subst (λ (o : Option Fault). RunsUnless o (touched c (statement.Select q)) run (environment_at c settings) (in_deed c idle) (statement.Select q) (answer.Failed fault.Memory)) (sym r) (λ g. refl, tt)) refl
+          idle_is_answered rules run (environment_at c settings retired) who js (Some (statement.Select q)) (answer.Failed fault.Memory)
+          (subst (λ (o : Option Fault). RunsUnless o (touched c (statement.Select q)) run (environment_at c settings retired) (in_deed c idle) (statement.Select q) (answer.Failed fault.Memory)) (sym r) (λ g. refl, tt)) refl
 
 -- the same of equal tables and names
 pub computes_as : (q : Query) (db dc : Tables) (names ns : List (List ℕ)) (a : Answer) → db ≡ dc → names ≡ ns → Computes q db names a → Computes q dc ns a

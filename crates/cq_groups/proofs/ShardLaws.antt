@@ -146,9 +146,9 @@ module _ {X : Type 0} (c : Contents) (q : Query) (groups : List (GroupState X)) 
       (merged_within c groups shaped (tables_of_statement q) legal (touched_by_query c q) t)))
 
   -- and then it is answered
-  pub shard_answered : (run : Run) (settings : Settings) → refusal_in (environment_at c settings) (statement.Select q) ≡ None → (who : Who) (new : List (GroupState X)) → length (journals_of new) ≡ length (journals_of groups) → (state : X → StoreState) → AreResting state groups →
+  pub shard_answered : (run : Run) (settings : Settings) (retired : List ℕ) → refusal_in (environment_at c settings retired) (statement.Select q) ≡ None → (who : Who) (new : List (GroupState X)) → length (journals_of new) ≡ length (journals_of groups) → (state : X → StoreState) → AreResting state groups →
       run.workers ≡ nodes → near ≡ near_by_rule c nodes (groups_in (looks_of c q)) → IsReadable c q → (a : Answer) → IsComputed state who near q (look_at s ∷ []) (wanted_of groups q s) groups new a →
-      IsAnswered rules run (environment_at c settings) (environment_at c settings) who (journals_of groups) (journals_of new) (Some (statement.Select q)) a
-  shard_answered run settings runs who new count state resting workers is_near readable a computed =
-      query_computed c q groups shaped run settings runs who new count state resting near workers is_near readable (look_at s ∷ []) (merged (captured_by groups (look_at s ∷ []))) a its_look refl
+      IsAnswered rules run (environment_at c settings retired) (environment_at c settings retired) who (journals_of groups) (journals_of new) (Some (statement.Select q)) a
+  shard_answered run settings retired runs who new count state resting workers is_near readable a computed =
+      query_computed c q groups shaped run settings retired runs who new count state resting near workers is_near readable (look_at s ∷ []) (merged (captured_by groups (look_at s ∷ []))) a its_look refl
       (wanted_computed groups q s shard_there alone its_shard.number its_shard.from_is state who new a computed)

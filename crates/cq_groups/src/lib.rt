@@ -12,13 +12,15 @@ mod queries;
 mod reads;
 mod shard;
 mod staging;
+mod tasks;
 mod wanting;
 mod writes;
 
 pub use error::WriteError;
 pub use gathering::gather;
 pub use laws::fault_laws;
-pub use looks::looks_at;
+pub use looks::{has_shard, looks_at};
+pub use near::{is_distributed_group, near_node};
 pub use queries::answer_query;
-pub use reads::{Look, Looks, pick_group, read_groups};
+pub use reads::{Look, Looks, pick_group, read_group, read_groups};
 pub use writes::write_groups;

@@ -1,7 +1,9 @@
-ghost use Rattle.std.specs.Prelude.{◌≡◌, ◌<◌, ℕ, [], ◌∷◌, Some, None, IfOk};
+ghost use Rattle.std.specs.Prelude.{◌≡◌, ◌≢◌, ◌<◌, ℕ, List, [], ◌∷◌, Some, None, IfOk};
 ghost use Rattle.std.specs.List.{AllByRecursion};
+ghost use Rattle.cq_tree.specs.declared.plan.Combine.TheVariants as kinds;
 ghost use Rattle.cq_tree.specs.declared.query.Query.{out-Query};
 ghost use Rattle.cq_tree.specs.declared.statement.Statement.TheVariants as statement;
+ghost use Rattle.cq_task_laws.specs.Gathering.{Serves};
 ghost use Rattle.cq_planning.specs.Reaching.{IsAscendingFrom};
 ghost use Rattle.cq_answer.specs.declared.answer.Answer.TheVariants as answer;
 ghost use Rattle.cq_answer.specs.declared.answered.Settings.{Settings};
@@ -16,12 +18,13 @@ ghost use Rattle.cq_demands.specs.JoinDemands.{narrow};
 ghost use Rattle.cq_group.specs.Resting.{journals_of, AreResting, GoOn, HasFailed};
 ghost use Rattle.cq_groups.specs.Reads.{captured_by, groups_in, CanLook, AreShaped, IsComputable, Computes, IsComputed, fault_by};
 ghost use Rattle.cq_groups.specs.Looking.{merged, look_at, wanted_of, looks_of, environment_at};
+ghost use Rattle.cq_groups.specs.Tasks.{answer_by, parted_table, parts_of, IsComputableOver};
 
-use crate::gathering::gather;
 use crate::looks::looks_at;
 use crate::near::near_node;
 use crate::reads::{Look, Looks, pick_group, read_groups};
 use crate::shard::{Shard, shard_alone};
+use crate::tasks::{kind_of, run_seen};
 use crate::wanting::wants_of;
 use cq_answer::{Answer, Fault, What};
 use cq_catalog::Catalog;
@@ -29,8 +32,8 @@ use cq_demands::{Wants, wanted_by};
 use cq_group::{GroupError, GroupState, Tables};
 use cq_plan::touched_by_query;
 use cq_store::Store;
-use cq_tree::{Query, QueryError, Who};
-use cq_value::{Names, NoMemory};
+use cq_tree::{Combine, Query, QueryError, Who};
+use cq_value::{Names, NoMemory, Rows};
 use cq_whole::{run_statement, tables_of};
 use std::alloc::Global;
 
@@ -46,12 +49,11 @@ fn plan(alloc: Global, catalog: &Catalog, query: &Query) -> Result<Looks, NoMemo
     looks_at(alloc, catalog, tables.as_slice(), groups.as_slice())
 }
 
-/// The answer of a query over the rows of its tables.
-fn compute(alloc: Global, query: &Query, names: Names, tables: &Tables) -> Answer
-    requires { IsComputable query.now tables.now }
-    ensures { Computes query.now tables.now names result }
+/// The answer of a query by its rows.
+fn answer_with(names: Names, rows: Result<Rows, QueryError>) -> Answer
+    ensures { result ≡ answer_by names rows }
 {
-    match run_statement(alloc, query, tables) {
+    match rows {
         Ok(rows) => Answer::Table { names, rows },
         Err(QueryError::Rows) => Answer::Failed(Fault::Limit {
             what: What::Rows,
@@ -59,6 +61,25 @@ fn compute(alloc: Global, query: &Query, names: Names, tables: &Tables) -> Answe
         }),
         Err(QueryError::Memory) => Answer::Failed(Fault::Memory),
     }
+}
+
+/// The answer of a query over the rows of its tables.
+fn compute(alloc: Global, query: &Query, names: Names, tables: &Tables) -> Answer
+    requires { IsComputable query.now tables.now }
+    ensures { Computes query.now tables.now names result }
+{
+    answer_with(names, run_statement(alloc, query, tables))
+}
+
+/// The answer of a query over what was read of each table in each group.
+fn compute_seen(alloc: Global, query: &Query, kind: Combine, names: Names, seen: Tables) -> Answer
+    requires apart { kind ≢ kinds.Nothing }
+    requires serves { (table : ℕ) → parted_table query.now seen ≡ Some table → Serves kind query.now [] (parts_of seen) }
+    requires whole { IsComputable query.now (merged seen) }
+    requires each { AllByRecursion (IsComputableOver query.now) seen }
+    ensures { Computes query.now (merged seen) names result }
+{
+    answer_with(names, run_seen(alloc, query, kind, seen))
 }
 
 /// The fault of an error in a read.
@@ -88,6 +109,7 @@ fn look_and_compute<S: Store>(
     who: Who,
     near: u32,
     query: &Query,
+    kind: Combine,
     looks: &[Look],
     wants: &Wants,
 ) -> Answer
@@ -95,6 +117,9 @@ fn look_and_compute<S: Store>(
     requires there { AllByRecursion (CanLook near groups.old.items) looks.now }
     requires ascending { IsAscendingFrom 0 (groups_in looks.now) }
     requires safe { IsComputable query.now (merged (narrow wants.now (captured_by groups.old.items looks.now))) }
+    requires each { AllByRecursion (IsComputableOver query.now) (narrow wants.now (captured_by groups.old.items looks.now)) }
+    requires apart { kind ≢ kinds.Nothing }
+    requires serves { (table : ℕ) → parted_table query.now (narrow wants.now (captured_by groups.old.items looks.now)) ≡ Some table → Serves kind query.now [] (parts_of (narrow wants.now (captured_by groups.old.items looks.now))) }
     ensures computed { IsComputed S.state who near query.now looks.now (merged (narrow wants.now (captured_by groups.old.items looks.now))) groups.old.items groups.new.items result }
     ensures goes_on { GoOn S.state groups.old.items groups.new.items }
 {
@@ -105,10 +130,7 @@ fn look_and_compute<S: Store>(
         Ok(seen) => seen,
         Err(error) => return Answer::Failed(fault_of(error)),
     };
-    let Ok(tables) = gather(alloc, seen) else {
-        return Answer::Failed(Fault::Memory);
-    };
-    compute(alloc, query, names, &tables)
+    compute_seen(alloc, query, kind, names, seen)
 }
 
 /// The answer of a query by the rows of its one shard that its WHERE demands; the group's journal has a Read then.
@@ -158,7 +180,7 @@ pub fn answer_query<S: Store>(
     requires some { 0 < nodes }
     requires legal { (g : ℕ) → IsLegal catalog.now g (journal_in (journals_of groups.old.items) g) }
     requires computable { IsReadable catalog.now query.now }
-    ensures answered { (run : Run) (settings : Settings) → run.workers ≡ nodes → refusal_in (environment_at catalog.now settings) (statement.Select query.now) ≡ None → IsAnswered rules run (environment_at catalog.now settings) (environment_at catalog.now settings) who (journals_of groups.old.items) (journals_of groups.new.items) (Some (statement.Select query.now)) result }
+    ensures answered { (run : Run) (settings : Settings) (retired : List ℕ) → run.workers ≡ nodes → refusal_in (environment_at catalog.now settings retired) (statement.Select query.now) ≡ None → IsAnswered rules run (environment_at catalog.now settings retired) (environment_at catalog.now settings retired) who (journals_of groups.old.items) (journals_of groups.new.items) (Some (statement.Select query.now)) result }
     ensures blamed { (node shard before after : ℕ) → result ≡ answer.Failed (fault.Worker node shard before after) → HasFailed S.state node shard before after groups.old.items groups.new.items }
     ensures goes_on { GoOn S.state groups.old.items groups.new.items }
 {
@@ -172,7 +194,19 @@ pub fn answer_query<S: Store>(
             let Ok(wants) = wants_of(alloc, catalog, query) else {
                 return Answer::Failed(Fault::Memory);
             };
-            look_and_compute(alloc, groups, who, near, query, looks.as_slice(), &wants)
+            let Ok(kind) = kind_of(alloc, catalog, query) else {
+                return Answer::Failed(Fault::Memory);
+            };
+            look_and_compute(
+                alloc,
+                groups,
+                who,
+                near,
+                query,
+                kind,
+                looks.as_slice(),
+                &wants,
+            )
         }
     }
 }

@@ -23,7 +23,7 @@ pub type Looks = Items<Look>;
 /// group is read on the near node.
 ///
 /// Errors: a store failed, or want of memory; nothing is entered.
-fn read_group<S: Store>(
+pub fn read_group<S: Store>(
     alloc: Global,
     groups: &mut Vec<GroupState<S>>,
     who: Who,

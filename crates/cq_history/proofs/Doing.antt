@@ -105,7 +105,7 @@ follows_part : (c : Contents) (op : ShardOp) (j : Journal) (g : ℕ) (r : Reply)
 follows_part c op j g r h = subst (λ t. r ≡ reply_of (part c op g) (held_in c j t) (shape_in c t)) (sym (table_of_part c op g)) (sym h)
 
 pub made_does : MadeDoes
-made_does rules run e d seen op counts w parts made =
+made_does rules run e who d seen op counts w parts made =
     let c = e.catalog in
     let touched = rules.touched c (statement.Write op) in
     let kind : ℕ → EntryKind = λ g. entry.Write (part c op g) (Count (counts g)) in
@@ -121,13 +121,13 @@ made_does rules run e d seen op counts w parts made =
           ids = λ g m. (seen g, saw_each d seen touched kind made g m, (parts g m).1);
         },
       );
-      legal = λ who. legal_each d seen touched kind made c who (λ g m. (part_is_legal c op g (Count (counts g)) w.fitting (w.touched.own g m), follows_part c op (seen g) g (Count (counts g)) (parts g m).0));
+      legal = legal_each d seen touched kind made c who (λ g m. (part_is_legal c op g (Count (counts g)) w.fitting (w.touched.own g m), follows_part c op (seen g) g (Count (counts g)) (parts g m).0));
     }
 
 ready_in : (c : Contents) (touched : List ℕ) (d : Deed) (seen : ℕ → Journal) (op : ShardOp) (group : ℕ) → WereReady c touched d seen op group → AreReady c touched (in_deed c d) op group
 ready_in c touched d seen op group ready g m l = (seen g, (ready g m l).0, (ready g m l).1)
 
-module _ (rules : Rules) (run : Run) (e : Environment) (d : Deed) (seen : ℕ → Journal) (op : ShardOp) (group : ℕ) (r : Reply) (w : IsWriting rules e op) (refused : IsRefusal r)
+module _ (rules : Rules) (run : Run) (e : Environment) (who : Who) (d : Deed) (seen : ℕ → Journal) (op : ShardOp) (group : ℕ) (r : Reply) (w : IsWriting rules e op) (refused : IsRefusal r)
     (m : among group (rules.touched e.catalog (statement.Write op)) ≡ true) (h : reply_over_journal e.catalog op group (seen group) ≡ r) (ids : HasIds e.catalog (part e.catalog op group) (seen group))
     (ready : WereReady e.catalog (rules.touched e.catalog (statement.Write op)) d seen op group) (made : MakesEach d seen (group ∷ []) (λ g. entry.Write (part e.catalog op g) r)) where
   abbrev kind : ℕ → EntryKind
@@ -144,25 +144,25 @@ module _ (rules : Rules) (run : Run) (e : Environment) (d : Deed) (seen : ℕ �
     ready = ready_in e.catalog (rules.touched e.catalog (statement.Write op)) d seen op group ready;
   }
 
-  only_follows : (who : Who) (g : ℕ) → among g (group ∷ []) ≡ true → IsLegalKind e.catalog g (kind g) × CanFollow e.catalog (seen g) who (kind g)
-  only_follows who g a = subst (λ k. IsLegalKind e.catalog k (kind k) × CanFollow e.catalog (seen k) who (kind k)) (sym (among_only g group a))
+  only_follows : (g : ℕ) → among g (group ∷ []) ≡ true → IsLegalKind e.catalog g (kind g) × CanFollow e.catalog (seen g) who (kind g)
+  only_follows g a = subst (λ k. IsLegalKind e.catalog k (kind k) × CanFollow e.catalog (seen k) who (kind k)) (sym (among_only g group a))
       (part_is_legal e.catalog op group r w.fitting (w.touched.own group m), follows_part e.catalog op (seen group) group r h)
 
-  refused_by : (a : Answer) → RunsUnless None (rules.touched e.catalog (statement.Write op)) run e (in_deed e.catalog d) (statement.Write op) a → Does rules run e d (Some (statement.Write op)) a
+  refused_by : (a : Answer) → RunsUnless None (rules.touched e.catalog (statement.Write op)) run e (in_deed e.catalog d) (statement.Write op) a → Does rules run e who d (Some (statement.Write op)) a
   refused_by a runs = record {
     stands = subst (λ (o : Option Fault). RunsUnless o (rules.touched e.catalog (statement.Write op)) run e (in_deed e.catalog d) (statement.Write op) a) (sym w.runs) runs;
-    legal = λ who. legal_each d seen (group ∷ []) kind made e.catalog who (only_follows who);
+    legal = legal_each d seen (group ∷ []) kind made e.catalog who only_follows;
   }
 
 pub refused_does : RefusedDoes
-refused_does rules run e d seen op group (Count n) w refused m h ids ready made = absurd refused
-refused_does rules run e d seen op group Duplicate w refused m h ids ready made =
-    refused_by rules run e d seen op group Duplicate w refused m h ids ready made (answer.Failed fault.Duplicate) (refused_in rules run e d seen op group Duplicate w refused m h ids ready made)
-refused_does rules run e d seen op group OutOfRange w refused m h ids ready made =
-    refused_by rules run e d seen op group OutOfRange w refused m h ids ready made (answer.Failed fault.ValueOutOfRange) (refused_in rules run e d seen op group OutOfRange w refused m h ids ready made)
+refused_does rules run e who d seen op group (Count n) w refused m h ids ready made = absurd refused
+refused_does rules run e who d seen op group Duplicate w refused m h ids ready made =
+    refused_by rules run e who d seen op group Duplicate w refused m h ids ready made (answer.Failed fault.Duplicate) (refused_in rules run e who d seen op group Duplicate w refused m h ids ready made)
+refused_does rules run e who d seen op group OutOfRange w refused m h ids ready made =
+    refused_by rules run e who d seen op group OutOfRange w refused m h ids ready made (answer.Failed fault.ValueOutOfRange) (refused_in rules run e who d seen op group OutOfRange w refused m h ids ready made)
 
 pub lacks_does : LacksDoes
-lacks_does rules run e d seen op group w m saw lacks ready none = record {
+lacks_does rules run e who d seen op group w m saw lacks ready none = record {
   stands = subst (λ (o : Option Fault). RunsUnless o (rules.touched e.catalog (statement.Write op)) run e (in_deed e.catalog d) (statement.Write op) (answer.Failed (fault.Limit what.Ids most_ids))) (sym w.runs) (
     refl,
     record {
@@ -173,7 +173,7 @@ lacks_does rules run e d seen op group w m saw lacks ready none = record {
       ready = ready_in e.catalog (rules.touched e.catalog (statement.Write op)) d seen op group ready;
     },
   );
-  legal = λ who g. subst (AllByRecursion (IsLegalStep e.catalog g who)) (sym (none g)) tt;
+  legal = λ g. subst (AllByRecursion (IsLegalStep e.catalog g who)) (sym (none g)) tt;
 }
 
 -- ---- queries
@@ -199,7 +199,7 @@ same_narrowed c touched d seen held made see = from_same c (narrowed touched (λ
   | inr n ↦ rw n refl
 ])
 
-module _ (rules : Rules) (run : Run) (e : Environment) (d : Deed) (seen : ℕ → Journal) (q : Query) (r : IsReading rules e d seen q) where
+module _ (rules : Rules) (run : Run) (e : Environment) (who : Who) (d : Deed) (seen : ℕ → Journal) (q : Query) (r : IsReading rules e d seen q) where
   abbrev groups : List ℕ
   groups = rules.touched e.catalog (statement.Select q)
 
@@ -209,23 +209,23 @@ module _ (rules : Rules) (run : Run) (e : Environment) (d : Deed) (seen : ℕ �
   read_entries : Enters (in_deed e.catalog d) (reads groups)
   read_entries = enters_each d seen groups (λ k. entry.Read) r.made
 
-  read_by : (a : Answer) → RunsUnless None groups run e (in_deed e.catalog d) (statement.Select q) a → Does rules run e d (Some (statement.Select q)) a
+  read_by : (a : Answer) → RunsUnless None groups run e (in_deed e.catalog d) (statement.Select q) a → Does rules run e who d (Some (statement.Select q)) a
   read_by a runs = record {
     stands = subst (λ (o : Option Fault). RunsUnless o groups run e (in_deed e.catalog d) (statement.Select q) a) (sym r.runs) runs;
-    legal = λ who. legal_each d seen groups (λ k. entry.Read) r.made e.catalog who (λ g m. (tt, tt));
+    legal = legal_each d seen groups (λ k. entry.Read) r.made e.catalog who (λ g m. (tt, tt));
   }
 
 pub read_does : ReadDoes
-read_does rules run e d seen q rows r narrows h =
-    read_by rules run e d seen q r (answer.Table (out-Query q).names rows) (refl, read_entries rules run e d seen q r, read_wherever rules run e d seen q r (λ db. Answers q db rows) narrows h)
+read_does rules run e who d seen q rows r narrows h =
+    read_by rules run e who d seen q r (answer.Table (out-Query q).names rows) (refl, read_entries rules run e who d seen q r, read_wherever rules run e who d seen q r (λ db. Answers q db rows) narrows h)
 
 pub large_does : LargeDoes
-large_does rules run e d seen q r large =
-    read_by rules run e d seen q r (answer.Failed (fault.Limit what.Rows most_rows)) (refl, read_entries rules run e d seen q r, λ alone simple. read_wherever rules run e d seen q r (IsLarge q) (large alone simple).0 (large alone simple).1)
+large_does rules run e who d seen q r large =
+    read_by rules run e who d seen q r (answer.Failed (fault.Limit what.Rows most_rows)) (refl, read_entries rules run e who d seen q r, λ alone simple. read_wherever rules run e who d seen q r (IsLarge q) (large alone simple).0 (large alone simple).1)
 
 -- ---- entries in some groups and then in others
 
-with_both : (who : Who) (ks ls : List EntryKind) (j : Journal) → with_entries who ls (with_entries who ks j) ≡ with_entries who (ks ++ ls) j
+pub with_both : (who : Who) (ks ls : List EntryKind) (j : Journal) → with_entries who ls (with_entries who ks j) ≡ with_entries who (ks ++ ls) j
 with_both who ks ls j =
     ap (λ (v : List Entry). record { number = j.number; opening = j.opening; base = j.base; entries = v })
     (three j.entries (map (λ (k : EntryKind). record { who = who; kind = k }) ks) (map (λ (k : EntryKind). record { who = who; kind = k }) ls)

@@ -68,7 +68,7 @@ abbrev rules : Rules
 rules = record { touched = λ c s. 0 ∷ 1 ∷ []; refusal = λ e s. None }
 
 abbrev here : Environment
-here = record { catalog = two_shards; settings = settings }
+here = record { catalog = two_shards; settings = settings; retired = [] }
 
 -- the row 1 is of the group 0, and the row 2 of the group 1
 abbrev two_rows : ShardOp

@@ -3,6 +3,7 @@ use Rattle.std.proofs.Common.{◌≡◌, ◌+◌, ◌<◌, ◌≤◌, inl, inr, 
 use Rattle.std.specs.Prelude.{codes}
 use Rattle.std.proofs.lemmas.Bool.Decides.{eqb_tells}
 use Rattle.cq_tree.specs.declared.journal.Who.{Who}
+use Rattle.cq_tree.specs.declared.journal.EntryKind.{EntryKind}
 use Rattle.cq_tree.specs.declared.query.Query.{Query}
 use Rattle.cq_tree.specs.declared.statement.Statement.TheVariants as statement
 use Rattle.cq_journal.specs.Records.{Journal}
@@ -14,22 +15,22 @@ use Rattle.cq_answer.specs.declared.fault.Fault.TheVariants as fault
 use Rattle.cq_planning.specs.Touched.{among, numbers}
 use Rattle.cq_outline.specs.Texts.{explained}
 use Rattle.cq_history.specs.Run.{Run, Rules, Environment}
-use Rattle.cq_history.specs.Journals.{journal_in, none}
+use Rattle.cq_history.specs.Journals.{journal_in, none, consecutive}
 use Rattle.cq_history.specs.Standing.{rows_of_lines, RunsUnless}
-use Rattle.cq_history.specs.Deeds.{in_deed, deed_over}
+use Rattle.cq_history.specs.Deeds.{in_deed, deed_over, first_seen}
 use Rattle.cq_history.specs.Log.{IsAnswered}
-use Rattle.cq_history.specs.Laws.{look_at, idle, ExplainIsAnswered}
+use Rattle.cq_history.specs.Laws.{look_at, idle, ExplainIsAnswered, SeesAll}
 use Rattle.cq_history.proofs.Answering.{sees}
 use Rattle.cq_history.proofs.Script.{deed_is_answered, idle_is_answered, grows_none}
 
-among_numbers : (k n g : ℕ) → k ≤ g → g < k + n → among g (numbers k n) ≡ true
+pub among_numbers : (k n g : ℕ) → k ≤ g → g < k + n → among g (numbers k n) ≡ true
 among_numbers k zero g low high = absurd (omega (arith, low, high))
 among_numbers k (suc n) g low high = elim (eqb_tells g k) [
   | inl y ↦ rw y.0 refl
   | inr z ↦ rw z.0 (among_numbers (k + 1) n g (omega (arith, low, z.1)) (omega (arith, high)))
 ]
 
-among_only : (k n g : ℕ) → among g (numbers k n) ≡ true → g < k + n
+pub among_only : (k n g : ℕ) → among g (numbers k n) ≡ true → g < k + n
 among_only k zero g h = cc
 among_only k (suc n) g h = elim (eqb_tells g k) [
   | inl y ↦ omega (arith, y.1)
@@ -52,7 +53,7 @@ module _ (rules : Rules) (run : Run) (e : Environment) (who : Who) (journals : L
           named = refl;
           shown = refl;
         });
-        legal = λ w g. tt;
+        legal = λ g. tt;
       })
       (λ g m. let low = among_only 0 e.catalog.groups g m in omega (arith, there, low)) (grows_none who journals) refl refl refl
 
@@ -64,3 +65,10 @@ module _ (rules : Rules) (run : Run) (e : Environment) (who : Who) (journals : L
 pub explain_is_answered : ExplainIsAnswered
 explain_is_answered rules run e who journals q runs there =
     (λ nodes on. shown_is_answered rules run e who journals q runs nodes there on, memory_is_answered rules run e who journals q runs)
+
+pub sees_all : SeesAll
+sees_all c who journals nodes added on g l = (journal_in journals g, seen (added g), on g l)
+  where
+    seen : (ks : List EntryKind) → first_seen (consecutive who (journal_in journals g) ks) (look_at (numbers 0 c.groups) journals g) ≡ Some (journal_in journals g)
+    seen [] = sees (numbers 0 c.groups) journals g (among_numbers 0 c.groups g (omega arith) (omega (arith, l)))
+    seen (k ∷ ks) = refl

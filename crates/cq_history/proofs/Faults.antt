@@ -123,7 +123,7 @@ read_fails rules run e who old new q group node shard before after runs there m 
           rose = rose;
         };
       });
-      legal = λ w. legal_each d (journal_in old) some (λ g. entry.Read) each e.catalog w (λ g i. (tt, tt));
+      legal = legal_each d (journal_in old) some (λ g. entry.Read) each e.catalog who (λ g i. (tt, tt));
     })
     there grows same refl refl
 
@@ -139,6 +139,6 @@ write_fails rules run e who journals op group node shard before after runs there
         entries = λ g. refl;
         fault = record { there = m; kept = kept; on = (journal_in journals group, sees touched journals group m, on); rose = rose };
       });
-      legal = λ w g. tt;
+      legal = λ g. tt;
     })
     there (grows_none who journals) refl refl refl

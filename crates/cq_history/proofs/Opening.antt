@@ -13,10 +13,11 @@ use Rattle.cq_catalog.specs.declared.info.TableInfo.{TableInfo}
 use Rattle.cq_history.specs.Run.{Run, after}
 use Rattle.cq_journal.specs.Records.{Journal}
 use Rattle.cq_history.specs.Journals.{journal_in, Kinds, none}
-use Rattle.cq_history.specs.Deeds.{Grows}
+use Rattle.cq_history.specs.Deeds.{Grows, deed_over}
 use Rattle.cq_history.specs.Log.{IsLaidOut}
-use Rattle.cq_history.specs.Laws.{GoesOnKeyed, OpensGroups, OpensLaidOut, CatalogIsAnswered, idle}
+use Rattle.cq_history.specs.Laws.{GoesOnKeyed, OpensGroups, OpensLaidOut, CatalogIsAnswered, look_at}
 use Rattle.cq_history.proofs.Lists.{got}
+use Rattle.cq_history.proofs.Script.{looked_at}
 
 there_is : (o : Option TableInfo) → (place_in o ≡ Local → ⊥) → (t : TableInfo) × (o ≡ Some t)
 there_is None n = absurd (n refl)
@@ -68,10 +69,10 @@ pub opens_laid_out : OpensLaidOut
 opens_laid_out run c later who added old new whole goes grows opens laid = opens_laid run c later who added old new whole goes grows opens laid
 
 pub catalog_is_answered : CatalogIsAnswered
-catalog_is_answered rules run e who old new s a whole stands goes grows opens = record {
-  deed = idle;
-  does = record { stands = stands; legal = λ w g. tt };
-  follows = record { made = λ g. refl; looked = λ g j l. cc; grows = grows };
+catalog_is_answered rules run e who old new looked s a whole stands there goes grows opens = record {
+  deed = deed_over who old (look_at looked old) none;
+  does = record { stands = stands; legal = λ g. tt };
+  follows = record { made = λ g. refl; looked = λ g j l. let o = looked_at looked old g j l in (there g o.0, o.1); grows = grows };
   leads = refl;
   on = goes.0;
   laid = opens_laid_out run e.catalog (after e (Some s) a).catalog who none old new whole goes grows opens;

@@ -158,7 +158,7 @@ all_done_later rules run e last next other added old new n (a ∷ answers) seria
     )
 
 all_done_more : (rules : Rules) (run : Run) (e : Environment) (last : Contents) (journals : List Journal) (answers : List Answered) (b : Answered) → AllDoneFrom rules run e last journals answers →
-    (d : Deed) → Does rules run (environment_from e answers) d b.bound b.answer → HasDeed run journals (who_of b) d → Continues (environment_from e answers).catalog last → AllDoneFrom rules run e last journals (answers ++ b ∷ [])
+    (d : Deed) → Does rules run (environment_from e answers) (who_of b) d b.bound b.answer → HasDeed run journals (who_of b) d → Continues (environment_from e answers).catalog last → AllDoneFrom rules run e last journals (answers ++ b ∷ [])
 all_done_more rules run e last journals [] b all d does has on = ((d, does, has), on, tt)
 all_done_more rules run e last journals (a ∷ answers) b all d does has on = (all.0, all.1, all_done_more rules run (after e a.bound a.answer) last journals answers b all.2 d does has on)
 
@@ -200,7 +200,7 @@ log_goes_on rules run serial e answers old new d bound a c does f on laid =
           | inl l ↦ ap (λ (j : Journal). j.number) (f.grows.kept g l) ∙ c.log.numbers g
           | inr m ↦ (f.grows.fresh g m).0.number
         ];
-        legal = legal_after e.catalog next.catalog who d old new on (does.legal who) f c.log.legal;
+        legal = legal_after e.catalog next.catalog who d old new on does.legal f c.log.legal;
         of_answers = λ g. elim (cases_lt g (length old)) [
           | inl l ↦ subst (λ (j : Journal). AllByRecursion (IsOfFirst (length (answers ++ b ∷ []))) j.entries) (sym (f.grows.kept g l))
               (all_append (IsOfFirst (length (answers ++ b ∷ []))) (journal_in old g).entries (entries_by who (kinds_in (d.made g))) (older_more answers b (journal_in old g).entries (c.log.of_answers g))
@@ -215,7 +215,7 @@ log_goes_on rules run serial e answers old new d bound a c does f on laid =
       };
       done = all_done_more rules run (first run) next.catalog new answers b
           (all_done_later rules run (first run) e.catalog next.catalog who (λ g. kinds_in (d.made g)) old new 1 answers serial f.grows on (omega arith) c.log.numbered c.done)
-          d (subst (λ (v : Environment). Does rules run v d bound a) c.environment does) (has_deed run (length answers) who d old new serial c.log.of_answers late f)
+          d (subst (λ (v : Environment). Does rules run v who d bound a) c.environment does) (has_deed run (length answers) who d old new serial c.log.of_answers late f)
           (subst (λ (v : Environment). Continues v.catalog next.catalog) c.environment on);
     }
 
@@ -251,7 +251,7 @@ grows_none who journals = record {
     beyond : (g : ℕ) → length journals ≤ g → IsFresh g (journal_in journals g)
     beyond g m = subst (IsFresh g) (sym (index_beyond journals g _ m)) (record { number = refl; base = λ table. refl; entries = refl })
 
-looked_at : (groups : List ℕ) (journals : List Journal) (g : ℕ) (j : Journal) → look_at groups journals g ≡ Some j → (among g groups ≡ true) × (j ≡ journal_in journals g)
+pub looked_at : (groups : List ℕ) (journals : List Journal) (g : ℕ) (j : Journal) → look_at groups journals g ≡ Some j → (among g groups ≡ true) × (j ≡ journal_in journals g)
 looked_at groups journals g j h = elim (two_ways (among g groups)) [
   | inl t ↦ (t, let same : Some (journal_in journals g) ≡ Some j = rw t at h in cc)
   | inr n ↦ (let bad : None ≡ Some j = rw n at h in absurd (cc))
@@ -281,7 +281,7 @@ deed_is_answered rules run e next who old new looked added bound a does there gr
 pub idle_is_answered : IdleIsAnswered
 idle_is_answered rules run e who journals bound a stands same = record {
   deed = idle;
-  does = record { stands = stands; legal = λ w g. tt };
+  does = record { stands = stands; legal = λ g. tt };
   follows = record { made = λ g. refl; looked = λ g j l. cc; grows = grows_none who journals };
   leads = same;
   on = continues_same e.catalog;

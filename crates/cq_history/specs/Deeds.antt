@@ -36,10 +36,10 @@ in_deed c d = record {
   saw = λ g P. (j : Journal) × (first_seen (d.made g) (d.looked g) ≡ Some j) × P j;
 }
 
--- what a statement does: its answer stands by its deed alone, and its entries are legal over what stood before them
-pub record Does (rules : Rules) (run : Run) (e : Environment) (d : Deed) (bound : Option Statement) (a : Answer) : Type 0 where
+-- what a statement does: its answer stands by its deed alone, and its entries are legal over what stood before them, as those of this statement
+pub record Does (rules : Rules) (run : Run) (e : Environment) (who : Who) (d : Deed) (bound : Option Statement) (a : Answer) : Type 0 where
   pub stands : StandsIn rules run e (in_deed e.catalog d) bound a
-  pub legal : (who : Who) (g : ℕ) → AllByRecursion (IsLegalStep e.catalog g who) (d.made g)
+  pub legal : (g : ℕ) → AllByRecursion (IsLegalStep e.catalog g who) (d.made g)
 
 -- the journals have the deed of this statement
 pub record HasDeed (run : Run) (journals : List Journal) (who : Who) (d : Deed) : Type 0 where

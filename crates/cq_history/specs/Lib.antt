@@ -1,4 +1,7 @@
 pub mod Run
+pub mod Room
+pub mod Moves
+pub mod Rebalances
 pub mod Journals
 pub mod Whole
 pub mod Legality

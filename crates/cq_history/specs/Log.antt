@@ -69,7 +69,7 @@ pub record IsWhole (run : Run) (c : Contents) (answers : List Answered) (journal
 abbrev pub AllDoneFrom : Rules → Run → Environment → Contents → List Journal → List Answered → Type 0
 AllDoneFrom rules run e last journals [] = ⊤
 AllDoneFrom rules run e last journals (a ∷ more) =
-    ((d : Deed) × Does rules run e d a.bound a.answer × HasDeed run journals (who_of a) d)
+    ((d : Deed) × Does rules run e (who_of a) d a.bound a.answer × HasDeed run journals (who_of a) d)
     × Continues e.catalog last × AllDoneFrom rules run (after e a.bound a.answer) last journals more
 
 pub record IsConsistent (rules : Rules) (run : Run) (e : Environment) (answers : List Answered) (journals : List Journal) : Type 0 where
@@ -86,7 +86,7 @@ answered_by who e bound a = record { session = who.session; statement = who.stat
 -- what the answer of the next statement does to a run: it stands by a deed over the journals as they were, which grow by that deed
 pub record IsAnswered (rules : Rules) (run : Run) (e next : Environment) (who : Who) (old new : List Journal) (bound : Option Statement) (a : Answer) : Type 0 where
   pub deed : Deed
-  pub does : Does rules run e deed bound a
+  pub does : Does rules run e who deed bound a
   pub follows : Follows who deed old new
   pub leads : after e bound a ≡ next
   pub on : Continues e.catalog next.catalog

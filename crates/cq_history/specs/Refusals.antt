@@ -28,6 +28,9 @@ is_built c (statement.Setting which value) = true
 is_built c (statement.Select q) = true
 is_built c (statement.Explain q) = true
 is_built c (statement.Write op) = not (is_local (place_at c (table_of op)))
+is_built c (statement.Move shard from to) = true
+is_built c (statement.Rebalance by_size) = true
+is_built c (statement.RebalancePlan by_size) = true
 is_built c s = false
 
 abbrev pub unless_built : Bool → Option Fault → Option Fault

@@ -1,5 +1,5 @@
 -- When an answer stands, and the cause of each refusal. The cases are read once, over a view of the statement.
-use Rattle.std.specs.Prelude.{◌≡◌, ◌⊎◌, ◌+◌, ◌<◌, ◌≤◌, ℕ, ⊤, true, List, [], ◌∷◌, map, length, Option, Some, None, option_map, codes}
+use Rattle.std.specs.Prelude.{◌≡◌, ◌⊎◌, ◌+◌, ◌<◌, ◌≤◌, ◌-◌, ◌++◌, ℕ, Bool, ⊤, true, false, nat_eq, pos, List, [], ◌∷◌, map, length, Option, Some, None, option_map, codes}
 use Rattle.std.specs.List.{sum_by}
 use Rattle.cq_value.specs.declared.value.Value.TheVariants as values
 use Rattle.cq_value.specs.declared.schema.Column.{Column}
@@ -20,10 +20,11 @@ use Rattle.cq_meaning.specs.Effects.{numbered, reply_of, table_of, inserts}
 use Rattle.cq_catalog.specs.Contents.{Contents}
 use Rattle.cq_catalog.specs.Creation.{creation_refusal}
 use Rattle.cq_catalog.specs.Distribution.{decision_of, distribution_refusal, opened_by, reference_refusal}
+use Rattle.cq_catalog.specs.Placement.{group_of_shard}
 use Rattle.cq_catalog.specs.Refusals.{first_of}
 use Rattle.cq_journal.specs.Journals.{most_ids}
 use Rattle.cq_journal.specs.Replies.{IsMade}
-use Rattle.cq_journal.specs.Stations.{node_of}
+use Rattle.cq_journal.specs.Stations.{node_of, moving_of}
 use Rattle.cq_answer.specs.declared.answer.Answer.{Answer}
 use Rattle.cq_answer.specs.declared.answer.Answer.TheVariants as answer
 use Rattle.cq_answer.specs.declared.answer.Tag.{Tag}
@@ -32,7 +33,12 @@ use Rattle.cq_answer.specs.declared.fault.What.TheVariants as what
 use Rattle.cq_answer.specs.declared.fault.Fault.{Fault}
 use Rattle.cq_answer.specs.declared.fault.Fault.TheVariants as fault
 use Rattle.cq_answer.specs.Faults.{fault_of_catalog}
-use Rattle.cq_history.specs.Run.{Run, Rules, Environment, shards_on, room_fault}
+use Rattle.cq_history.specs.Run.{Run, Rules, Environment}
+use Rattle.cq_history.specs.Room.{tables_in, short_at, room_fault, shards_at}
+use Rattle.cq_history.specs.Moves.{Report, IsMove, IsStopped, move_fault}
+use Rattle.cq_history.specs.Rebalances.{Either, size_of, loads_in, read_for, plan_names, plan_row, Made, moves_of, AreMovesOf, node_after, rebalance_names, rebalance_row}
+use Rattle.cq_balance.specs.Greedy.{greedy}
+use Rattle.cq_balance.specs.declared.load.Move.{Move}
 use Rattle.cq_planning.specs.Database.{shape_in, whole, IsLarge}
 use Rattle.cq_planning.specs.Parts.{part}
 use Rattle.cq_planning.specs.Simple.{GivesSimply}
@@ -170,6 +176,10 @@ copied_answer (answer.Tag t) = answer.Tag (copied t)
 copied_answer (answer.Table names rows) = answer.Table names rows
 copied_answer (answer.Failed f) = answer.Failed f
 
+-- the statement saw each group on the node that this tells
+abbrev pub SeesNodes : Contents → View → (ℕ → ℕ) → Type 0
+SeesNodes c v nodes = (g : ℕ) → g < c.groups → v.saw g (λ j. nodes g ≡ node_of j)
+
 -- ---- EXPLAIN
 
 -- a row of one text for each line
@@ -180,7 +190,7 @@ rows_of_lines lines = map (λ line. values.Text line ∷ []) lines
 pub record IsExplained (c : Contents) (v : View) (q : Query) (names : List (List ℕ)) (rows : List Row) : Type 0 where
   pub nodes : ℕ → ℕ
   pub entries : Enters v none
-  pub on : (g : ℕ) → g < c.groups → v.saw g (λ j. nodes g ≡ node_of j)
+  pub on : SeesNodes c v nodes
   pub named : names ≡ codes "QUERY PLAN" ∷ []
   pub shown : rows ≡ rows_of_lines (explained c nodes q)
 
@@ -195,21 +205,121 @@ abbrev pub creation_fault : Environment → List ℕ → List Column → Option 
 creation_fault e name columns = option_map fault_of_catalog (creation_refusal e.catalog name columns)
 
 -- where the setting gives this count: by the catalogue, and else for want of stores
-abbrev pub distribution_fault : Run → Contents → ℕ → List ℕ → List ℕ → Option ℕ → With → Option Fault
-distribution_fault run c default table column count beside =
+abbrev pub distribution_fault : Run → Contents → List ℕ → (ℕ → ℕ) → ℕ → List ℕ → List ℕ → Option ℕ → With → Option Fault
+distribution_fault run c retired nodes default table column count beside =
     first_of
     (option_map fault_of_catalog (distribution_refusal c table column count beside default)
-    ∷ room_fault run c (shards_on run (opened_by c (decision_of c table column count beside default)).count)
+    ∷ room_fault run c retired nodes (shards_at run.workers nodes (opened_by c (decision_of c table column count beside default)))
     ∷ [])
 
-abbrev pub reference_fault : Run → Contents → List ℕ → Option Fault
-reference_fault run c table = first_of (option_map fault_of_catalog (reference_refusal c table) ∷ room_fault run c (λ at. 1) ∷ [])
+abbrev pub reference_fault : Run → Contents → List ℕ → (ℕ → ℕ) → List ℕ → Option Fault
+reference_fault run c retired nodes table =
+    first_of (option_map fault_of_catalog (reference_refusal c table) ∷ room_fault run c retired nodes (λ at. 1) ∷ [])
 
 -- a refusal, where there is one, and else an answer of this kind, unless memory ran out
 abbrev pub Yields : Option Fault → (Answer → Type 0) → Answer → Type 0
 Yields refusal done (answer.Failed fault.Memory) = ⊤
 Yields (Some f) done a = a ≡ answer.Failed f
 Yields None done a = done a
+
+-- ---- moves
+
+-- its entries are in this group alone
+abbrev pub EntersIn : View → ℕ → (List Step → Type 0) → Type 0
+EntersIn v group P = v.made group P × ((g : ℕ) → nat_eq g group ≡ false → v.made g (λ steps. steps ≡ []))
+
+abbrev pub report_names : List (List ℕ)
+report_names = codes "copied" ∷ codes "caught" ∷ codes "last" ∷ []
+
+abbrev pub report_row : Report → Row
+report_row r = values.Int (pos r.copied) ∷ values.Int (pos r.caught) ∷ values.Int (pos r.last) ∷ []
+
+-- what a move of a group is answered that nothing refused: a table of what it did; the fault of the group's store, from which nothing was
+-- moved; that of a store that was to take its place, and is retired; or want of memory, before it began or after
+abbrev pub Moves : Contents → View → ℕ → ℕ → ℕ → Answer → Type 0
+Moves c v group from to (answer.Table names rows) = (r : Report) × (names ≡ report_names) × (rows ≡ report_row r ∷ []) × EntersIn v group (IsMove c group from to r)
+Moves c v group from to (answer.Failed (fault.Worker node shard before after)) = Enters v none × IsShardIn c group shard × (node ≡ from) × Rose before after
+Moves c v group from to (answer.Failed (fault.Retired node shard before after)) = EntersIn v group (IsStopped from to) × IsShardIn c group shard × (node ≡ to) × Rose before after
+Moves c v group from to (answer.Failed fault.Memory) = Enters v none ⊎ EntersIn v group (IsStopped from to)
+Moves c v group from to a = ⊥
+
+abbrev pub MovesUnless : Option Fault → Contents → View → ℕ → ℕ → ℕ → Answer → Type 0
+MovesUnless (Some f) c v group from to a = Enters v none × Yields (Some f) (λ b. ⊥) a
+MovesUnless None c v group from to a = Moves c v group from to a
+
+-- a move of the group of a shard
+pub record IsMoved (run : Run) (c : Contents) (retired : List ℕ) (v : View) (group from to : ℕ) (a : Answer) : Type 0 where
+  pub nodes : ℕ → ℕ
+  pub mover : Option Who
+  pub there : group < c.groups
+  pub on : SeesNodes c v nodes
+  pub moving : v.saw group (λ j. mover ≡ moving_of j)
+  pub moves : MovesUnless (move_fault run c retired nodes mover group from to) c v group from to a
+
+abbrev pub IsMovedIn : Run → Environment → View → ℕ → ℕ → ℕ → Option ℕ → Answer → Type 0
+IsMovedIn run e v shard from to None a = Enters v none × Yields (Some (fault.NoShard shard)) (λ b. ⊥) a
+IsMovedIn run e v shard from to (Some group) a = IsMoved run e.catalog e.retired v group from to a
+
+-- ---- rebalances
+
+-- a plan of moves is the greedy one over the groups as the statement saw them
+pub record IsPlanned (by_size : Bool) (run : Run) (c : Contents) (v : View) (moves : List Move) : Type 0 where
+  pub nodes : ℕ → ℕ
+  pub sizes : ℕ → ℕ
+  pub seen : (g : ℕ) → g < c.groups → v.saw g (λ j. (nodes g ≡ node_of j) × (sizes g ≡ size_of by_size c g j))
+  pub greedy : moves ≡ greedy (loads_in c nodes sizes) run.workers
+
+-- by sizes, there is one Read in each distributed group
+abbrev pub Plans : Bool → Run → Contents → View → Answer → Type 0
+Plans by_size run c v (answer.Table names rows) =
+    (moves : List Move) × IsPlanned by_size run c v moves × (names ≡ plan_names) × (rows ≡ map plan_row moves) × Enters v (reads (read_for by_size c))
+Plans by_size run c v (answer.Failed (fault.Worker node shard before after)) = IsReadFault run c (read_for by_size c) v node shard before after
+Plans by_size run c v (answer.Failed fault.Memory) = (groups : List ℕ) × AreAmong groups (read_for by_size c) × Enters v (reads groups)
+Plans by_size run c v a = ⊥
+
+-- of a group: a Read, where sizes were asked for, then its moves among these, and then such steps
+pub record AreStepsOf (by_size : Bool) (c : Contents) (group : ℕ) (made : List Made) (Last : List Step → Type 0) (steps : List Step) : Type 0 where
+  pub first : List Step
+  pub moves : List Step
+  pub last : List Step
+  pub all : steps ≡ first ++ (moves ++ last)
+  pub reads : kinds_in first ≡ reads (read_for by_size c) group
+  pub moved : AreMovesOf c group made moves
+  pub ends : Last last
+
+abbrev pub EntersMoves : Bool → Contents → View → List Made → (ℕ → List Step → Type 0) → Type 0
+EntersMoves by_size c v made Last = (g : ℕ) → v.made g (AreStepsOf by_size c g made (Last g))
+
+abbrev pub NoStep : ℕ → List Step → Type 0
+NoStep g steps = steps ≡ []
+
+-- the steps of a move that was given up, in its group alone
+abbrev pub StopsIn : Move → ℕ → List Step → Type 0
+StopsIn m g steps = Either (nat_eq m.group g) (IsStopped m.from m.to steps) (steps ≡ [])
+
+-- why a planned move wasn't made, behind these that were: its node has too few spare stores then; or as another move
+abbrev pub FailsMove : Bool → Run → Contents → List ℕ → View → (ℕ → ℕ) → List Made → Move → Fault → Type 0
+FailsMove by_size run c retired v nodes made m (fault.NoRoom node free needed) =
+    EntersMoves by_size c v made NoStep × (short_at run c retired (node_after nodes made) (length (tables_in c m.group)) (m.to - 1) ≡ Some (fault.NoRoom node free needed))
+FailsMove by_size run c retired v nodes made m (fault.Worker node shard before after) = EntersMoves by_size c v made NoStep × IsShardIn c m.group shard × (node ≡ m.from) × Rose before after
+FailsMove by_size run c retired v nodes made m (fault.Retired node shard before after) = EntersMoves by_size c v made (StopsIn m) × IsShardIn c m.group shard × (node ≡ m.to) × Rose before after
+FailsMove by_size run c retired v nodes made m fault.Memory = EntersMoves by_size c v made NoStep ⊎ EntersMoves by_size c v made (StopsIn m)
+FailsMove by_size run c retired v nodes made m f = ⊥
+
+-- a planned move that failed: those before it stand, and none behind it is begun
+pub record IsCutOff (by_size : Bool) (run : Run) (c : Contents) (retired : List ℕ) (v : View) (f : Fault) : Type 0 where
+  pub made : List Made
+  pub next : Move
+  pub more : List Move
+  pub plan : IsPlanned by_size run c v (moves_of made ++ next ∷ more)
+  pub fails : FailsMove by_size run c retired v plan.nodes made next f
+
+-- each planned move is made, or the first that fails is the answer; or the plan itself failed
+abbrev pub Rebalances : Bool → Run → Contents → List ℕ → View → Answer → Type 0
+Rebalances by_size run c retired v (answer.Table names rows) =
+    (made : List Made) × IsPlanned by_size run c v (moves_of made) × (names ≡ rebalance_names) × (rows ≡ map rebalance_row made) × EntersMoves by_size c v made NoStep
+Rebalances by_size run c retired v (answer.Failed f) = Plans by_size run c v (answer.Failed f) ⊎ IsCutOff by_size run c retired v f
+Rebalances by_size run c retired v a = ⊥
 
 -- ---- all statements
 
@@ -219,8 +329,10 @@ Yields None done a = done a
 abbrev pub Runs : List ℕ → Run → Environment → View → Statement → Answer → Type 0
 Runs touched run e v (statement.CreateTable name columns key) a = Enters v none × Yields (creation_fault e name columns) (λ (b : Answer). b ≡ answer.Tag tag.CreateTable) a
 Runs touched run e v (statement.Distribute table column count beside) a =
-    Enters v none × Yields (distribution_fault run e.catalog e.settings.shard_count table column count beside) (IsNotice (codes "create_distributed_table")) a
-Runs touched run e v (statement.Reference table) a = Enters v none × Yields (reference_fault run e.catalog table) (IsNotice (codes "create_reference_table")) a
+    Enters v none × (nodes : ℕ → ℕ) × SeesNodes e.catalog v nodes
+    × Yields (distribution_fault run e.catalog e.retired nodes e.settings.shard_count table column count beside) (IsNotice (codes "create_distributed_table")) a
+Runs touched run e v (statement.Reference table) a =
+    Enters v none × (nodes : ℕ → ℕ) × SeesNodes e.catalog v nodes × Yields (reference_fault run e.catalog e.retired nodes table) (IsNotice (codes "create_reference_table")) a
 Runs touched run e v (statement.Setting which value) a = Enters v none × Yields None (λ (b : Answer). b ≡ answer.Tag tag.Setting) a
 Runs touched run e v (statement.Select q) (answer.Table names rows) = (names ≡ (out-Query q).names) × Enters v (reads touched) × v.wherever (λ db. Answers q db rows)
 Runs touched run e v (statement.Select q) (answer.Failed (fault.Limit what.Rows n)) =
@@ -235,6 +347,9 @@ Runs touched run e v (statement.Write op) (answer.Failed fault.ValueOutOfRange) 
 Runs touched run e v (statement.Write op) (answer.Failed (fault.Limit what.Ids n)) = (n ≡ most_ids) × LacksIdsIn e.catalog touched v op
 Runs touched run e v (statement.Write op) (answer.Failed (fault.Worker node shard before after)) = IsWriteFault run e.catalog touched v node shard before after
 Runs touched run e v (statement.Write op) (answer.Failed fault.Memory) = Enters v none
+Runs touched run e v (statement.RebalancePlan by_size) a = Plans by_size run e.catalog v a
+Runs touched run e v (statement.Rebalance by_size) a = Rebalances by_size run e.catalog e.retired v a
+Runs touched run e v (statement.Move shard from to) a = IsMovedIn run e v shard from to (group_of_shard e.catalog shard) a
 Runs touched run e v s a = ⊥
 
 abbrev pub RunsUnless : Option Fault → List ℕ → Run → Environment → View → Statement → Answer → Type 0

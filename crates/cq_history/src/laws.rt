@@ -4,7 +4,8 @@ ghost use Rattle.cq_history.specs.Laws.{OtherAccounts, FaultAccounts, NewAccount
 ghost use Rattle.cq_history.specs.Laws.{WantedSuffice, JoinsSuffice};
 ghost use Rattle.cq_history.specs.Laws.{LogBegins, LogGoesOn, AnswersGoOn, IdleIsAnswered, DeedIsAnswered, StaysLaidOut, CatalogGoesOn, LogStands};
 ghost use Rattle.cq_history.specs.Laws.{CopyIsAnswered};
-ghost use Rattle.cq_history.specs.Laws.{MadeIsAnswered, RefusedIsAnswered, LacksIsAnswered, ReadIsAnswered, LargeIsAnswered, ReadLacksMemory, ReadFails, WriteFails, WriteLacksMemory, ExplainIsAnswered, RefusalIsAnswered, OpensLaidOut, CatalogIsAnswered};
+ghost use Rattle.cq_history.specs.Laws.{PlanIsAnswered, PlanFails, PlanGoesOn, GrowsInGroup, MovesGoOn, MovesSettle, DistributedIsOpened, NextIsMovable, GivenUpSettles, RebalanceIsAnswered, RebalanceIsCutOff};
+ghost use Rattle.cq_history.specs.Laws.{MadeIsAnswered, RefusedIsAnswered, LacksIsAnswered, ReadIsAnswered, LargeIsAnswered, ReadLacksMemory, ReadFails, WriteFails, WriteLacksMemory, ExplainIsAnswered, RefusalIsAnswered, OpensLaidOut, SeesAll, MoveIsAnswered, MoveIsRefused, OthersMoveNone, FailedKeepsCatalog, CatalogIsAnswered};
 
 /// The reply of a write over the undistributed database, by the replies of its parts in the groups that it touches; and what it
 /// leaves of that database, by what they leave of the groups. Does nothing.
@@ -73,6 +74,22 @@ pub fn answer_laws()
     ensures explain { ExplainIsAnswered }
     ensures refusal { RefusalIsAnswered }
     ensures opens { OpensLaidOut }
+    ensures sees { SeesAll }
+    ensures moved { MoveIsAnswered }
+    ensures move_refused { MoveIsRefused }
+    ensures planned { PlanIsAnswered }
+    ensures plan_fails { PlanFails }
+    ensures plan_on { PlanGoesOn }
+    ensures grows_in_group { GrowsInGroup }
+    ensures moves_on { MovesGoOn }
+    ensures settle { MovesSettle }
+    ensures opened { DistributedIsOpened }
+    ensures movable { NextIsMovable }
+    ensures given_up { GivenUpSettles }
+    ensures rebalanced { RebalanceIsAnswered }
+    ensures cut_off { RebalanceIsCutOff }
+    ensures others { OthersMoveNone }
+    ensures failed { FailedKeepsCatalog }
     ensures catalog { CatalogIsAnswered }
 {}
 

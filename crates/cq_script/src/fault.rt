@@ -4,6 +4,7 @@ ghost use Rattle.cq_script.specs.Texts.{what_text, unsupported_text, fault_text}
 
 use crate::words::{push_name, push_signed, push_with, push_words};
 use cq_answer::{Fault, Unsupported, What};
+use cq_tree::Who;
 use std::alloc::AllocError;
 
 #[tactic(auto, unfolding(crate::specs::Texts::what_text))]
@@ -59,6 +60,13 @@ fn push_worker(
     push_with(out, b" shard ", shard)?;
     push_with(out, b" faults ", before)?;
     push_with(out, b" to ", after)
+}
+
+fn push_mover(out: &mut Vec<u8>, by: Who) -> Result<(), AllocError>
+    ensures { OnOk result (out.new.items ≡ out.old.items ++ fault_text (faults.Moving by)) }
+{
+    push_with(out, b"21 moving by ", u64::from(by.session))?;
+    push_with(out, b".", by.statement)
 }
 
 fn push_limit(out: &mut Vec<u8>, what: What, number: u64) -> Result<(), AllocError>
@@ -140,7 +148,17 @@ pub(crate) fn push_fault(out: &mut Vec<u8>, fault: &Fault) -> Result<(), AllocEr
             before,
             after,
         } => push_worker(out, *node, *shard, *before, *after),
+        Fault::Retired {
+            node,
+            shard,
+            before,
+            after,
+        } => push_worker(out, *node, *shard, *before, *after),
+        Fault::Moving { by } => push_mover(out, *by),
+        Fault::SameNode { node } => push_with(out, b"22 same node ", u64::from(*node)),
+        Fault::NotThere { node } => push_with(out, b"23 not there, on node ", u64::from(*node)),
         Fault::Memory => push_words(out, b"24 out of memory"),
+        Fault::NoShard { shard } => push_with(out, b"25 no shard ", *shard),
         Fault::NoRoom { node, free, needed } => push_room(out, *node, *free, *needed),
         Fault::Columns { row, found } => push_columns(out, *row, *found),
         Fault::Value { row, column } => push_place(out, *row, *column),
@@ -148,6 +166,7 @@ pub(crate) fn push_fault(out: &mut Vec<u8>, fault: &Fault) -> Result<(), AllocEr
         Fault::Duplicate => push_words(out, b"30 duplicate key"),
         Fault::ValueOutOfRange => push_words(out, b"31 value out of range"),
         Fault::Limit { what, number } => push_limit(out, *what, *number),
+        Fault::NoNode { node } => push_with(out, b"34 no node ", u64::from(*node)),
         Fault::Unsupported(why) => push_unsupported(out, *why),
         Fault::NotBuilt => push_words(out, b"35 not built"),
     }

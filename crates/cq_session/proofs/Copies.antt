@@ -1,5 +1,5 @@
 -- A text with its data: what it stands for, and how its answer is written.
-use Rattle.std.proofs.Common.{◌≡◌, ◌⊎◌, inl, inr, ℕ, Bool, true, false, List, [], ◌∷◌, ◌++◌, Option, None, Some, Result, Ok, Err, refl, sym, ◌∙◌, ap, subst}
+use Rattle.std.proofs.Common.{nat_lt, ◌≡◌, ◌⊎◌, inl, inr, ℕ, Bool, true, false, List, [], ◌∷◌, ◌++◌, Option, None, Some, Result, Ok, Err, refl, sym, ◌∙◌, ap, subst}
 use Rattle.std.specs.Prelude.{slice_get}
 use Rattle.std.specs.List.{AllByRecursion}
 use Rattle.cq_tree.specs.declared.journal.Who.{Who}
@@ -31,8 +31,10 @@ use Rattle.cq_history.specs.Log.{IsAnswered}
 use Rattle.cq_history.proofs.Copying.{copy_is_answered}
 use Rattle.cq_store.specs.Stores.{StoreState}
 use Rattle.cq_group.specs.declared.group.GroupState.{GroupState}
-use Rattle.cq_group.specs.Groups.{stores_of}
-use Rattle.cq_cluster.specs.Accounts.{AreAccounted}
+use Rattle.cq_group.specs.Groups.{stores_of, entries_of}
+use Rattle.cq_history.proofs.Lists.{two_ways}
+use Rattle.cq_cluster.specs.Accounts.{moved_by, later_than, AreAccounted, Retires}
+use Rattle.cq_cluster.specs.declared.retired.Retired.{Retired}
 use Rattle.cq_bound_laws.specs.Laws.{HasColumns}
 use Rattle.cq_bound_laws.proofs.Statements.{copies_are_there}
 use Rattle.cq_bound_laws.proofs.Copies.{copies_fit, inserts_compute}
@@ -196,6 +198,14 @@ below_tagged next true (answer.Tag t) h = tt
 below_tagged next true (answer.Table names rows) h = h
 below_tagged next true (answer.Failed f) h = h
 
+-- the answers to later statements, with one behind them or another to the same
+later_with : (n : ℕ) (answers : List Answered) (a b : Answered) → a.statement ≡ b.statement → (rest : List Answered) × (later_than n (answers ++ a ∷ []) ≡ rest ++ later_than n (a ∷ [])) × (later_than n (answers ++ b ∷ []) ≡ rest ++ later_than n (b ∷ []))
+later_with n [] a b same = ([], refl, refl)
+later_with n (c ∷ answers) a b same = elim (two_ways (nat_lt n c.statement)) [
+  | inl y ↦ (let r = later_with n answers a b same in (c ∷ r.0, rw y (ap (λ (v : List Answered). c ∷ v) r.1), rw y (ap (λ (v : List Answered). c ∷ v) r.2)))
+  | inr f ↦ (let r = later_with n answers a b same in (r.0, rw f r.1, rw f r.2))
+]
+
 module _ (answers : List Answered) (a b : Answered) where
   -- the ranges of the answers with the one behind them or the other
   ranges_with : (node shard : ℕ) (before : List Answered) → range_in node shard a.answer ≡ range_in node shard b.answer → ranges_of node shard (before ++ a ∷ []) ≡ ranges_of node shard (before ++ b ∷ [])
@@ -223,10 +233,34 @@ module _ (answers : List Answered) (a b : Answered) where
 -- so the counts of faults account for it
 pub accounted_with : {X : Type 0} (state : X → StoreState) (c : Contents) (answers : List Answered) (a : Answered) (copied : Bool) (given : Answer) (groups : List (GroupState X)) → a.answer ≡ tagged copied given →
     AreAccounted state c (answers ++ record a { answer = given } ∷ []) groups → AreAccounted state c (answers ++ a ∷ []) groups
-accounted_with state c answers a copied given groups is h =
+accounted_with {X = X} state c answers a copied given groups is h =
     let b : Answered = record a { answer = given } in
     let same : (node shard : ℕ) → range_in node shard a.answer ≡ range_in node shard given = λ node shard. ap (range_in node shard) is ∙ range_tagged node shard copied given in
     record {
-      stores = λ i g at. all_with answers a b state (stores_of g) same (h.stores i g at);
+      stores = λ i g at. later_accounts (moved_by (entries_of g)) (stores_of g) (h.stores i g at);
       below = below_with answers a b c.next_shard answers (λ k. subst (NamesBelow c.next_shard) (sym is) (below_tagged c.next_shard copied given k)) h.below;
     }
+  where
+    later_accounts : (n : ℕ) (stores : List X) → AllByRecursion (λ (x : X). AccountsFor (later_than n (answers ++ record a { answer = given } ∷ [])) (state x)) stores → AllByRecursion (λ (x : X). AccountsFor (later_than n (answers ++ a ∷ [])) (state x)) stores
+    later_accounts n stores all =
+        let b : Answered = record a { answer = given } in
+        let r = later_with n answers a b refl in
+        elim (two_ways (nat_lt n a.statement)) [
+          | inl y ↦
+              (let more : later_than n (answers ++ a ∷ []) ≡ r.0 ++ a ∷ [] = rw y at r.1 in
+              let one : later_than n (answers ++ b ∷ []) ≡ r.0 ++ b ∷ [] = rw y at r.2 in
+              subst (λ (v : List Answered). AllByRecursion (λ (x : X). AccountsFor v (state x)) stores) (sym more)
+              (all_with r.0 a b state stores (λ node shard. ap (range_in node shard) is ∙ range_tagged node shard copied given)
+              (subst (λ (v : List Answered). AllByRecursion (λ (x : X). AccountsFor v (state x)) stores) one all)))
+          | inr f ↦
+              (let more : later_than n (answers ++ a ∷ []) ≡ r.0 ++ [] = rw f at r.1 in
+              let one : later_than n (answers ++ b ∷ []) ≡ r.0 ++ [] = rw f at r.2 in
+              subst (λ (v : List Answered). AllByRecursion (λ (x : X). AccountsFor v (state x)) stores) (one ∙ sym more) all)
+        ]
+
+-- and so do the retired stores
+pub retires_with : {X : Type 0} (who : Who) (copied : Bool) (given : Answer) (old new : List (Retired X)) → Retires who given old new → Retires who (tagged copied given) old new
+retires_with who false given old new h = h
+retires_with who true (answer.Tag t) old new h = h
+retires_with who true (answer.Table names rows) old new h = h
+retires_with who true (answer.Failed f) old new h = h

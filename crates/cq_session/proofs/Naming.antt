@@ -1,5 +1,5 @@
 -- The refusals of a text and of its data name no store.
-use Rattle.std.proofs.Common.{◌≡◌, ℕ, Bool, List, length, sym, ◌∙◌, subst, refl, Ok, Err, Result, None, Some, Option, slice_get}
+use Rattle.std.proofs.Common.{◌≡◌, ℕ, Bool, List, length, subst, refl, Ok, Err, Result, None, Some, Option, slice_get}
 use Rattle.cq_token.specs.declared.token.Token.{Token}
 use Rattle.cq_token.specs.declared.error.LexError.{LexError}
 use Rattle.cq_token.specs.declared.error.LexError.TheVariants as lexing
@@ -20,6 +20,7 @@ use Rattle.cq_statement.specs.Reading.{fault_of_complaint, of_reading, of_verdic
 use Rattle.cq_statement.specs.Finding.{Reads}
 use Rattle.cq_history.specs.Faults.{NamesNoStore}
 use Rattle.cq_cluster.specs.Accounts.{NamesNone}
+use Rattle.cq_coordinator.proofs.Naming.{none_named}
 use Rattle.cq_copy.specs.declared.error.CopyError.{CopyError}
 use Rattle.cq_copy.specs.declared.error.CopyError.TheVariants as copying
 use Rattle.cq_copy.specs.Rows.{Row}
@@ -29,35 +30,35 @@ use Rattle.cq_session.proofs.Copies.{by_cases}
 
 lexing_named : (e : LexError) → NamesNoStore (fault_of_lexing e)
 unfolding fault_of_lexing
-lexing_named (lexing.OpenQuote at) node shard before after w = cc
-lexing_named (lexing.BadCharacter at) node shard before after w = cc
-lexing_named (lexing.TooLarge at) node shard before after w = cc
-lexing_named lexing.Memory node shard before after w = cc
+lexing_named (lexing.OpenQuote at) = refl
+lexing_named (lexing.BadCharacter at) = refl
+lexing_named (lexing.TooLarge at) = refl
+lexing_named lexing.Memory = refl
 
 complaint_named : (c : Complaint) → NamesNoStore (fault_of_complaint c)
-complaint_named (syntax at) node shard before after w = cc
-complaint_named depth node shard before after w = cc
+complaint_named (syntax at) = refl
+complaint_named depth = refl
 
 binding_named : (e : BindError) → NamesNoStore (fault_of_bind e)
 unfolding fault_of_bind
-binding_named (binding.NameTaken name) node shard before after w = cc
-binding_named (binding.UnknownTable name) node shard before after w = cc
-binding_named (binding.UnknownColumn name) node shard before after w = cc
-binding_named (binding.OutOfRange value least greatest) node shard before after w = cc
-binding_named (binding.Unknown at) node shard before after w = cc
-binding_named (binding.Ambiguous at) node shard before after w = cc
-binding_named (binding.Type at) node shard before after w = cc
-binding_named (binding.NotGrouped at) node shard before after w = cc
-binding_named (binding.TooWide at) node shard before after w = cc
-binding_named (binding.WrongCount at) node shard before after w = cc
-binding_named (binding.Divisor at) node shard before after w = cc
-binding_named (binding.KeyColumn at) node shard before after w = cc
-binding_named (binding.Subquery at) node shard before after w = cc
-binding_named (binding.LocalTable at) node shard before after w = cc
-binding_named (binding.GroupedJoin at) node shard before after w = cc
-binding_named (binding.Value row column) node shard before after w = cc
-binding_named (binding.Limit limited number) node shard before after w = cc
-binding_named binding.Memory node shard before after w = cc
+binding_named (binding.NameTaken name) = refl
+binding_named (binding.UnknownTable name) = refl
+binding_named (binding.UnknownColumn name) = refl
+binding_named (binding.OutOfRange value least greatest) = refl
+binding_named (binding.Unknown at) = refl
+binding_named (binding.Ambiguous at) = refl
+binding_named (binding.Type at) = refl
+binding_named (binding.NotGrouped at) = refl
+binding_named (binding.TooWide at) = refl
+binding_named (binding.WrongCount at) = refl
+binding_named (binding.Divisor at) = refl
+binding_named (binding.KeyColumn at) = refl
+binding_named (binding.Subquery at) = refl
+binding_named (binding.LocalTable at) = refl
+binding_named (binding.GroupedJoin at) = refl
+binding_named (binding.Value row column) = refl
+binding_named (binding.Limit limited number) = refl
+binding_named binding.Memory = refl
 
 same_error : {T : Type 0} (f g : Fault) → Path (Result T Fault) (Err f) (Err g) → f ≡ g
 same_error f g e = cc
@@ -78,23 +79,16 @@ text_named : (text : List ℕ) (tables : List TableInfo) (f : Fault) → reading
 unfolding reading_of
 text_named text tables f e = tokens_named (tokens text) (length text) tables f e
 
--- what a text is read as, where it is refused by a store
-reads_worker : (read : Result Statement Fault) (f : Fault) (node shard before after : ℕ) → f ≡ fault.Worker node shard before after → Reads read (Err f) → read ≡ Err (fault.Worker node shard before after)
-reads_worker read f node shard before after e h = subst (λ (v : Fault). Reads read (Err v)) e h
-
-same_failed : (f g : Fault) → answer.Failed f ≡ answer.Failed g → f ≡ g
-same_failed f g e = cc
-
 -- nor do those of a COPY's data
 
 copy_named : (e : CopyError) → NamesNoStore (fault_of_copy e)
-copy_named (copying.Columns row found) node shard before after w = cc
-copy_named (copying.BadValue row column) node shard before after w = cc
-copy_named (copying.Encoding row) node shard before after w = cc
-copy_named copying.Memory node shard before after w = cc
+copy_named (copying.Columns row found) = refl
+copy_named (copying.BadValue row column) = refl
+copy_named (copying.Encoding row) = refl
+copy_named copying.Memory = refl
 
 not_built_named : NamesNoStore fault.NotBuilt
-not_built_named node shard before after w = cc
+not_built_named = refl
 
 rows_named : (table : ℕ) (r : Result (List Row) CopyError) (f : Fault) → insertion table r ≡ Err f → NamesNoStore f
 rows_named table (Ok rows) f is = absurd (cc is)
@@ -108,9 +102,11 @@ data_named : (bytes : List ℕ) (tables : List TableInfo) (f : Fault) (read : Re
 data_named bytes tables f = by_cases bytes tables (λ (r w : Result Statement Fault). (r ≡ Err f → NamesNoStore f) → w ≡ Err f → NamesNoStore f) (λ table columns csv header h. table_named (slice_get tables table) table columns csv header bytes f)
     (λ r none h. h)
 
+-- a fault that a text or its data is refused for names no store
+pub unread_names_none : (f : Fault) (text bytes : List ℕ) (tables : List TableInfo) → Reads (reading_with text bytes tables) (Err f) → NamesNoStore f
+unread_names_none fault.Memory text bytes tables reads = refl
+unread_names_none f text bytes tables reads = data_named bytes tables f (reading_of text tables) (text_named text tables f) reads
+
 -- so does the answer to a text that isn't bound
 pub unread_named : (a : Answer) (f : Fault) (text bytes : List ℕ) (tables : List TableInfo) → a ≡ answer.Failed f → Reads (reading_with text bytes tables) (Err f) → NamesNone a
-unread_named a f text bytes tables is reads = λ node shard before after e.
-    let named : Fault = fault.Worker node shard before after in
-    data_named bytes tables named (reading_of text tables) (text_named text tables named)
-    (reads_worker (reading_with text bytes tables) f node shard before after (same_failed f named (sym is ∙ e)) reads) node shard before after refl
+unread_named a f text bytes tables is reads = none_named a f is (unread_names_none f text bytes tables reads)

@@ -8,8 +8,8 @@ ghost use Rattle.cq_history.specs.Log.{IsAnswered};
 ghost use Rattle.cq_history.specs.Refusals.{rules};
 ghost use Rattle.cq_history.specs.Standing as standing;
 ghost use Rattle.cq_store.specs.declared.worker.Worker.{Worker};
-ghost use Rattle.cq_cluster.specs.Cluster.{IsSound, KeepsStores, AreWorkers, run_of};
-ghost use Rattle.cq_cluster.specs.Accounts.{AreAccounted};
+ghost use Rattle.cq_cluster.specs.Cluster.{IsSound, KeepsStores, HasStores, run_of};
+ghost use Rattle.cq_cluster.specs.Accounts.{IsNext, AreAccounted, Retires};
 ghost use Rattle.cq_coordinator.specs.Coordination.{environment, journals};
 ghost use Rattle.cq_statement.specs.Meanings.{Means};
 ghost use Rattle.cq_statement.specs.Reading.{reading_of};
@@ -19,6 +19,7 @@ ghost use Rattle.cq_session.specs.Responses.{ReadsAs};
 use crate::copying::read_with_data;
 use cq_answer::{Answer, Tag};
 use cq_coordinator::Coordinator;
+use cq_group::Gate;
 use cq_store::Store;
 use cq_tree::{Statement, Who};
 use std::alloc::Global;
@@ -60,8 +61,9 @@ fn tagged(is_copy: bool, answer: Answer) -> Answer
 /// rows of its data; there is none where the answer is the text's first refusal, or that of the data, or memory ran out as they were read.
 /// The answer is what `IsAnswered` says: the statement's meaning over the undistributed database, or a refusal with its cause, or want of
 /// memory. A success is written as a COPY's where the text is a COPY.
-pub fn respond<S: Store>(
+pub fn respond<S: Store, G: Gate>(
     alloc: Global,
+    gate: &G,
     coordinator: &mut Coordinator<S>,
     who: Who,
     text: &[u8],
@@ -71,16 +73,17 @@ pub fn respond<S: Store>(
     requires legal { (g : ℕ) → IsLegal coordinator.old.cluster.catalog g (journal_in (journals coordinator.old) g) }
     requires keyed { (table : ℕ) → IsKeyed coordinator.old.cluster.catalog table }
     requires columns { HasColumns coordinator.old.cluster.catalog }
-    ensures answered { (initial : Settings) (entry : List (Worker S)) → AreWorkers S.state coordinator.old.cluster.nodes entry coordinator.old.cluster.groups.items coordinator.old.cluster.workers.items → IsAnswered rules (run_of coordinator.old.cluster.nodes initial entry) (environment coordinator.old) (environment coordinator.new) who (journals coordinator.old) (journals coordinator.new) result.bound result.answer }
+    ensures answered { (initial : Settings) (entry : List (Worker S)) → HasStores S.state entry coordinator.old.cluster → IsAnswered rules (run_of coordinator.old.cluster.nodes initial entry) (environment coordinator.old) (environment coordinator.new) who (journals coordinator.old) (journals coordinator.new) result.bound result.answer }
     ensures reads { ReadsAs result.bound result.answer text.now copied.now coordinator.old.cluster.catalog.tables }
     ensures means { Means text.now coordinator.old.cluster.catalog.tables (reading_of text.now coordinator.old.cluster.catalog.tables) }
     ensures sound { IsSound S.state coordinator.new.cluster }
     ensures stores { KeepsStores S.state coordinator.old.cluster coordinator.new.cluster }
-    ensures accounted { (answers : List Answered) (a : Answered) → a.answer ≡ result.answer → AreAccounted S.state coordinator.old.cluster.catalog answers coordinator.old.cluster.groups.items → AreAccounted S.state coordinator.new.cluster.catalog (answers ++ a ∷ []) coordinator.new.cluster.groups.items }
+    ensures accounted { (answers : List Answered) (a : Answered) → a.answer ≡ result.answer → IsNext who a answers coordinator.old.cluster.groups.items → AreAccounted S.state coordinator.old.cluster.catalog answers coordinator.old.cluster.groups.items → AreAccounted S.state coordinator.new.cluster.catalog (answers ++ a ∷ []) coordinator.new.cluster.groups.items }
+    ensures retires { Retires who result.answer coordinator.old.cluster.retired.items coordinator.new.cluster.retired.items }
 {
     match read_with_data(alloc, &coordinator.cluster.catalog, text, copied) {
         Ok(read) => {
-            let answer = coordinator.answer(alloc, who, &read.statement);
+            let answer = coordinator.answer(alloc, gate, who, &read.statement);
             Response {
                 bound: Some(read.statement),
                 answer: tagged(read.is_copy, answer),

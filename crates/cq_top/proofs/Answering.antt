@@ -19,7 +19,7 @@ use Rattle.cq_top.specs.declared.ending.Ending.TheVariants.{Done, Usage, Memory,
 use Rattle.cq_top.specs.declared.stop.Stop.{Stop}
 use Rattle.cq_top.specs.declared.stop.Stop.TheVariants as stops
 use Rattle.cq_top.specs.Outputs.{ending_of, stop_by}
-use Rattle.cq_top.specs.Scripts.{start, AnswersFrom, AnswersTo, AnswersFirst, begun_in, most_bytes, most_statements, read_of, IsAll, IsReached, IsAnswered, IsTakenFrom, ServesBy, Serves, fails, AllSucceed, FailsLast, MayFailLast, IsHalted}
+use Rattle.cq_top.specs.Scripts.{start, AnswersFrom, AnswersTo, AnswersFirst, begun_in, most_bytes, most_statements, read_of, IsReached, IsAnswered, IsTakenFrom, ServesBy, Serves, fails, AllSucceed, FailsLast, MayFailLast, IsHalted}
 use Rattle.cq_top.specs.Serving.{AnswersNext, Reaches, IsReaching, StopsAt, StopsAmong, IsCalm, HaltsBy, IsTaken, IsShown, IsShownBy, ShowsBy}
 
 -- the last item is exchanged

@@ -1,5 +1,5 @@
 -- The end of a run: its log, its stores, and what it is blamed for.
-use Rattle.std.proofs.Common.{◌≡◌, ◌≢◌, ◌+◌, ◌<◌, ◌≤◌, ◌⊎◌, inl, inr, ℕ, List, [], ◌∷◌, length, map, All, refl, sym, ◌∙◌, ap, subst, arith, Some, None, Option, IsTrue, append-nil}
+use Rattle.std.proofs.Common.{◌≡◌, ◌≢◌, ◌+◌, ◌<◌, ◌≤◌, ◌⊎◌, inl, inr, ℕ, List, [], ◌∷◌, map, All, refl, sym, ◌∙◌, ap, subst, arith, Some, None, IsTrue, append-nil}
 use Rattle.std.specs.Prelude.{nat_eq}
 use Rattle.std.proofs.lemmas.Bool.{eqb-true}
 use Rattle.std.proofs.lemmas.Bool.Decides.{nat_tests}
@@ -10,20 +10,20 @@ use Rattle.cq_answer.specs.declared.answered.Settings.{Settings}
 use Rattle.cq_catalog.specs.Contents.{Contents, nothing}
 use Rattle.cq_journal.specs.Records.{Journal}
 use Rattle.cq_journal.specs.declared.journal.Journal as kept
-use Rattle.cq_history.specs.Run.{Run, Environment, first}
+use Rattle.cq_history.specs.Run.{Environment, first}
 use Rattle.cq_history.specs.Log.{AllStand, IsConsistent, IsWhole as IsWholeHistory}
 use Rattle.cq_history.specs.Refusals.{rules}
-use Rattle.cq_history.specs.Faults.{AccountsFor}
 use Rattle.cq_history.proofs.Lists.{two_ways}
 use Rattle.cq_history.proofs.Script.{log_begins, log_stands}
 use Rattle.cq_store.specs.Stores.{StoreState, IsSpare}
 use Rattle.cq_store.specs.declared.worker.Worker.{Worker}
-use Rattle.cq_cluster.specs.Accounts.{AllAccounted}
+use Rattle.cq_cluster.specs.Accounts.{IsAccounted, AllAccounted, AreRetired}
+use Rattle.cq_cluster.specs.declared.retired.Retired.{Retired}
 use Rattle.cq_cluster.specs.Cluster.{stores_in, AreIdle, IsWaiting}
 use Rattle.cq_cluster.specs.Ending.{IsFinal, record_of}
 use Rattle.cq_script.specs.declared.sink.SinkError.{SinkError}
 use Rattle.cq_script.specs.declared.sink.SinkError.TheVariants as errors
-use Rattle.cq_script.specs.Streams.{SourceState, SinkState, Rose}
+use Rattle.cq_script.specs.Streams.{SinkState, Rose}
 use Rattle.cq_words.specs.declared.settled.Settled.{Settled}
 use Rattle.cq_words.specs.Words.{settled}
 use Rattle.cq_top.specs.declared.log.RunLog.{RunLog}
@@ -41,7 +41,7 @@ use Rattle.cq_top.specs.Runs.{IsEmptyLog, IsWhole, Stand, IsMisused, settled_or,
 
 -- a log of consistent answers and journals
 pub whole_of : {X Y : Type 0} (s : Settled) (log : RunLog X) (entry : List (Worker Y)) (e : Environment) (journals : List Journal) → IsConsistent rules (run_by s entry) e log.answers journals → log.catalog ≡ e.catalog →
-    journals_of log ≡ journals → log.retired ≡ [] → log.waves ≡ [] → IsWhole s entry log
+    journals_of log ≡ journals → AreRetired log.answers log.retired → log.waves ≡ [] → IsWhole s entry log
 whole_of s log entry e journals c catalog is retired waves = record {
   catalog = catalog ∙ ap (λ (v : Environment). v.catalog) c.environment;
   history = subst (IsWholeHistory (run_by s entry) log.catalog log.answers) (sym is) (subst (λ (v : Contents). IsWholeHistory (run_by s entry) v log.answers journals) (sym catalog) c.log);
@@ -54,15 +54,15 @@ pub stand_of : {X : Type 0} (s : Settled) (entry : List (Worker X)) (e : Environ
 stand_of s entry e answers journals kept c is = subst (λ (v : List Journal). AllStand rules (run_by s entry) v answers) (sym is) (log_stands rules (run_by s entry) e answers journals c).0
 
 -- before the first statement
-pub consistent_new : {X : Type 0} (s : Settled) (entry : List (Worker X)) (c : Contents) (settings : Settings) (answers : List Answered) (journals : List Journal) → c ≡ nothing → settings ≡ settings_by s → answers ≡ [] → journals ≡ [] →
-    IsConsistent rules (run_by s entry) (record { catalog = c; settings = settings }) answers journals
-consistent_new s entry c settings answers journals a b d f = rw (a, b, d, f) (log_begins rules (run_by s entry))
+pub consistent_new : {X : Type 0} (s : Settled) (entry : List (Worker X)) (c : Contents) (settings : Settings) (retired : List ℕ) (answers : List Answered) (journals : List Journal) → c ≡ nothing → settings ≡ settings_by s → retired ≡ [] → answers ≡ [] → journals ≡ [] →
+    IsConsistent rules (run_by s entry) (record { catalog = c; settings = settings; retired = retired }) answers journals
+consistent_new s entry c settings retired answers journals a b r d f = rw (a, b, r, d, f) (log_begins rules (run_by s entry))
 
 -- the empty log
 pub empty_whole : {X Y : Type 0} (s : Settled) (entry : List (Worker Y)) (log : RunLog X) → IsEmptyLog log → IsWhole s entry log
 empty_whole s entry log e =
     whole_of s log entry (first (run_by s entry)) [] (subst (λ (v : List Answered). IsConsistent rules (run_by s entry) (first (run_by s entry)) v []) (sym e.answers) (log_begins rules (run_by s entry))) e.catalog
-    (ap (map record_of) e.journals) e.retired e.waves
+    (ap (map record_of) e.journals) (subst (λ (v : List Answered). AreRetired v log.retired) (sym e.answers) (subst (λ (v : List (Retired _)). AreRetired [] v) (sym e.retired) tt)) e.waves
 
 pub empty_stands : {X Y : Type 0} (s : Settled) (entry : List (Worker Y)) (log : RunLog X) → IsEmptyLog log → Stand s entry log
 empty_stands s entry log e = subst (λ (v : List Answered). AllStand rules (run_by s entry) (journals_of log) v) (sym e.answers) tt
@@ -72,27 +72,28 @@ spare_of_waiting : {X : Type 0} (state : X → StoreState) (node : ℕ) (xs : Li
 spare_of_waiting state node [] all = tt
 spare_of_waiting state node (x ∷ xs) all = ((All-head (λ x. IsWaiting node (state x)) x xs all).spare, spare_of_waiting state node xs (All-tail (λ x. IsWaiting node (state x)) x xs all))
 
-pub final_idle : {X : Type 0} (nodes : ℕ) (state : X → StoreState) (c : Contents) (journals : List kept.Journal) (workers : List (Worker X)) → AreIdle state workers → journals ≡ [] → IsFinal state nodes workers c journals workers
-final_idle {X} nodes state c journals workers idle none = subst (λ (v : List kept.Journal). IsFinal state nodes workers c v workers) (sym none) (record {
+pub final_idle : {X : Type 0} (nodes : ℕ) (state : X → StoreState) (c : Contents) (journals : List kept.Journal) (workers : List (Worker X)) → AreIdle state workers → journals ≡ [] → (retired : List ℕ) → retired ≡ [] → IsFinal state nodes workers c retired journals workers
+final_idle {X} nodes state c journals workers idle none retired old = subst (λ (rs : List ℕ). IsFinal state nodes workers c rs journals workers) (sym old) (subst (λ (v : List kept.Journal). IsFinal state nodes workers c [] v workers) (sym none) (record {
   same_length = refl;
   used = λ place w h s. record {
     node = (idle place w s).node;
-    total = ap stores_in (sym s);
+    total = omega (arith, ap stores_in s);
     stores = (w.stores.items, [], sym (append-nil w.stores.items), spare_of_waiting state (place + 1) w.stores.items (idle place w s).stores, refl);
   };
   unused = λ place h. refl;
-})
+}))
 
 -- no store keeps a shard yet
-accounts_of_waiting : {X : Type 0} (state : X → StoreState) (node : ℕ) (answers : List Answered) (xs : List X) → All (λ x. IsWaiting node (state x)) xs → AllByRecursion (λ (x : X). 0 < (state x).shard → AccountsFor answers (state x)) xs
-accounts_of_waiting state node answers [] all = tt
-accounts_of_waiting state node answers (x ∷ xs) all = (
+accounts_of_waiting : {X : Type 0} (state : X → StoreState) (node : ℕ) (c : Contents) (journals : List Journal) (answers : List Answered) (xs : List X) → All (λ x. IsWaiting node (state x)) xs →
+    AllByRecursion (λ (x : X). 0 < (state x).shard → IsAccounted c journals answers (state x)) xs
+accounts_of_waiting state node c journals answers [] all = tt
+accounts_of_waiting state node c journals answers (x ∷ xs) all = (
   λ low. absurd (let none = (All-head (λ x. IsWaiting node (state x)) x xs all).spare.spare in omega (arith, low, none)),
-  accounts_of_waiting state node answers xs (All-tail (λ x. IsWaiting node (state x)) x xs all),
+  accounts_of_waiting state node c journals answers xs (All-tail (λ x. IsWaiting node (state x)) x xs all),
 )
 
-pub accounts_idle : {X : Type 0} (nodes : ℕ) (state : X → StoreState) (answers : List Answered) (workers : List (Worker X)) → AreIdle state workers → AllAccounted state nodes answers workers
-accounts_idle nodes state answers workers idle = λ place w h s. accounts_of_waiting state (place + 1) answers w.stores.items (idle place w s).stores
+pub accounts_idle : {X : Type 0} (nodes : ℕ) (state : X → StoreState) (c : Contents) (journals : List Journal) (answers : List Answered) (workers : List (Worker X)) → AreIdle state workers → AllAccounted state nodes c journals answers workers
+accounts_idle nodes state c journals answers workers idle = λ place w h s. accounts_of_waiting state (place + 1) c journals answers w.stores.items (idle place w s).stores
 
 -- ---- calls one after another
 

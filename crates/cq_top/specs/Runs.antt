@@ -1,12 +1,13 @@
 -- What a run promises of its log, its answers, the bytes written and the stores.
-use Rattle.std.specs.Prelude.{◌≡◌, ◌≢◌, ◌+◌, ◌<◌, ◌≤◌, ◌⊎◌, ℕ, IsTrue, Option, Some, None, List, [], ◌++◌, length, drop, map, false}
-use Rattle.cq_answer.specs.declared.answered.Answered.{Answered}
+use Rattle.std.specs.Prelude.{◌≡◌, ◌≢◌, ◌<◌, ◌⊎◌, ℕ, IsTrue, Option, Some, None, List, [], map, false}
 use Rattle.cq_catalog.specs.Contents.{nothing}
 use Rattle.cq_journal.specs.Records.{Journal}
 use Rattle.cq_history.specs.Run.{first, environment_from}
 use Rattle.cq_history.specs.Log.{AllStand, IsWhole as IsWholeHistory}
 use Rattle.cq_history.specs.Refusals.{rules}
 use Rattle.cq_store.specs.declared.worker.Worker.{Worker}
+use Rattle.cq_cluster.specs.Accounts.{AreRetired}
+use Rattle.cq_cluster.specs.declared.retired.Retired.{Retired}
 use Rattle.cq_cluster.specs.Ending.{record_of}
 use Rattle.cq_script.specs.Streams.{SourceState, SinkState, Rose}
 use Rattle.cq_words.specs.declared.settled.Settled.{Settled}
@@ -31,6 +32,10 @@ pub record IsEmptyLog {X : Type 0} (log : RunLog X) : Type 0 where
 abbrev pub journals_of : {X : Type 0} → RunLog X → List Journal
 journals_of log = map record_of log.journals.list
 
+-- the node of each retired store
+abbrev pub retired_in : {X : Type 0} → RunLog X → List ℕ
+retired_in {X} log = map (λ (r : Retired X). r.node) log.retired
+
 -- ---- the command line
 
 -- what the words ask for; without a word, and where they are wrong, two workers and no option
@@ -49,11 +54,11 @@ IsMisused words workers = (settled words ≡ None) ⊎ (workers < (asked words).
 
 -- over workers that were handed in so, the log is whole: its catalogue is that which its answers give; the answers are numbered, each with
 -- the settings that those before it give; there is one journal for each shard group, opened on the group's node; each journal is a legal
--- history, its entries are of statements of the log, in the order of the statements
+-- history, its entries are of statements of the log, in the order of the statements; and the retired stores are those that answers tell of
 pub record IsWhole {X Y : Type 0} (s : Settled) (entry : List (Worker Y)) (log : RunLog X) : Type 0 where
   pub catalog : log.catalog ≡ (environment_from (first (run_by s entry)) log.answers).catalog
   pub history : IsWholeHistory (run_by s entry) log.catalog log.answers (journals_of log)
-  pub retired : log.retired ≡ []
+  pub retired : AreRetired log.answers log.retired
   pub waves : log.waves ≡ []
 
 -- every answer stands: it is its statement's meaning over the undistributed database, at every choice of places in the journals that takes the

@@ -1,13 +1,13 @@
 -- How far a run is: its answers so far, what was taken of the script, and what was written.
-use Rattle.std.specs.Prelude.{◌≡◌, ◌≢◌, ◌<◌, ◌≤◌, ◌⊎◌, ⊤, ℕ, true, IsTrue, Option, Some, None, List, [], ◌∷◌, ◌++◌, length, take, drop}
+use Rattle.std.specs.Prelude.{◌≡◌, ◌≢◌, ◌<◌, ◌≤◌, ◌⊎◌, ⊤, ℕ, true, IsTrue, Option, Some, List, [], ◌∷◌, ◌++◌, length, take, drop}
 use Rattle.cq_answer.specs.declared.answered.Answered.{Answered}
 use Rattle.cq_history.specs.Run.{Run, environment_from}
 use Rattle.cq_history.specs.Log.{IsConsistent}
 use Rattle.cq_history.specs.Refusals.{rules}
 use Rattle.cq_store.specs.Stores.{StoreState}
 use Rattle.cq_store.specs.declared.worker.Worker.{Worker}
-use Rattle.cq_cluster.specs.Cluster.{IsSound, AreWorkers, run_of}
-use Rattle.cq_cluster.specs.Accounts.{AreAccounted}
+use Rattle.cq_cluster.specs.Cluster.{IsSound, HasStores, run_of}
+use Rattle.cq_cluster.specs.Accounts.{AreAccounted, AreRetired}
 use Rattle.cq_script.specs.declared.cutter.Cutter.{Cutter}
 use Rattle.cq_script.specs.declared.cutter.Item.{Item}
 use Rattle.cq_script.specs.Scripts.{cut, items_in}
@@ -23,7 +23,7 @@ use Rattle.cq_top.specs.declared.stop.Stop.TheVariants as stops
 use Rattle.cq_top.specs.declared.status.Status.{Status}
 use Rattle.cq_top.specs.declared.status.Status.TheVariants as statuses
 use Rattle.cq_top.specs.Outputs.{texts, IsPart, IsOutput}
-use Rattle.cq_top.specs.Scripts.{start, settings_by, begun_in, most_statements, most_bytes, IsAnswered, AnswersTo, AnswersFirst, AllSucceed, FailsLast, MayFailLast}
+use Rattle.cq_top.specs.Scripts.{start, settings_by, begun_in, most_statements, AnswersTo, AnswersFirst, AllSucceed, FailsLast, MayFailLast}
 
 -- what a run was given, by the command line and the workers
 abbrev pub run_by : {X : Type 0} → Settled → List (Worker X) → Run
@@ -34,8 +34,9 @@ pub record IsServingOver {X : Type 0} (state : X → StoreState) (entry : List (
   pub nodes : s.coordinator.cluster.nodes ≡ s.settled.workers
   pub consistent : IsConsistent rules (run_by s.settled entry) (environment s.coordinator) s.answers (journals s.coordinator)
   pub sound : IsSound state s.coordinator.cluster
-  pub workers : AreWorkers state s.settled.workers entry s.coordinator.cluster.groups.items s.coordinator.cluster.workers.items
+  pub stores : HasStores state entry s.coordinator.cluster
   pub accounted : AreAccounted state s.coordinator.cluster.catalog s.answers s.coordinator.cluster.groups.items
+  pub retired : AreRetired s.answers s.coordinator.cluster.retired.items
 
 -- the same, over some workers
 abbrev pub IsServing : {X : Type 0} → (X → StoreState) → Serving X → Type 0

@@ -1,16 +1,19 @@
 ghost use Rattle.std.specs.Prelude.{◌≡◌, ◌<◌, ◌≤◌, ◌≢◌, ◌⊎◌, ℕ, List, [], length, map, Some, IfOk, IfErr};
+ghost use Rattle.std.specs.List.{AllByRecursion};
 ghost use Rattle.std.specs.String.{string_bytes};
 ghost use Rattle.cq_store.specs.declared.worker.Worker.{Worker};
-ghost use Rattle.cq_cluster.specs.Cluster.{AreIdle};
+ghost use Rattle.cq_cluster.specs.Cluster.{AreIdle, IsRetired};
 ghost use Rattle.cq_cluster.specs.Accounts.{AllAccounted};
 ghost use Rattle.cq_cluster.specs.Ending.{IsFinal};
 ghost use Rattle.cq_words.specs.Words.{settled as settled_by};
 ghost use Rattle.cq_top.specs.Scripts.{IsHalted, Serves};
-ghost use Rattle.cq_top.specs.Serving.{IsServing, IsServingOver, KeepsServing, IsShownBy, IsReadingEnd, KeepsSink, BlamesSink, BlamesSource};
-ghost use Rattle.cq_top.specs.Runs.{IsEmptyLog, IsWhole, Stand, IsMisused, HasRun, asked};
+ghost use Rattle.cq_serial.specs.Laws.{database_of};
+ghost use Rattle.cq_serial.specs.Serial.{Serial};
+ghost use Rattle.cq_top.specs.Serving.{run_by, IsServing, IsServingOver, KeepsServing, IsShownBy, IsReadingEnd, KeepsSink, BlamesSink, BlamesSource};
+ghost use Rattle.cq_top.specs.Runs.{IsEmptyLog, IsWhole, Stand, IsMisused, HasRun, asked, journals_of, retired_in};
 
 use crate::ending::Ending;
-use crate::log::RunLog;
+use crate::log::{RetiredList, RunLog};
 use crate::reading::{serve_generated, serve_source};
 use crate::serving::Serving;
 use crate::status::Status;
@@ -64,8 +67,9 @@ fn close<S: Store>(serving: Serving<S>, workers: &mut Vec<Worker<S>>, log: &mut 
     ensures answers { log.new.answers ≡ serving.answers }
     ensures whole { (entry : List (Worker S)) → IsServingOver S.state entry serving → IsWhole serving.settled entry log.new }
     ensures stand { (entry : List (Worker S)) → IsServingOver S.state entry serving → Stand serving.settled entry log.new }
-    ensures last { (entry : List (Worker S)) → IsServingOver S.state entry serving → IsFinal S.state serving.settled.workers entry log.new.catalog log.new.journals.list workers.new.items }
-    ensures accounts { AllAccounted S.state serving.settled.workers log.new.answers workers.new.items }
+    ensures last { (entry : List (Worker S)) → IsServingOver S.state entry serving → IsFinal S.state serving.settled.workers entry log.new.catalog (retired_in log.new) log.new.journals.list workers.new.items }
+    ensures accounts { AllAccounted S.state serving.settled.workers log.new.catalog (journals_of log.new) log.new.answers workers.new.items }
+    ensures retired { AllByRecursion (IsRetired S.state) log.new.retired }
 {
     let Serving {
         coordinator,
@@ -76,8 +80,10 @@ fn close<S: Store>(serving: Serving<S>, workers: &mut Vec<Worker<S>>, log: &mut 
     let Ended {
         catalog,
         workers: lists,
+        retired,
     } = cluster.close(&mut log.journals);
     *workers = lists;
+    log.retired = RetiredList::from_vec(retired);
     log.answers = answers;
     log.catalog = catalog;
 }
@@ -132,8 +138,9 @@ fn run_script<S: Store, I: Source, K: Sink, G: Gate>(
     ensures source { BlamesSource result (I.told source.old) (I.told source.new) }
     ensures sink { KeepsSink (K.shown sink.old) (K.shown sink.new) }
     ensures blames { BlamesSink (result ≡ Ending.WriteFault) (K.shown sink.old) (K.shown sink.new) }
-    ensures last { IsFinal S.state settled.workers workers.old.items log.new.catalog log.new.journals.list workers.new.items }
-    ensures accounts { AllAccounted S.state settled.workers log.new.answers workers.new.items }
+    ensures last { IsFinal S.state settled.workers workers.old.items log.new.catalog (retired_in log.new) log.new.journals.list workers.new.items }
+    ensures accounts { AllAccounted S.state settled.workers log.new.catalog (journals_of log.new) log.new.answers workers.new.items }
+    ensures retired { AllByRecursion (IsRetired S.state) log.new.retired }
 {
     if log.journals.reserve(MOST_GROUPS).is_err() {
         return Ending::Memory;
@@ -160,8 +167,9 @@ pub fn run_over<R: Threads + Wait + Sync, S: Store, I: Source, K: Sink, G: Gate>
     ensures stand { Stand (asked (map string_bytes words.now)) workers.old.items log.new }
     ensures whole { IsWhole (asked (map string_bytes words.now)) workers.old.items log.new }
     ensures ran { HasRun (map string_bytes words.now) (length workers.old.items) result log.new (I.told source.old) (I.told source.new) (K.shown sink.old) (K.shown sink.new) }
-    ensures last { IsFinal S.state (asked (map string_bytes words.now)).workers workers.old.items log.new.catalog log.new.journals.list workers.new.items }
-    ensures accounts { AllAccounted S.state (asked (map string_bytes words.now)).workers log.new.answers workers.new.items }
+    ensures last { IsFinal S.state (asked (map string_bytes words.now)).workers workers.old.items log.new.catalog (retired_in log.new) log.new.journals.list workers.new.items }
+    ensures accounts { AllAccounted S.state (asked (map string_bytes words.now)).workers log.new.catalog (journals_of log.new) log.new.answers workers.new.items }
+    ensures retired { AllByRecursion (IsRetired S.state) log.new.retired }
 {
     match settle(alloc, words, workers.len()) {
         Ok(settled) => {
@@ -176,8 +184,9 @@ pub fn run_over<R: Threads + Wait + Sync, S: Store, I: Source, K: Sink, G: Gate>
 ///
 /// The words are those of the command line behind the program's name. The first workers are used, as many as the words say. Each worker
 /// holds spare stores of its own node: 1, 2 and so on; the shards of distributed tables and the copies of reference tables take them. A call
-/// of a store may fail: its statement is answered so then, with the store's count of faults before and after, and leaves all as it was. The log
-/// is new, and keeps the answers, the catalogue and each group's journal. Gives the status that the process ends with.
+/// of a store may fail: its statement is answered so then, with the store's count of faults before and after, and leaves all as it was; one that
+/// failed as it was to take a shard's rows in a move is retired. The log is new, and keeps the answers, the catalogue, each group's journal and the
+/// retired stores. Gives the status that the process ends with.
 pub fn run<R: Threads + Wait + Sync, S: Source, K: Sink, G: Gate>(
     rt: &R,
     alloc: Global,
@@ -192,9 +201,11 @@ pub fn run<R: Threads + Wait + Sync, S: Source, K: Sink, G: Gate>(
     requires fresh { IsEmptyLog log.old }
     ensures stand { Stand (asked (map string_bytes words.now)) workers.old.items log.new }
     ensures whole { IsWhole (asked (map string_bytes words.now)) workers.old.items log.new }
+    ensures serial { Serial (run_by (asked (map string_bytes words.now)) workers.old.items) log.new.answers (database_of log.new.catalog (journals_of log.new)) }
     ensures ran { HasRun (map string_bytes words.now) (length workers.old.items) result log.new (S.told source.old) (S.told source.new) (K.shown sink.old) (K.shown sink.new) }
-    ensures last { IsFinal ⟦<Box<dyn Store + Send> as Store>⟧.state (asked (map string_bytes words.now)).workers workers.old.items log.new.catalog log.new.journals.list workers.new.items }
-    ensures accounts { AllAccounted ⟦<Box<dyn Store + Send> as Store>⟧.state (asked (map string_bytes words.now)).workers log.new.answers workers.new.items }
+    ensures last { IsFinal ⟦<Box<dyn Store + Send> as Store>⟧.state (asked (map string_bytes words.now)).workers workers.old.items log.new.catalog (retired_in log.new) log.new.journals.list workers.new.items }
+    ensures accounts { AllAccounted ⟦<Box<dyn Store + Send> as Store>⟧.state (asked (map string_bytes words.now)).workers log.new.catalog (journals_of log.new) log.new.answers workers.new.items }
+    ensures retired { AllByRecursion (IsRetired ⟦<Box<dyn Store + Send> as Store>⟧.state) log.new.retired }
 {
     run_over(rt, alloc, words, source, sink, gate, workers, log)
 }

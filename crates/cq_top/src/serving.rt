@@ -6,6 +6,7 @@ ghost use Rattle.cq_top.specs.Serving.{IsServing, IsServingOver, KeepsServing, A
 use cq_answer::{Answer, Answered, AnsweredList, Fault, Settings};
 use cq_cluster::Cluster;
 use cq_coordinator::Coordinator;
+use cq_group::Gate;
 use cq_script::Item;
 use cq_session::{Response, respond};
 use cq_store::{Store, Worker};
@@ -72,7 +73,7 @@ impl<S: Store> Serving<S> {
     /// Answers an item of the script. The answer is the last then.
     ///
     /// Errors: there is no memory for the answer; nothing is done then.
-    pub fn answer(&mut self, alloc: Global, item: &Item) -> Result<(), NoMemory>
+    pub fn answer<G: Gate>(&mut self, alloc: Global, gate: &G, item: &Item) -> Result<(), NoMemory>
         requires room { length self.old.answers < 2 ^ 62 }
         requires serving { IsServing S.state self.old }
         ensures serving { IsServing S.state self.new }
@@ -89,6 +90,7 @@ impl<S: Store> Serving<S> {
         };
         let Response { bound, answer } = respond(
             alloc,
+            gate,
             &mut self.coordinator,
             who,
             item.text.as_slice(),

@@ -6,8 +6,10 @@ use Rattle.cq_history.specs.Log.{IsAnswered}
 use Rattle.cq_history.proofs.Answering.{refusal_is_answered}
 use Rattle.cq_cluster.specs.Cluster.{run_of}
 use Rattle.cq_cluster.proofs.AnswerLaws.{other_is_accounted}
-use Rattle.cq_session.proofs.Naming.{unread_named}
-use Rattle.cq_session.proofs.Copies.{computable_with, answered_with, accounted_with, tagged_is, failed_is_tagged}
+use Rattle.cq_cluster.specs.Accounts.{Retires}
+use Rattle.cq_coordinator.proofs.Naming.{none_retired}
+use Rattle.cq_session.proofs.Naming.{unread_named, unread_names_none}
+use Rattle.cq_session.proofs.Copies.{computable_with, answered_with, accounted_with, retires_with, tagged_is, failed_is_tagged}
 use Rattle.cq_session.proofs.ReadingLaws.{bound_ok, bound_err}
 use Rattle.cq_session.specs.Responses.{tagged, is_copy, reading_with, IsTagged}
 use Rattle.cq_statement.specs.Reading.{reading_of}
@@ -15,7 +17,7 @@ use Rattle.cq_coordinator.specs.Coordination.{environment, journals}
 use Rattle.cq_session.proofs.texts.respond.Goals as goal
 
 pub answer-answer-requires-clause-computable : goal.answer-answer-requires-clause-computable
-answer-answer-requires-clause-computable g c =
+answer-answer-requires-clause-computable g c = λ lifetimes outlive.
     let tables = c.args.coordinator.now.cluster.catalog.tables in
     computable_with c.args.coordinator.now.cluster.catalog c.args.text.now c.args.copied.now c.in-Ok.read.statement (reading_of c.args.text.now tables) c.requires.sound.whole c.requires.columns
     c.read_with_data.ensures.means c.in-Ok.ensures.ok
@@ -41,10 +43,14 @@ returns-in-Ok-clause-reads g c =
     }
 
 pub returns-in-Ok-clause-accounted : goal.returns-in-Ok-clause-accounted
-returns-in-Ok-clause-accounted g c = λ answers a is all.
+returns-in-Ok-clause-accounted g c = λ answers a is next all.
     let new = c.answer-answer.new.self in
     accounted_with g.S.Store.state new.cluster.catalog answers a c.in-Ok.read.is_copy c.answer-answer.result new.cluster.groups.items (is ∙ c.tagged.ensures)
-    (c.answer-answer.ensures.accounted answers (record a { answer = c.answer-answer.result }) refl all)
+    (c.answer-answer.ensures.accounted answers (record a { answer = c.answer-answer.result }) refl (record { is = next.is; answered = next.answered; moved = next.moved }) all)
+
+pub returns-in-Ok-clause-retires : goal.returns-in-Ok-clause-retires
+returns-in-Ok-clause-retires g c = subst (λ (a : Answer). Retires c.args.who a c.args.coordinator.now.cluster.retired.items c.answer-answer.new.self.cluster.retired.items) (sym c.tagged.ensures)
+    (retires_with c.args.who c.in-Ok.read.is_copy c.answer-answer.result _ _ c.answer-answer.ensures.retires)
 
 pub returns-in-Err-clause-answered : goal.returns-in-Err-clause-answered
 returns-in-Err-clause-answered g c = λ initial entry are. (refusal_is_answered rules (run_of c.args.coordinator.now.cluster.nodes initial entry) (environment c.args.coordinator.now) c.args.who (journals c.args.coordinator.now) c.in-Err.fault).0
@@ -58,9 +64,13 @@ returns-in-Err-clause-reads g c =
     }
 
 pub returns-in-Err-clause-accounted : goal.returns-in-Err-clause-accounted
-returns-in-Err-clause-accounted g c = λ answers a is all.
-    other_is_accounted g.S.Store.state c.args.coordinator.now.cluster.catalog c.args.coordinator.now.cluster.groups.items answers a
-    (unread_named a.answer c.in-Err.fault c.args.text.now c.args.copied.now c.args.coordinator.now.cluster.catalog.tables is c.in-Err.ensures.err) all
+returns-in-Err-clause-accounted g c = λ answers a is next all.
+    other_is_accounted g.S.Store.state c.args.coordinator.now.cluster.catalog c.args.coordinator.now.cluster.groups.items c.args.who answers a
+    (unread_named a.answer c.in-Err.fault c.args.text.now c.args.copied.now c.args.coordinator.now.cluster.catalog.tables is c.in-Err.ensures.err) next all
+
+pub returns-in-Err-clause-retires : goal.returns-in-Err-clause-retires
+returns-in-Err-clause-retires g c =
+    none_retired c.args.who c.in-Err.fault _ _ refl (unread_names_none c.in-Err.fault c.args.text.now c.args.copied.now c.args.coordinator.now.cluster.catalog.tables c.in-Err.ensures.err)
 
 pub returns-in-Ok-clause-means : goal.returns-in-Ok-clause-means
 returns-in-Ok-clause-means g c = c.read_with_data.ensures.means

@@ -1,8 +1,12 @@
-use Rattle.std.proofs.Common.{ℕ, arith, sym, subst}
+use Rattle.std.proofs.Common.{List, map, ap, sym, ◌∙◌, arith, subst, ℕ}
+use Rattle.std.specs.List.{AllByRecursion}
 use Rattle.cq_catalog.specs.Contents.{Contents}
-use Rattle.cq_cluster.specs.Accounts.{AllAccounted}
-use Rattle.cq_cluster.specs.Cluster.{AreWorkers}
+use Rattle.cq_journal.specs.Records.{Journal}
+use Rattle.cq_cluster.specs.Ending.{record_of}
+use Rattle.cq_cluster.specs.Accounts.{AllAccounted, AreRetired}
+use Rattle.cq_cluster.specs.Cluster.{IsRetired, retired_nodes}
 use Rattle.cq_cluster.specs.Ending.{IsFinal}
+use Rattle.cq_cluster.specs.declared.retired.Retired.{Retired}
 use Rattle.cq_coordinator.specs.Coordination.{environment, journals}
 use Rattle.cq_top.proofs.RunLaws.{whole_of, stand_of}
 use Rattle.cq_top.proofs.running.close.Goals as goal
@@ -15,7 +19,8 @@ close-catalog-requires-clause-room g c = (let s = c.requires.serving.1.sound in 
 
 pub returns-clause-whole : goal.returns-clause-whole
 returns-clause-whole g c = λ entry s.
-    whole_of c.args.serving.settled _ entry (environment c.args.serving.coordinator) (journals c.args.serving.coordinator) s.consistent c.close-catalog.ensures.catalog c.close-catalog.ensures.journals c.requires.fresh.retired c.requires.fresh.waves
+    whole_of c.args.serving.settled _ entry (environment c.args.serving.coordinator) (journals c.args.serving.coordinator) s.consistent c.close-catalog.ensures.catalog c.close-catalog.ensures.journals
+    (subst (λ (v : List (Retired g.row.S.Denot)). AreRetired c.args.serving.answers v) (sym (c.from_vec.ensures ∙ ap (λ v. v.items) c.close-catalog.ensures.retired)) s.retired) c.requires.fresh.waves
 
 pub returns-clause-stand : goal.returns-clause-stand
 returns-clause-stand g c = λ entry s.
@@ -24,11 +29,25 @@ returns-clause-stand g c = λ entry s.
 pub returns-clause-last : goal.returns-clause-last
 returns-clause-last g c = λ entry s.
     let cluster = c.args.serving.coordinator.cluster in
-    let workers = subst (λ (n : ℕ). AreWorkers g.S.Store.state n entry cluster.groups.items cluster.workers.items) (sym s.nodes) s.workers in
-    subst (λ (n : ℕ). IsFinal g.S.Store.state n entry c.close-catalog.result.catalog c.close-catalog.new.journals.list c.close-catalog.result.workers.items) s.nodes
-    (subst (λ (v : Contents). IsFinal g.S.Store.state cluster.nodes entry v c.close-catalog.new.journals.list c.close-catalog.result.workers.items) (sym c.close-catalog.ensures.catalog) (c.close-catalog.ensures.stores entry workers))
+    let state = g.S.Store.state in
+    let node : List (Retired g.row.S.Denot) → List ℕ = λ v. map (λ (r : Retired g.row.S.Denot). r.node) v in
+    let kept = ap node (c.from_vec.ensures ∙ ap (λ v. v.items) c.close-catalog.ensures.retired) in
+    subst (λ (n : ℕ). IsFinal state n entry c.close-catalog.result.catalog (node c.from_vec.result) c.close-catalog.new.journals.list c.close-catalog.result.workers.items) s.nodes
+    (subst (λ (rs : List ℕ). IsFinal state cluster.nodes entry c.close-catalog.result.catalog rs c.close-catalog.new.journals.list c.close-catalog.result.workers.items) (sym kept)
+    (subst (λ (v : Contents). IsFinal state cluster.nodes entry v (retired_nodes cluster) c.close-catalog.new.journals.list c.close-catalog.result.workers.items) (sym c.close-catalog.ensures.catalog) (c.close-catalog.ensures.stores entry s.stores)))
 
 pub returns-clause-accounts : goal.returns-clause-accounts
 returns-clause-accounts g c =
     let s = c.requires.serving.1 in
-    subst (λ (n : ℕ). AllAccounted g.S.Store.state n c.args.serving.answers c.close-catalog.result.workers.items) s.nodes (c.close-catalog.ensures.accounted c.args.serving.answers s.accounted)
+    let cluster = c.args.serving.coordinator.cluster in
+    let state = g.S.Store.state in
+    let answers = c.args.serving.answers in
+    let workers = c.close-catalog.result.workers.items in
+    let kept : List Journal = map record_of c.close-catalog.new.journals.list in
+    subst (λ (n : ℕ). AllAccounted state n c.close-catalog.result.catalog kept answers workers) s.nodes
+    (subst (λ (v : Contents). AllAccounted state cluster.nodes v kept answers workers) (sym c.close-catalog.ensures.catalog)
+    (subst (λ (js : List Journal). AllAccounted state cluster.nodes cluster.catalog js answers workers) (sym c.close-catalog.ensures.journals) (c.close-catalog.ensures.accounted answers s.accounted)))
+
+pub returns-clause-retired : goal.returns-clause-retired
+returns-clause-retired g c =
+    subst (λ (v : List (Retired g.row.S.Denot)). AllByRecursion (IsRetired g.S.Store.state) v) (sym (c.from_vec.ensures ∙ ap (λ v. v.items) c.close-catalog.ensures.retired)) c.requires.serving.1.sound.retired

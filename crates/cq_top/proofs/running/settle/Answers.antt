@@ -1,4 +1,4 @@
-use Rattle.std.proofs.Common.{◌≡◌, ◌<◌, refl, inl, inr, arith}
+use Rattle.std.proofs.Common.{refl, inl, arith}
 use Rattle.cq_top.proofs.RunLaws.{few_workers}
 use Rattle.cq_top.proofs.running.settle.Goals as goal
 

@@ -16,7 +16,9 @@ use Rattle.cq_coordinator.proofs.QueryAnswers.{are_shaped}
 use Rattle.cq_cluster.specs.Cluster.{run_of}
 use Rattle.cq_cluster.proofs.GroupLaws.{rests, sound_after, stores_after}
 use Rattle.cq_coordinator.specs.Coordination.{environment, journals, IsNoCopy}
+use Rattle.cq_cluster.specs.Accounts.{Retires}
 use Rattle.cq_coordinator.proofs.Tags.{write_no_copy}
+use Rattle.cq_coordinator.proofs.Staying.{stay_moved, stay_still, write_retires}
 use Rattle.cq_coordinator.proofs.WriteAnswers.{its_shards, ascending, takes}
 use Rattle.cq_coordinator.proofs.coordinator.Coordinator.write.Goals as goal
 
@@ -51,22 +53,39 @@ pub returns-clause-tag : goal.returns-clause-tag
 returns-clause-tag g c = subst IsNoCopy (sym c.answer_of.ensures) (write_no_copy c.args.op.now c.write_groups.result)
 
 pub returns-in_default-clause-accounted : goal.returns-in_default-clause-accounted
-returns-in_default-clause-accounted g c = λ answers a is all. other_is_accounted g.S.Store.state c.args.self.now.cluster.catalog c.args.self.now.cluster.groups.items answers a (none_named a.answer _ is memory_named) all
+returns-in_default-clause-accounted g c = λ answers a is next all. other_is_accounted g.S.Store.state c.args.self.now.cluster.catalog c.args.self.now.cluster.groups.items c.args.who answers a (none_named a.answer _ is memory_named) next all
 
 pub returns-clause-accounted : goal.returns-clause-accounted
-returns-clause-accounted g c = λ answers a is all.
+returns-clause-accounted g c = λ answers a is next all.
     let state = g.S.Store.state in
     let cl = c.args.self.now.cluster in
+    let e = environment c.args.self.now in
+    let old = cl.groups.items in
     let new = c.write_groups.new.groups.items in
-    answer_is_accounted state cl new answers a c.requires.sound c.write_groups.ensures.goes_on
+    let written = subst (λ (ps : List Part). IsWritten state c.args.who ps old new c.write_groups.result) c.in-Ok.ensures c.write_groups.ensures.written in
+    answer_is_accounted state cl new c.args.who answers a c.requires.sound c.write_groups.ensures.goes_on
+    (stay_moved _ _ _ _ c.args.who (statement.Write c.args.op.now) _ old new tt
+    (write_is_answered (run_of cl.nodes c.args.self.now.settings cl.workers.items) e c.args.who c.args.op.now old new c.requires.runs (c.requires.keyed (table_of c.args.op.now)) c.requires.computable
+    (its_shards state cl c.args.op.now c.requires.sound c.requires.runs) c.write_groups.ensures.goes_on.count state (rests state cl c.requires.sound) (are_shaped state cl c.requires.sound) refl c.write_groups.result written))
     (λ node shard before after e.
     write_blames (run_of cl.nodes c.args.self.now.settings cl.workers.items) (environment c.args.self.now) c.args.who c.args.op.now cl.groups.items new c.requires.runs (c.requires.keyed (table_of c.args.op.now)) c.requires.computable
     (its_shards state cl c.args.op.now c.requires.sound c.requires.runs) c.write_groups.ensures.goes_on.count state c.in-Ok.divided c.write_groups.result c.write_groups.ensures.written node shard before after
     (sym c.answer_of.ensures ∙ (sym is ∙ e)))
-    all
+    next all
+
+pub returns-clause-retires : goal.returns-clause-retires
+returns-clause-retires g c = subst (λ (a : Answer). Retires c.args.who a c.args.self.now.cluster.retired.items c.args.self.now.cluster.retired.items) (sym c.answer_of.ensures) (write_retires c.args.who c.args.op.now c.write_groups.result _)
 
 pub returns-clause-sound : goal.returns-clause-sound
-returns-clause-sound g c = sound_after g.S.Store.state c.args.self.now.cluster _ c.requires.sound c.write_groups.ensures.goes_on refl refl refl
+returns-clause-sound g c = let state = g.S.Store.state in
+    let cl = c.args.self.now.cluster in
+    let old = cl.groups.items in
+    let new = c.write_groups.new.groups.items in
+    let written = subst (λ (ps : List Part). IsWritten state c.args.who ps old new c.write_groups.result) c.in-Ok.ensures c.write_groups.ensures.written in
+    sound_after state cl _ c.requires.sound c.write_groups.ensures.goes_on
+    (stay_still _ _ _ _ c.args.who (statement.Write c.args.op.now) _ old new tt
+    (write_is_answered (run_of cl.nodes c.args.self.now.settings cl.workers.items) (environment c.args.self.now) c.args.who c.args.op.now old new c.requires.runs (c.requires.keyed (table_of c.args.op.now)) c.requires.computable
+    (its_shards state cl c.args.op.now c.requires.sound c.requires.runs) c.write_groups.ensures.goes_on.count state (rests state cl c.requires.sound) (are_shaped state cl c.requires.sound) refl c.write_groups.result written)) refl refl refl refl
 
 pub returns-clause-stores : goal.returns-clause-stores
-returns-clause-stores g c = stores_after g.S.Store.state c.args.self.now.cluster (record c.args.self.now.cluster { groups = c.write_groups.new.groups }) c.write_groups.ensures.goes_on refl refl
+returns-clause-stores g c = stores_after g.S.Store.state c.args.self.now.cluster (record c.args.self.now.cluster { groups = c.write_groups.new.groups }) c.write_groups.ensures.goes_on refl refl refl

@@ -2,8 +2,10 @@ use Rattle.std.proofs.Common.{◌≡◌, ◌∙◌, ◌+◌, ◌++◌, ◌∷◌
 use Rattle.cq_tree.specs.declared.journal.Who.{Who}
 use Rattle.cq_answer.specs.declared.answered.Answered.{Answered}
 use Rattle.cq_bound_laws.proofs.Columns.{columns_stand}
-use Rattle.cq_cluster.specs.Accounts.{AreAccounted}
-use Rattle.cq_cluster.specs.Cluster.{AreWorkers, run_of}
+use Rattle.cq_cluster.specs.Accounts.{IsNext, AreAccounted, AreRetired}
+use Rattle.cq_cluster.proofs.RetiringLaws.{retires_on}
+use Rattle.cq_cluster.proofs.NextLaws.{next_is}
+use Rattle.cq_cluster.specs.Cluster.{run_of}
 use Rattle.cq_coordinator.specs.Coordination.{environment, journals}
 use Rattle.cq_history.specs.Log.{IsConsistent, IsAnswered, next_who, answered_by}
 use Rattle.cq_history.specs.Refusals.{rules}
@@ -16,16 +18,16 @@ use Rattle.cq_top.proofs.Answering.{set_last}
 use Rattle.cq_top.proofs.serving.Serving.answer.Goals as goal
 
 pub respond-bound-requires-clause-sound : goal.respond-bound-requires-clause-sound
-respond-bound-requires-clause-sound g c = c.requires.serving.1.sound
+respond-bound-requires-clause-sound g c = λ lifetimes outlive. c.requires.serving.1.sound
 
 pub respond-bound-requires-clause-legal : goal.respond-bound-requires-clause-legal
-respond-bound-requires-clause-legal g c = c.requires.serving.1.consistent.log.legal
+respond-bound-requires-clause-legal g c = λ lifetimes outlive. c.requires.serving.1.consistent.log.legal
 
 pub respond-bound-requires-clause-keyed : goal.respond-bound-requires-clause-keyed
-respond-bound-requires-clause-keyed g c = c.requires.serving.1.consistent.log.laid.keyed
+respond-bound-requires-clause-keyed g c = λ lifetimes outlive. c.requires.serving.1.consistent.log.laid.keyed
 
 pub respond-bound-requires-clause-columns : goal.respond-bound-requires-clause-columns
-respond-bound-requires-clause-columns g c =
+respond-bound-requires-clause-columns g c = λ lifetimes outlive.
     columns_stand rules (run_by c.args.self.now.settled c.requires.serving.0) (environment c.args.self.now.coordinator) c.args.self.now.answers (journals c.args.self.now.coordinator) c.requires.serving.1.consistent
 
 pub returns-clause-keeps : goal.returns-clause-keeps
@@ -39,9 +41,8 @@ returns-clause-keeps g c = record {
       let new = c.respond-bound.new.coordinator in
       let who : Who = record { session = 0; statement = c.len-number.result + 1 } in
       let is : who ≡ next_who c.args.self.now.answers = ap (λ (n : ℕ). record { session = 0; statement = n }) number in
-      let workers = subst (λ (n : ℕ). AreWorkers g.S.Store.state n entry old.cluster.groups.items old.cluster.workers.items) (sym s.nodes) s.workers in
       let by = subst (λ (n : ℕ). IsAnswered rules (run_of n (settings_by settled) entry) (environment old) (environment new) who (journals old) (journals new) c.respond-bound.result.bound c.respond-bound.result.answer) s.nodes
-      (c.respond-bound.ensures.answered (settings_by settled) entry workers) in
+      (c.respond-bound.ensures.answered (settings_by settled) entry s.stores) in
       let answered = subst (λ (w : Who). IsAnswered rules (run_by settled entry) (environment old) (environment new) w (journals old) (journals new) c.respond-bound.result.bound c.respond-bound.result.answer) is by in
       let kept = answers_go_on rules (run_by settled entry) (λ m n h. h) (environment old) (environment new) c.args.self.now.answers (journals old) (journals new) c.respond-bound.result.bound c.respond-bound.result.answer s.consistent answered in
       let its = subst (λ (w : Who). IsConsistent rules (run_by settled entry) (environment new) (c.args.self.now.answers ++ answered_by w (environment old) c.respond-bound.result.bound c.respond-bound.result.answer ∷ []) (journals new)) (sym is) kept in
@@ -50,9 +51,13 @@ returns-clause-keeps g c = record {
         nodes = nodes;
         consistent = subst (λ (v : List Answered). IsConsistent rules (run_by settled entry) (environment new) v (journals new)) (sym e) its;
         sound = c.respond-bound.ensures.sound;
-        workers = subst (λ (n : ℕ). AreWorkers g.S.Store.state n entry new.cluster.groups.items new.cluster.workers.items) nodes (c.respond-bound.ensures.stores.stores entry workers);
+        stores = c.respond-bound.ensures.stores.stores entry s.stores;
         accounted = subst (λ (v : List Answered). AreAccounted g.S.Store.state new.cluster.catalog v new.cluster.groups.items) (sym e)
-            (c.respond-bound.ensures.accounted c.args.self.now.answers (answered_by who (environment old) c.respond-bound.result.bound c.respond-bound.result.answer) refl s.accounted);
+            (c.respond-bound.ensures.accounted c.args.self.now.answers (answered_by who (environment old) c.respond-bound.result.bound c.respond-bound.result.answer) refl
+            (subst (λ (w : Who). IsNext w (answered_by w (environment old) c.respond-bound.result.bound c.respond-bound.result.answer) c.args.self.now.answers old.cluster.groups.items) (sym is)
+            (next_is rules (run_by settled entry) (environment old) c.args.self.now.answers old.cluster.groups.items c.respond-bound.result.bound c.respond-bound.result.answer s.consistent)) s.accounted);
+        retired = subst (λ (v : List Answered). AreRetired v new.cluster.retired.items) (sym e)
+            (retires_on c.args.self.now.answers who (answered_by who (environment old) c.respond-bound.result.bound c.respond-bound.result.answer) old.cluster.retired.items new.cluster.retired.items refl c.respond-bound.ensures.retires s.retired);
       };
 }
 

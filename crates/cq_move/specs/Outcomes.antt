@@ -1,0 +1,65 @@
+-- What a move of a shard group comes to.
+use Rattle.std.specs.Prelude.{◌≡◌, ◌≤◌, ◌⊎◌, ℕ, ⊤, false, List, [], ◌∷◌, ◌++◌, map, Contains}
+use Rattle.cq_tree.specs.declared.journal.Who.{Who}
+use Rattle.cq_tree.specs.declared.journal.Entry.{Entry}
+use Rattle.cq_tree.specs.declared.journal.EntryKind.{EntryKind}
+use Rattle.cq_tree.specs.declared.journal.EntryKind.TheVariants.{MoveStart, CatchUp, MoveStop}
+use Rattle.cq_store.specs.Stores.{StoreState, Becomes, Rose}
+use Rattle.cq_group.specs.declared.group.GroupState.{GroupState}
+use Rattle.cq_group.specs.declared.start.MoveWhy.{MoveWhy}
+use Rattle.cq_group.specs.declared.start.MoveWhy.TheVariants as why
+use Rattle.cq_group.specs.Groups.{Outline, outlines, entries_of}
+use Rattle.cq_group.specs.Calls.{Lifted, SomeZip}
+use Rattle.cq_group.specs.Incoming.{CanStart, RefusesMove}
+use Rattle.cq_move.specs.declared.mover.NotMoved.{NotMoved}
+
+-- entries of these kinds, all of one statement
+abbrev pub entries_by : Who → List EntryKind → List Entry
+entries_by who kinds = map (λ (kind : EntryKind). record { who = who; kind = kind }) kinds
+
+-- the shard ids of a group's tables
+abbrev pub shards_in : List Outline → List ℕ
+shards_in os = map (λ (o : Outline). o.2) os
+
+-- a store that was given to a move: it is on its node, as steady as it was, and its count of faults didn't fall
+abbrev pub IsTried : StoreState → StoreState → Type 0
+IsTried old new = Becomes old (record old { shard = new.shard; rows = new.rows; staged = new.staged }) new
+
+-- a store that isn't steady, which keeps this shard on this node now, and whose count of faults rose meanwhile from one number to another
+pub record Broke (node shard before after : ℕ) (old new : StoreState) : Type 0 where
+  pub of_node : new.node ≡ node
+  pub of_shard : new.shard ≡ shard
+  pub unsteady : new.steady ≡ false
+  pub from : old.faults ≤ before
+  pub rose : Rose before after
+  pub to : after ≤ new.faults
+
+-- one of the stores that were given for a group's tables, on the node to which the group goes, broke
+pub record HasBroken {X : Type 0} (state : X → StoreState) (os : List Outline) (to node shard before after : ℕ) (old new : List X) : Type 0 where
+  pub there : node ≡ to
+  pub of_table : Contains (shards_in os) shard
+  pub broken : SomeZip (Lifted state (Broke node shard before after)) old new
+
+-- why a move that began didn't come to its end: a store that was given for it broke, or memory was wanting
+abbrev pub EndsMove : {X : Type 0} → (X → StoreState) → List Outline → ℕ → MoveWhy → List X → List X → Type 0
+EndsMove state os to (why.Moving by) old new = ⊥
+EndsMove state os to (why.NotThere node) old new = ⊥
+EndsMove state os to (why.SameNode node) old new = ⊥
+EndsMove state os to (why.Worker node shard before after) old new = HasBroken state os to node shard before after old new
+EndsMove state os to why.Memory old new = ⊤
+
+-- the entries of a move that was stopped, before its first round of catch-up or after that round had begun
+abbrev pub EntersStop : Who → ℕ → List Entry → List Entry → Type 0
+EntersStop who to old new = (new ≡ old ++ entries_by who (MoveStart to ∷ MoveStop ∷ [])) ⊎ (new ≡ old ++ entries_by who (MoveStart to ∷ CatchUp ∷ MoveStop ∷ []))
+
+-- a move that began and was stopped
+pub record IsStopped {X : Type 0} (state : X → StoreState) (old new : GroupState X) (who : Who) (to from : ℕ) (given : List X) (e : NotMoved X) : Type 0 where
+  pub start : CanStart old to from
+  pub entries : EntersStop who to (entries_of old) (entries_of new)
+  pub why : EndsMove state (outlines old) to e.why given e.stores.items
+
+-- a move that didn't begin
+pub record IsRefused {X : Type 0} (state : X → StoreState) (old new : GroupState X) (to from : ℕ) (given : List X) (e : NotMoved X) : Type 0 where
+  pub why : RefusesMove state old new to from e.why
+  pub stores : e.stores.items ≡ given
+  pub entries : entries_of new ≡ entries_of old
