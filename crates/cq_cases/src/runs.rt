@@ -148,6 +148,48 @@ INSERT INTO r VALUES (1,10);INSERT INTO r VALUES (1,10);SELECT n FROM r",
     ..BESIDE
 };
 
+/// A store that fails as it takes the rows of a moved group is retired, and the move is given up, as often as one is taken that fails; the group stays
+/// where it was, with its rows.
+const RETIRED: Script = Script {
+    script: b"CREATE TABLE t (k bigint, v bigint);SELECT create_distributed_table('t', 'k', shard_count => 1);
+INSERT INTO t VALUES (1,10),(2,20);SELECT citus_move_shard_placement(102008, 1, 2);SELECT citus_move_shard_placement(102008, 1, 2);
+UPDATE t SET v = v + 1 WHERE k = 2",
+    store_fails: (2, &[1]),
+    written: b"CREATE TABLE\ncreate_distributed_table\n\n(1 row)\nINSERT 0 2\nERROR 20 worker 2 shard 102008 faults 0 to 1
+ERROR 20 worker 2 shard 102008 faults 0 to 1\nUPDATE 1\n",
+    answers: 6,
+    entries: &[
+        (0, 3, Did::Counted(2)),
+        (0, 4, Did::Other),
+        (0, 4, Did::Other),
+        (0, 5, Did::Other),
+        (0, 5, Did::Other),
+        (0, 6, Did::Counted(1)),
+    ],
+    rows: &[(1, 102008, 1, 10), (1, 102008, 2, 21)],
+    ..BESIDE
+};
+
+/// A move of which the group's store fails has no entry; the next one is made, with what the counts of its old store told behind it.
+const UNMOVED: Script = Script {
+    script: b"CREATE TABLE t (k bigint, v bigint);SELECT create_distributed_table('t', 'k', shard_count => 1);
+INSERT INTO t VALUES (1,10),(2,20);SELECT citus_move_shard_placement(102008, 1, 2);SELECT citus_move_shard_placement(102008, 1, 2);
+UPDATE t SET v = v + 1 WHERE k = 2",
+    store_fails: (1, &[2]),
+    written: b"CREATE TABLE\ncreate_distributed_table\n\n(1 row)\nINSERT 0 2\nERROR 20 worker 1 shard 102008 faults 0 to 1
+copied|caught|last\n2|0|0\n(1 row)\nUPDATE 1\n",
+    answers: 6,
+    entries: &[
+        (0, 3, Did::Counted(2)),
+        (0, 5, Did::Other),
+        (0, 5, Did::Other),
+        (0, 5, Did::Other),
+        (0, 6, Did::Counted(1)),
+    ],
+    rows: &[(2, 102008, 1, 10), (2, 102008, 2, 21)],
+    ..BESIDE
+};
+
 /// What a run left.
 #[derive(Drop)]
 struct Outcome {
@@ -284,6 +326,8 @@ fn scripts_are_answered(rt: HostRuntime) -> Result<(), Fail> {
         OVER,
         FAILING,
         COPIES,
+        RETIRED,
+        UNMOVED,
         // a third worker takes no part
         Script {
             workers: 3,
