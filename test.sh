@@ -132,7 +132,7 @@ for crate in $(sed -n 's/^\([a-z_]*\):.*/\1/p' crates.txt); do
 done
 
 # The main job.
-for example in tenants dashboard moves; do
+for example in tenants dashboard moves rebalance; do
     ./run.sh "examples/$example.sql" >"$work/out" 2>"$work/err" || { cat "$work/err"; fail "run.sh: examples/$example.sql has another status than 0"; }
     diff "examples/$example.out" "$work/out" || fail "run.sh: another output than examples/$example.out"
 done
