@@ -20,5 +20,8 @@ SELECT CASE WHEN id = 1 THEN 1 ELSE 'a' END FROM sales;
 SELECT coalesce(price, note) FROM sales;
 SELECT id FROM sales WHERE note IN ('a', 1);
 SELECT id FROM sales WHERE note NOT BETWEEN 'a' AND 2;
+SELECT id FROM sales WHERE NULL IN (1, 'a'); -- PostgreSQL judges all operands together
+SELECT id FROM sales WHERE NULL NOT BETWEEN 1 AND 'a';
+SELECT id FROM sales WHERE tenant = 1 AND NULL IN (NULL, 1) AND NULL BETWEEN NULL AND 'a';
 SET citus.shard_count TO ON;
 SET citus.enable_repartition_joins = 1;

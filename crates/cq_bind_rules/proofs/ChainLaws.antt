@@ -11,7 +11,7 @@ use Rattle.cq_reading.specs.declared.error.BindError.{BindError}
 use Rattle.cq_reading.specs.declared.error.BindError.TheVariants.{Memory}
 use Rattle.cq_reading.specs.Steps.{Reading, follow, ◌then◌, give}
 use Rattle.cq_reading.specs.Outcomes.{Binds, Judges}
-use Rattle.cq_reading.specs.Widths.{expr_of, cond_of, are_alike}
+use Rattle.cq_reading.specs.Widths.{expr_of, cond_of, agree}
 use Rattle.cq_reading.specs.Rules.{ChainPart, chain_of, chained, joined, place_after, halves, halved, null, nothing, negated_if, condition, listed}
 use Rattle.cq_bind_rules.specs.Operands.{FirstError}
 use Rattle.cq_bind_rules.specs.Chains.{JoinedOr, part_of, equality}
@@ -169,7 +169,7 @@ joined_error any at (Ok a) (Ok b) e h = absurd h
 pub denied_is : (negate : Bool) (c d e : Cond) → c ≡ d → e ≡ negated_if negate c → Judges (give (Truth (negated_if negate d))) (Ok (Truth e))
 denied_is negate c d e h g found = ap (λ x. Ok (Truth x, found)) (ap (negated_if negate) (sym h) ∙ sym g)
 
-pub listed_is : (negate : Bool) (x : Bound) (e : Expr) (items : List Bound) (at : ℕ) (result : Result Bound BindError) → list_all (are_alike x) items ≡ true → e ≡ expr_of x
+pub listed_is : (negate : Bool) (x : Bound) (e : Expr) (items : List Bound) (at : ℕ) (result : Result Bound BindError) → agree (x ∷ items) ≡ true → e ≡ expr_of x
     → Judges (give (Truth (negated_if negate (halved true (map (equality e) items))))) result → Judges (listed negate x items at) result
 listed_is negate x e items at result h g j found =
     subst (λ t. Binds (condition (negated_if negate (halved true (map (equality (expr_of x)) items))) t at found) result found) (sym h)

@@ -17,8 +17,8 @@ pub greatest_last : (bs : List Bound) (b : Bound) → greatest_width (bs ++ b �
 greatest_last [] b = omega arith
 greatest_last (a ∷ bs) b = omega (arith, greatest_last bs b)
 
-pub common_more : (bs : List Bound) (i : ℕ) (d : Bound) → i < length bs → common_of (take (i + 1) bs) ≡ common_with (common_of (take i bs)) (get_or bs i d)
-common_more bs i d h = ap common_of (take_more bs i d h) ∙ common_last (take i bs) (get_or bs i d)
+pub common_more : (t : Option ValueType) (bs : List Bound) (i : ℕ) (d : Bound) → i < length bs → common_from t (take (i + 1) bs) ≡ common_with (common_from t (take i bs)) (get_or bs i d)
+common_more t bs i d h = ap (common_from t) (take_more bs i d h) ∙ common_push t (take i bs) (get_or bs i d)
 
 pub greatest_more : (bs : List Bound) (i : ℕ) (d : Bound) → i < length bs → greatest_width (take (i + 1) bs) ≡ max (greatest_width (take i bs)) (width_of (get_or bs i d))
 greatest_more bs i d h = ap greatest_width (take_more bs i d h) ∙ greatest_last (take i bs) (get_or bs i d)

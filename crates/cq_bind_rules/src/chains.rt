@@ -1,18 +1,16 @@
 //! Chains of AND and OR, as trees of halves.
 
 ghost use Rattle.std.specs.Prelude.{Ok, true, ◌≡◌, ◌∷◌, [], ◌<◌, ◌≤◌, ◌-◌, length, take, drop, map, IfOk};
-ghost use Rattle.std.specs.List.{list_all};
 ghost use Rattle.cq_reading.specs.declared.bound.Bound.TheVariants.{Truth};
 ghost use Rattle.cq_reading.specs.Outcomes.{Judges};
 ghost use Rattle.cq_reading.specs.Steps.{give};
-ghost use Rattle.cq_reading.specs.Widths as widths;
 ghost use Rattle.cq_reading.specs.Rules as rule;
 ghost use Rattle.cq_reading.specs.Rules.{chain_of, halved, place_after};
 ghost use Rattle.cq_bind_rules.specs.Chains.{JoinedOr, part_of, equality};
 
 use crate::boxes::{boxed_two, copied};
 use crate::conditions::negated_if;
-use crate::operands::{are_alike, both, both_truths, cond, expr};
+use crate::operands::{both, both_truths, cond, do_agree, expr};
 use cq_reading::{BindError, Bound};
 use cq_tree::{Cond, Expr, Op};
 use cq_value::{Items, NoMemory};
@@ -104,12 +102,6 @@ pub fn chained(alloc: Global, any: bool, mut parts: Items<(Bound, u64)>) -> Resu
     joined_last(alloc, any, count, &mut parts)
 }
 
-fn all_alike(x: &Bound, items: &[Bound]) -> bool
-    ensures { result ≡ list_all (widths.are_alike x.now) items.now }
-{
-    items.iter().all(|item| are_alike(x, item))
-}
-
 fn equal_to(alloc: Global, x: &Expr, item: Bound) -> Result<Bound, NoMemory>
     ensures { IfOk result (λ b. b ≡ Truth (equality x.now item)) }
 {
@@ -146,7 +138,7 @@ fn any_of(alloc: Global, x: &Expr, items: Items<Bound>) -> Result<Cond, NoMemory
     Ok(cond(b))
 }
 
-/// `x IN (items)` of items that it can be compared with.
+/// `x IN (items)` of operands that can be compared.
 fn listed_in(alloc: Global, negate: bool, x: &Expr, items: Items<Bound>) -> Result<Bound, BindError>
     ensures { Judges (give (Truth (rule.negated_if negate (halved true (map (equality x.now) items))))) result }
 {
@@ -154,7 +146,8 @@ fn listed_in(alloc: Global, negate: bool, x: &Expr, items: Items<Bound>) -> Resu
     Ok(Bound::Truth(negated_if(alloc, negate, test)?))
 }
 
-/// `x IN (items)`, or with NOT before it. It is refused with 14 at `at` where `x` can't be compared with each item.
+/// `x IN (items)`, or with NOT before it. It is refused with 14 at `at` where `x` and the items can't all be compared
+/// with each other.
 pub fn listed(
     alloc: Global,
     negate: bool,
@@ -164,7 +157,7 @@ pub fn listed(
 ) -> Result<Bound, BindError>
     ensures { Judges (rule.listed negate x items at) result }
 {
-    if !all_alike(&x, items.as_slice()) {
+    if !do_agree(&x, items.as_slice()) {
         drop(x);
         return Err(BindError::Type { at });
     }

@@ -9,21 +9,16 @@ ghost use Rattle.cq_reading.specs.Widths.{expr_of};
 ghost use Rattle.cq_reading.specs.Rules as rule;
 ghost use Rattle.cq_reading.specs.Rules.{arm_of};
 
-use crate::operands::{common_with, cond, expr, is_truth, width};
+use crate::operands::{common_from, common_with, cond, expr, is_truth, width};
 use cq_reading::{BindError, Bound, Type};
 use cq_tree::{Arm, Arms, Expr, Exprs};
 use cq_value::{Boxed, Items, NoMemory};
 use std::alloc::Global;
 
-#[tactic(auto, using(crate::proofs::Results::common_more))]
 fn common_of(items: &[Bound]) -> Option<Type>
     ensures { result ≡ widths.common_of items.now }
 {
-    let mut kind = Some(Type::Null);
-    for item in items {
-        kind = common_with(kind, item);
-    }
-    kind
+    common_from(Some(Type::Null), items)
 }
 
 fn wider(v: u32, w: u32) -> u32

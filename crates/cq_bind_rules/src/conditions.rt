@@ -5,7 +5,7 @@ ghost use Rattle.cq_reading.specs.Outcomes.{Judges};
 ghost use Rattle.cq_reading.specs.Rules as rule;
 
 use crate::boxes::{boxed_two, twice};
-use crate::operands::{are_alike, cond, expr, is_truth, is_value};
+use crate::operands::{are_alike, cond, do_three_agree, expr, is_truth, is_value};
 use cq_grammar::Comparison;
 use cq_reading::{BindError, Bound};
 use cq_tree::{Cond, Expr, Op};
@@ -81,7 +81,8 @@ fn within(alloc: Global, x: Expr, a: Expr, b: Expr) -> Result<Cond, NoMemory>
     Ok(Cond::And(least, most))
 }
 
-/// `x BETWEEN a AND b`, or with NOT before it. It is refused with 14 at the place of BETWEEN where `x` can't be compared with both.
+/// `x BETWEEN a AND b`, or with NOT before it. It is refused with 14 at the place of BETWEEN where the three can't be
+/// compared with each other.
 pub fn between(
     alloc: Global,
     negate: bool,
@@ -92,7 +93,7 @@ pub fn between(
 ) -> Result<Bound, BindError>
     ensures { Judges (rule.between negate x a b at) result }
 {
-    if !are_alike(&x, &a) || !are_alike(&x, &b) {
+    if !do_three_agree(&x, &a, &b) {
         drop((x, (a, b)));
         return Err(BindError::Type { at });
     }

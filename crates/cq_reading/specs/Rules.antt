@@ -26,7 +26,7 @@ use Rattle.cq_reading.specs.declared.bound.Bound.TheVariants.{Value, Truth}
 use Rattle.cq_reading.specs.declared.error.BindError.{BindError}
 use Rattle.cq_reading.specs.declared.error.BindError.TheVariants as error
 use Rattle.cq_reading.specs.Steps.{Reading, give, refuse, ◌then◌, provided}
-use Rattle.cq_reading.specs.Widths.{null_expr, expr_of, type_of, width_of, cond_of, is_truth, is_value, is_number, common_of, are_alike, is_some, literal_width, null_width, count_width, sum_width, product_width, total_width, greatest_width, fits_width, ValueType}
+use Rattle.cq_reading.specs.Widths.{null_expr, expr_of, type_of, width_of, cond_of, is_truth, is_value, is_number, common_of, agree, are_alike, is_some, literal_width, null_width, count_width, sum_width, product_width, total_width, greatest_width, fits_width, ValueType}
 use Rattle.cq_reading.specs.Equal.{equal_aggs}
 use Rattle.cq_same.specs.Equal.{equal_exprs}
 use Rattle.cq_reading.specs.Scopes.{Context}
@@ -101,10 +101,10 @@ negated_if false c = c
 abbrev pub null_tested : Bool → Bound → ℕ → Reading Bound
 null_tested not_null a at = condition (negated_if not_null (IsNull (expr_of a))) (is_value a) at
 
--- `x BETWEEN a AND b` is `x >= a AND x <= b`
+-- `x BETWEEN a AND b` is `x >= a AND x <= b`, of three that can be compared with each other
 abbrev pub between : Bool → Bound → Bound → Bound → ℕ → Reading Bound
 between negate x a b at =
-    condition (negated_if negate (And (Compare op.Ge (expr_of x) (expr_of a)) (Compare op.Le (expr_of x) (expr_of b)))) (are_alike x a && are_alike x b) at
+    condition (negated_if negate (And (Compare op.Ge (expr_of x) (expr_of a)) (Compare op.Le (expr_of x) (expr_of b)))) (agree (x ∷ a ∷ b ∷ [])) at
 
 -- ---- chains: the first n - n / 2 parts and the last n / 2, again and again
 
@@ -124,10 +124,10 @@ halves (suc most) any (c ∷ d ∷ more) =
 abbrev pub halved : Bool → List Cond → Cond
 halved any cs = halves (length cs) any cs
 
--- `x IN (a, b)` is `x = a OR x = b`
+-- `x IN (a, b)` is `x = a OR x = b`, of operands that can all be compared with each other
 abbrev pub listed : Bool → Bound → List Bound → ℕ → Reading Bound
 listed negate x items at =
-    condition (negated_if negate (halved true (map (λ i. Compare op.Eq (expr_of x) (expr_of i)) items))) (list_all (are_alike x) items) at
+    condition (negated_if negate (halved true (map (λ i. Compare op.Eq (expr_of x) (expr_of i)) items))) (agree (x ∷ items)) at
 
 -- a part of a chain of AND or OR, with the place of the word before it
 abbrev pub ChainPart : Type 0

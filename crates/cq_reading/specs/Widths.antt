@@ -75,8 +75,12 @@ abbrev pub is_some : {A : Type 0} → Option A → Bool
 is_some None = false
 is_some (Some a) = true
 
+-- whether all of these can be compared with each other
+abbrev pub agree : List Bound → Bool
+agree bs = is_some (common_of bs)
+
 abbrev pub are_alike : Bound → Bound → Bool
-are_alike a b = is_some (common_of (a ∷ b ∷ []))
+are_alike a b = agree (a ∷ b ∷ [])
 
 -- the least w for which n is at most 2^(w-1) - 1
 abbrev pub literal_width : ℕ → ℕ

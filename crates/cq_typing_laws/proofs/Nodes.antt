@@ -12,12 +12,12 @@ use Rattle.cq_tree.proofs.Opened.{case_is}
 use Rattle.cq_reading.specs.declared.bound.Bound.{Bound}
 use Rattle.cq_reading.specs.declared.bound.Bound.TheVariants.{Value, Truth}
 use Rattle.cq_reading.specs.declared.bound.Type.TheVariants as type
-use Rattle.cq_reading.specs.Widths.{ValueType, null_expr, expr_of, type_of, cond_of, is_number, common_of, are_alike}
+use Rattle.cq_reading.specs.Widths.{ValueType, null_expr, expr_of, type_of, cond_of, is_number, common_of, agree, are_alike}
 use Rattle.cq_reading.specs.Rules as rule
 use Rattle.cq_meaning_laws.proofs.WithinLaws.{all_drop, all_take}
 use Rattle.cq_reading_laws.proofs.Standing.{no_truth, left_true, right_true}
 use Rattle.cq_typing_laws.specs.Typing.{IsNumber, Fits, either, type_over, type_of_arms, type_of_all, IsTyped, AreTyped, AreTypedArms, IsTypedCondition}
-use Rattle.cq_typing_laws.proofs.Types.{OfType, fits_then, fits_either, number_of, alike_of, alike_both, BoundsFit, whole_of}
+use Rattle.cq_typing_laws.proofs.Types.{OfType, fits_then, fits_either, number_of, alike_of, alike_both, BoundsFit, whole_of, agree_fit}
 
 -- what is bound is of the type that the reading says, and well typed where G holds
 pub record Sound (G : Type 0) (ts : List ValueType) (rs : List (List ValueType)) (b : Bound) : Type 0 where
@@ -93,6 +93,14 @@ module _ (G : Type 0) (ts : List ValueType) (rs : List (List ValueType)) where
   pub typed_compare : (o : Op) (a b : Bound) → S a → S b → are_alike a b ≡ true → G → IsTypedCondition ts rs (Compare o (expr_of a) (expr_of b))
   typed_compare o a b h k t g = (h.expression g, k.expression g, alike_of ts a b h.of k.of t)
 
+  -- of two that stand where one type is said
+  pub typed_common : (o : Op) (a b : Bound) (t : ValueType) → S a → S b → Fits (type_of a) t → Fits (type_of b) t → G → IsTypedCondition ts rs (Compare o (expr_of a) (expr_of b))
+  typed_common o a b t h k fa fb g = (
+    h.expression g,
+    k.expression g,
+    alike_both (type_over ts (expr_of a)) (type_over ts (expr_of b)) t (fits_then (type_over ts (expr_of a)) (type_of a) t h.of fa) (fits_then (type_over ts (expr_of b)) (type_of b) t k.of fb),
+  )
+
   typed_halves : (most : ℕ) (any : Bool) (cs : List Cond) → AllByRecursion (IsTypedCondition ts rs) cs → IsTypedCondition ts rs (rule.halves most any cs)
   typed_halves most any [] h = tt
   typed_halves most any (c ∷ []) h = h.0
@@ -102,15 +110,17 @@ module _ (G : Type 0) (ts : List ValueType) (rs : List (List ValueType)) where
       typed_joined any (rule.halves most any (take m cs)) (rule.halves most any (drop m cs))
       (typed_halves most any (take m cs) (all_take (IsTypedCondition ts rs) m cs h)) (typed_halves most any (drop m cs) (all_drop (IsTypedCondition ts rs) m cs h))
 
-  equals : (o : Op) (x : Bound) (items : List Bound) → S x → AllByRecursion S items → list_all (are_alike x) items ≡ true → G → AllByRecursion (IsTypedCondition ts rs) (map (λ i. Compare o (expr_of x) (expr_of i)) items)
-  equals o x [] h k t g = tt
-  equals o x (i ∷ items) h k t g = (typed_compare o x i h k.0 (left_true _ _ t) g, equals o x items h k.1 (right_true _ _ t) g)
+  equals : (o : Op) (x : Bound) (items : List Bound) (t : ValueType) → S x → AllByRecursion S items → Fits (type_of x) t → BoundsFit t items → G →
+      AllByRecursion (IsTypedCondition ts rs) (map (λ i. Compare o (expr_of x) (expr_of i)) items)
+  equals o x [] t h k fx fs g = tt
+  equals o x (i ∷ items) t h k fx fs g = (typed_common o x i t h k.0 fx fs.0 g, equals o x items t h k.1 fx fs.1 g)
 
-  pub typed_listed : (o : Op) (negate : Bool) (x : Bound) (items : List Bound) → S x → AllByRecursion S items → list_all (are_alike x) items ≡ true → G
+  pub typed_listed : (o : Op) (negate : Bool) (x : Bound) (items : List Bound) → S x → AllByRecursion S items → agree (x ∷ items) ≡ true → G
       → IsTypedCondition ts rs (rule.negated_if negate (rule.halved true (map (λ i. Compare o (expr_of x) (expr_of i)) items)))
   typed_listed o negate x items h k t g =
+      let u = agree_fit (x ∷ items) t in
       let cs = map (λ i. Compare o (expr_of x) (expr_of i)) items in
-      typed_negated negate (rule.halved true cs) (typed_halves (length cs) true cs (equals o x items h k t g))
+      typed_negated negate (rule.halved true cs) (typed_halves (length cs) true cs (equals o x items u.0 h k u.1.0 u.1.1 g))
 
   -- ---- COALESCE
 

@@ -17,14 +17,15 @@ use Rattle.cq_reading.specs.declared.bound.Type.TheVariants as type
 use Rattle.cq_reading.specs.declared.error.BindError.{BindError}
 use Rattle.cq_reading.specs.declared.error.BindError.TheVariants as error
 use Rattle.cq_reading.specs.Steps.{give, provided}
-use Rattle.cq_reading.specs.Widths.{ValueType, expr_of, width_of, cond_of, is_number, is_truth, is_value, are_alike, common_of, fits_width, greatest_width}
+use Rattle.cq_reading.specs.Widths.{ValueType, expr_of, width_of, cond_of, is_number, is_truth, is_value, agree, are_alike, common_of, fits_width, greatest_width}
 use Rattle.cq_reading.specs.Scopes.{Context}
 use Rattle.cq_reading.specs.Rules as rule
 use Rattle.cq_meaning_laws.proofs.WithinLaws.{all_drop, all_take}
 use Rattle.cq_typing_laws.specs.Typing.{IsTypedCondition}
 use Rattle.cq_typing_laws.specs.Reach.{types_in, Onward}
 use Rattle.cq_reading_laws.proofs.Standing.{left_true, right_true}
-use Rattle.cq_typing_laws.proofs.Nodes.{sound_truth, sound_neg, sound_add, sound_sub, sound_mul, sound_div, sound_rem, sound_same, typed_negated, typed_joined, typed_and, typed_compare, typed_listed, sound_coalesce, sound_case}
+use Rattle.cq_typing_laws.proofs.Nodes.{sound_truth, sound_neg, sound_add, sound_sub, sound_mul, sound_div, sound_rem, sound_same, typed_negated, typed_joined, typed_and, typed_compare, typed_common, typed_listed, sound_coalesce, sound_case}
+use Rattle.cq_typing_laws.proofs.Types.{agree_fit}
 use Rattle.cq_typing_laws.proofs.Keeping.{Setting, Given, Later, Run, Fine, on, lasts, gives, where_fit, onwards}
 
 module _ (z : Setting) (cx : Context) (found : Found) where
@@ -83,12 +84,13 @@ module _ (z : Setting) (cx : Context) (found : Found) where
   pub between_fine : (negate : Bool) (x a b : Bound) (at : ℕ) → IsFine x → IsFine a → IsFine b → Gives (rule.between negate x a b at found)
   between_fine negate x a b at i h k =
       let c = Compare op.Ge (expr_of x) (expr_of a) in let d = Compare op.Le (expr_of x) (expr_of b) in
-      condition_fine (rule.negated_if negate (And c d)) (are_alike x a && are_alike x b) at (λ t later l g.
+      condition_fine (rule.negated_if negate (And c d)) (agree (x ∷ a ∷ b ∷ [])) at (λ t later l g.
+      let u = agree_fit (x ∷ a ∷ b ∷ []) t in
       typed_negated (Given z later) _ _ negate (And c d) (typed_and (Given z later) _ _ c d
-      (typed_compare (Given z later) _ _ op.Ge x a (i later l) (h later l) (left_true _ _ t) g) (typed_compare (Given z later) _ _ op.Le x b (i later l) (k later l) (right_true _ _ t) g)))
+      (typed_common (Given z later) _ _ op.Ge x a u.0 (i later l) (h later l) u.1.0 u.1.1.0 g) (typed_common (Given z later) _ _ op.Le x b u.0 (i later l) (k later l) u.1.0 u.1.1.1.0 g)))
 
   pub listed_fine : (negate : Bool) (x : Bound) (items : List Bound) (at : ℕ) → IsFine x → Later (λ later bs. AllByRecursion (Fine z cx later) bs) found items → Gives (rule.listed negate x items at found)
-  listed_fine negate x items at h k = condition_fine (rule.negated_if negate (rule.halved true (map (λ i. Compare op.Eq (expr_of x) (expr_of i)) items))) (list_all (are_alike x) items) at (λ t later l g.
+  listed_fine negate x items at h k = condition_fine (rule.negated_if negate (rule.halved true (map (λ i. Compare op.Eq (expr_of x) (expr_of i)) items))) (agree (x ∷ items)) at (λ t later l g.
       typed_listed (Given z later) _ _ op.Eq negate x items (h later l) (k later l) t g)
 
   pub joined_fine : (any : Bool) (a b : Bound) (at : ℕ) → IsFine a → IsFine b → Gives (rule.joined any a b at found)

@@ -5,7 +5,7 @@ use Rattle.std.specs.List.{AllByRecursion}
 use Rattle.cq_reading.specs.declared.bound.Bound.{Bound}
 use Rattle.cq_reading.specs.declared.bound.Bound.TheVariants.{Value, Truth}
 use Rattle.cq_reading.specs.declared.bound.Type.TheVariants as type
-use Rattle.cq_reading.specs.Widths.{ValueType, expr_of, type_of, is_number, common, common_from, common_of, are_alike}
+use Rattle.cq_reading.specs.Widths.{ValueType, expr_of, type_of, is_number, common, common_from, common_of, agree, is_some, are_alike}
 use Rattle.cq_reading_laws.proofs.Standing.{no_truth}
 use Rattle.cq_typing_laws.specs.Typing.{AreAlike, IsNumber, Fits, either, type_over}
 
@@ -121,3 +121,11 @@ whole_from t (Value e u w ∷ bs) = by_common t (Value e u w) bs (common t u) (c
 -- each stands where their common type is said
 pub whole_of : (bs : List Bound) (u : ValueType) → common_of bs ≡ Some u → BoundsFit u bs
 whole_of bs u is = (subst (λ o. Whole type.Null bs o) is (whole_from type.Null bs)).1
+
+-- those that can all be compared with each other have a common type
+pub agree_fit : (bs : List Bound) → agree bs ≡ true → (t : ValueType) × BoundsFit t bs
+agree_fit bs h = by_type (common_of bs) refl h
+  where
+    by_type : (o : Option ValueType) → common_of bs ≡ o → is_some o ≡ true → (t : ValueType) × BoundsFit t bs
+    by_type None e h = absurd (no_truth h)
+    by_type (Some t) e h = (t, whole_of bs t e)
