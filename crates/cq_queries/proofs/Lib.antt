@@ -1,3 +1,4 @@
+pub mod FirstLaws
 pub mod GroupPush
 pub mod PairLaws
 pub mod PruneLaws

@@ -1,7 +1,10 @@
-ghost use Rattle.std.specs.Prelude.{◌≡◌, IfOk, take as take_first, drop as drop_first};
+ghost use Rattle.std.specs.Prelude.{◌≡◌, ◌≤◌, ℕ, List, length, IfOk, IfSome, OnOk, take as take_first, drop as drop_first};
+ghost use Rattle.std.specs.Ordering.{is_lt};
+ghost use Rattle.std.specs.List.{insert};
+ghost use Rattle.std.specs.List.Sorted.{IsSorted};
 ghost use Rattle.cq_value.specs.Order.{value_cmp};
-ghost use Rattle.cq_meaning.specs.Values.{column};
-ghost use Rattle.cq_meaning.specs.Sorting.{key_cmp, keys_cmp, sorted, cut, limited};
+ghost use Rattle.cq_meaning.specs.Values.{Row as TheRow, column};
+ghost use Rattle.cq_meaning.specs.Sorting.{key_cmp, keys_cmp, placed, sorted, cut, limited};
 
 use crate::expression::cell;
 use crate::operand;
@@ -9,6 +12,9 @@ use cq_tree::Key;
 use cq_value::{Items, NoMemory, Row, Rows};
 use std::alloc::Global;
 use std::cmp::Ordering;
+
+/// Where more first rows than these are looked at, all rows are sorted, since a row that goes before so many others moves them all.
+const MOST_KEPT: u64 = 256;
 
 fn compare_at(a: &Row, b: &Row, item: u32) -> Ordering
     ensures { result ≡ value_cmp (column a.now item) (column b.now item) }
@@ -39,13 +45,91 @@ fn compare_keys(keys: &[Key], a: &Row, b: &Row) -> Ordering
 }
 
 /// The rows in the order of the keys, those that tie in their old order.
-pub fn sort_rows(keys: &[Key], rows: Rows) -> Result<Rows, NoMemory>
+fn sort_rows(keys: &[Key], rows: Rows) -> Result<Rows, NoMemory>
     ensures { IfOk result (λ all. all ≡ sorted (keys_cmp keys.now) rows) }
 {
     let mut all = rows.into_vec();
     match all.sort_by(|a, b| compare_keys(keys, a, b)) {
         Ok(()) => Ok(Items::from_vec(all)),
         Err(_) => Err(NoMemory),
+    }
+}
+
+fn is_below(keys: &[Key], a: &Row, b: &Row) -> bool
+    ensures { result ≡ is_lt (keys_cmp keys.now a.now b.now) }
+{
+    matches!(compare_keys(keys, a, b), Ordering::Less)
+}
+
+/// Where the rows below one end, among rows in the order of the keys.
+fn place_of(keys: &[Key], rows: &[Row], row: &Row) -> usize
+    requires { IsSorted (keys_cmp keys.now) rows.now }
+    ensures within { result ≤ length rows.now }
+    ensures placed { placed (λ x y. is_lt (keys_cmp keys.now x y)) row.now rows.now ≡ insert rows.now result row.now }
+{
+    // Most rows go behind the last, and then one comparison is enough.
+    if let Some(last) = rows.last() {
+        if is_below(keys, last, row) {
+            return rows.len();
+        }
+    }
+    rows.partition_point(|other| is_below(keys, other, row))
+}
+
+/// Puts a row before all that aren't below it, among the first rows in the order of the keys, and lets go of the last where that is one too many.
+fn put_among(keys: &[Key], first: &mut Vec<Row>, most: usize, row: Row) -> Result<(), NoMemory>
+    requires sorted { IsSorted (keys_cmp keys.now) first.old.items }
+    requires few { length first.old.items ≤ most }
+    ensures { OnOk result (first.new.items ≡ take_first most (placed (λ x y. is_lt (keys_cmp keys.now x y)) row first.old.items)) }
+{
+    let place = place_of(keys, first.as_slice(), &row);
+    if place >= most {
+        return Ok(());
+    }
+    match first.insert(place, row) {
+        Ok(()) => {
+            first.truncate(most);
+            Ok(())
+        }
+        Err(_) => Err(NoMemory),
+    }
+}
+
+/// The first so many rows in the order of the keys, those that tie in their old order.
+fn sort_first(alloc: Global, keys: &[Key], rows: Rows, most: u64) -> Result<Rows, NoMemory>
+    ensures { IfOk result (λ first. first ≡ take_first most (sorted (keys_cmp keys.now) rows)) }
+{
+    let mut rest = rows.into_vec();
+    let mut first = Vec::new(alloc);
+    while let Some(row) = rest.pop() {
+        put_among(keys, &mut first, most as usize, row)?;
+    }
+    Ok(Items::from_vec(first))
+}
+
+/// How many of the first rows are enough for OFFSET and LIMIT.
+fn enough_for(limit: Option<u64>, offset: u64) -> Option<u64>
+    ensures { IfSome result (λ most. (rows : List TheRow) → limited limit (drop_first offset (take_first most rows)) ≡ limited limit (drop_first offset rows)) }
+{
+    offset.checked_add(limit?)
+}
+
+/// The rows in the order of the keys, those that tie in their old order, as far as OFFSET and LIMIT look at them.
+pub fn order_rows(
+    alloc: Global,
+    keys: &[Key],
+    rows: Rows,
+    limit: Option<u64>,
+    offset: u64,
+) -> Result<Rows, NoMemory>
+    ensures { IfOk result (λ some. (shown : ℕ) → cut shown limit offset some ≡ cut shown limit offset (sorted (keys_cmp keys.now) rows)) }
+{
+    if keys.is_empty() {
+        return Ok(rows);
+    }
+    match enough_for(limit, offset) {
+        Some(most) if most <= MOST_KEPT && most < rows.len() => sort_first(alloc, keys, rows, most),
+        _ => sort_rows(keys, rows),
     }
 }
 
