@@ -1,0 +1,6 @@
+pub mod Spread
+pub mod Choices
+pub mod Standing
+pub mod Colocated
+pub mod Rights
+pub mod Serving
