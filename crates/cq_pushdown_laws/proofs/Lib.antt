@@ -3,4 +3,5 @@ pub mod Choices
 pub mod Standing
 pub mod Colocated
 pub mod Rights
+pub mod Sharing
 pub mod Serving

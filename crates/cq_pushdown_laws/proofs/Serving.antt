@@ -1,8 +1,10 @@
 -- The tasks of a query that is pushed serve for it.
-use Rattle.std.proofs.Common.{◌≡◌, ◌≤◌, ◌⊎◌, inl, inr, ℕ, Bool, true, false, List, [], ◌∷◌, length, map, refl, sym, ◌∙◌, ap, subst, arith, None}
+use Rattle.std.proofs.Common.{◌≡◌, ◌+◌, ◌≤◌, ◌⊎◌, inl, inr, ℕ, Bool, true, false, List, [], ◌∷◌, length, map, refl, sym, ◌∙◌, ap, subst, arith, None}
 use Rattle.std.specs.Prelude.{nat_eq, not, ◌&&◌, ◌||◌}
 use Rattle.std.specs.List.{AllByRecursion, list_any, list_all}
 use Rattle.cq_tree.specs.declared.expression.Cond.{Cond}
+use Rattle.cq_tree.specs.declared.plan.Combine.{Combine}
+use Rattle.cq_tree.specs.declared.plan.Combine.TheVariants.{RowsOnly}
 use Rattle.cq_tree.specs.declared.query.FromTree.{FromTree}
 use Rattle.cq_tree.specs.declared.query.Query.{Query, Query', out-Query}
 use Rattle.cq_meaning.specs.Expressions.{keeps}
@@ -11,27 +13,32 @@ use Rattle.cq_meaning.specs.Queries.{columns_in, from_rows}
 use Rattle.cq_meaning.specs.Values.{Row, column}
 use Rattle.cq_task_laws.specs.Cutting.{IsChoice, RightsStand, stands}
 use Rattle.cq_task_laws.specs.Gathering.{IsNonEmpty, Serves}
-use Rattle.cq_task_laws.specs.Tasks.{has_cut, IsPlaced}
-use Rattle.cq_task_laws.proofs.Opened.{from_is}
+use Rattle.cq_task_laws.specs.Tasks.{has_cut, IsPlaced, TasksServe}
+use Rattle.cq_task_laws.proofs.CutLaws.{rows_stand}
+use Rattle.cq_task_laws.proofs.Opened.{from_of, from_is}
+use Rattle.cq_task_laws.proofs.TaskLaws.{rows_at_are}
 use Rattle.cq_catalog.specs.Contents.{Contents}
 use Rattle.cq_planning.specs.Classes.{first_of_class}
 use Rattle.cq_planning.specs.Components.{is_one_class, is_one_component}
 use Rattle.cq_planning.specs.Conjuncts.{conjuncts, inner_conjuncts, conjuncts_of, equalities}
-use Rattle.cq_planning.specs.Database.{Held, CanHold}
+use Rattle.cq_planning.specs.Database.{Held, CanHold, whole}
+use Rattle.cq_planning.specs.Joins.{plain_in}
+use Rattle.cq_planning.specs.Reaching.{IsAscendingFrom}
 use Rattle.cq_planning.specs.Pushable.{relations}
 use Rattle.cq_planning.specs.Relations.{Distribution, Relation, distributions, is_plain}
 use Rattle.cq_planning.specs.Touched.{among}
-use Rattle.cq_planning_laws.specs.Laid.{IsLaidFrom}
+use Rattle.cq_planning_laws.specs.Laid.{IsLaidFrom, IsLaid}
 use Rattle.cq_planning_laws.proofs.Lists.{two_ways, all_append}
 use Rattle.cq_planning_laws.proofs.Rows.{Says, kept_says, pairs_agree, class_agrees, and_true, same_number}
-use Rattle.cq_outline.specs.Tasking.{combine_by}
-use Rattle.cq_pushdown_laws.specs.Laws.{PushdownServes}
-use Rattle.cq_pushdown_laws.specs.Pushed.{joins_tables, strays, are_pushed}
-use Rattle.cq_pushdown_laws.specs.Tables.{HoldsOnly, task_tables}
+use Rattle.cq_outline.specs.Tasking.{first_column, shares_rows, combine_by}
+use Rattle.cq_pushdown_laws.specs.Laws.{PushdownServes, PartsServe}
+use Rattle.cq_pushdown_laws.specs.Pushed.{joins_tables, strays, are_pushed, is_pushed}
+use Rattle.cq_pushdown_laws.specs.Tables.{HoldsOnly, task_tables, side_of}
 use Rattle.cq_pushdown_laws.proofs.Spread.{among_has, ascending_distinct}
 use Rattle.cq_pushdown_laws.proofs.Choices.{IsPart, own, own_says, all_fit}
-use Rattle.cq_pushdown_laws.proofs.Standing.{home_in, home_by, of_list, to_list, row_stands, plain_here}
+use Rattle.cq_pushdown_laws.proofs.Standing.{home_in, home_by, of_list, to_list, row_stands, plain_stand, plain_here}
 use Rattle.cq_pushdown_laws.proofs.Rights.{rights_stand}
+use Rattle.cq_pushdown_laws.proofs.Sharing.{AreHomed, home, IsSure, homed_serve, shares_serve}
 
 -- ---- the way of combining
 
@@ -95,14 +102,90 @@ module _ (c : Contents) (held : Held) (groups : List ℕ) (can : (g : ℕ) → C
           let rights = rights_stand c held groups can only_here row i first rels (one_value row h k) plain from 0 row [] is laid h part (none_strays (strays first rels) rels both.1) (λ x lo hi. refl) (λ x lo. refl) tt in
           (i, among_has i groups here.0.0, row_stands c held groups can only_here row i from 0 row is laid h part (of_list At is_plain rels plain), rights.0, inl here.0.1)
 
-pub pushdown_serves : PushdownServes
-pushdown_serves c (Query' cs ctes ss subs from filter_ grouped keys aggs having items shown distinct order limit offset names) held groups whole laid pushed can ascending some only_here =
-    let q : Query = Query' cs ctes ss subs from filter_ grouped keys aggs having items shown distinct order limit offset names in
+  -- ---- the rows of a task
+
+  abbrev task_rows : ℕ → List Row
+  task_rows i = from_rows from 0 (task_tables c held i) []
+
+  -- a row of a task is a candidate that stands in its group
+  task_row : (i : ℕ) → Has groups i → (row : Row) → Has (task_rows i) row → IsChoice (own c held 0 from) row × (stands (own c held 0 from) i row ≡ true)
+  task_row i m row h = rows_stand groups (own c held 0 from) (all_fit c held groups can only_here from 0 is laid) i m row (subst (λ rows. Has rows row) (sym (rows_at_are (side_of c) (whole c held) (task_tables c held) [] from 0 i)) h)
+
+  module _ (d : Distribution) (ds : List Distribution) (plain : distributions is_plain rels ≡ d ∷ ds) where
+    task_home : (i : ℕ) → Has groups i → (row : Row) → Has (task_rows i) row → home d.column (home_in c d.colocation) row ≡ i
+    task_home i m row h =
+        let t : IsChoice (own c held 0 from) row × (stands (own c held 0 from) i row ≡ true) = task_row i m row h in
+        let At : Distribution → Type 0 = λ x. home_by c row x ≡ i in
+        let all : AllByRecursion At (d ∷ ds) = subst (AllByRecursion At) plain (to_list At is_plain rels (plain_stand c held groups can only_here row i from 0 row is laid t.0 (λ x lo hi. refl) t.1)) in
+        all.0
+
+    each_row : (P : Row → Type 0) (rows : List Row) → ((row : Row) → Has rows row → P row) → AllByRecursion P rows
+    each_row P [] f = tt
+    each_row P (r ∷ rows) f = (f r (inl refl), each_row P rows (λ row h. f row (inr h)))
+
+    tasks_homed : (low : ℕ) (gs : List ℕ) → IsAscendingFrom low gs → ((i : ℕ) → Has gs i → Has groups i) → AreHomed (home d.column (home_in c d.colocation)) low (map task_rows gs)
+    tasks_homed low [] ascending within = tt
+    tasks_homed low (g ∷ gs) ascending within = (
+      g,
+      ascending.0,
+      each_row (λ row. home d.column (home_in c d.colocation) row ≡ g) (task_rows g) (task_home g (within g (inl refl))),
+      tasks_homed (g + 1) gs ascending.1 (λ i m. within i (inr m)),
+    )
+
+    tasks_sure : (gs : List ℕ) → ((i : ℕ) → Has gs i → Has groups i) → AllByRecursion (AllByRecursion (IsSure d.column (home_in c d.colocation) filter_ from)) (map task_rows gs)
+    tasks_sure [] within = tt
+    tasks_sure (g ∷ gs) within = (
+      each_row (IsSure d.column (home_in c d.colocation) filter_ from) (task_rows g) (λ row h kept x e. one_value row (task_row g (within g (inl refl)) row h).0 kept x d.column e),
+      tasks_sure gs (λ i m. within i (inr m)),
+    )
+
+-- ---- the laws
+
+serving : (kind : Combine) (c : Contents) (q : Query) (held : Held) (groups : List ℕ) → IsLaid c (λ i. 0) q → is_pushed c q ≡ true → ((g : ℕ) → CanHold c g (held g)) → IsAscendingFrom 0 groups → HoldsOnly c held groups →
+    Serves kind q [] (map (λ i. from_rows (from_of q) 0 (task_tables c held i) []) groups) → TasksServe (side_of c) kind q (whole c held) (task_tables c held) [] groups
+serving kind c (Query' cs ctes ss subs from filter_ grouped keys aggs having items shown distinct order limit offset names) held groups laid pushed can ascending only_here serves =
     let first : ℕ → ℕ = first_of_class (equalities (conjuncts_of filter_ from)) in
     let rels : List Relation = relations c from 0 None in
-    let both = and_true (joins_tables from) (are_pushed first rels (distributions is_plain rels)) (ap (λ f. joins_tables f && are_pushed first rels (distributions is_plain rels)) (sym (from_is q)) ∙ pushed) in (
-      ascending_distinct 0 groups ascending,
-      all_fit c held groups can only_here from 0 both.0 laid.0,
-      placed c held groups can only_here filter_ from both.0 laid.0 both.1,
-      grouped_serves q (map (λ i. from_rows from 0 (task_tables c held i) []) groups) (some_parts (λ i. from_rows from 0 (task_tables c held i) []) groups some),
-    )
+    let q : Query = Query' cs ctes ss subs from filter_ grouped keys aggs having items shown distinct order limit offset names in
+    let both = and_true (joins_tables from) (are_pushed first rels (distributions is_plain rels)) (ap (λ f. joins_tables f && are_pushed first rels (distributions is_plain rels)) (sym (from_is q)) ∙ pushed) in
+    (ascending_distinct 0 groups ascending, all_fit c held groups can only_here from 0 both.0 laid.0, placed c held groups can only_here filter_ from both.0 laid.0 both.1, serves)
+
+pub pushdown_serves : PushdownServes
+pushdown_serves c q held groups w laid pushed can ascending some only_here =
+    let parts : List (List Row) = map (λ i. from_rows (from_of q) 0 (task_tables c held i) []) groups in
+    serving (combine_by 2 ((out-Query q).grouped || (out-Query q).distinct)) c q held groups laid pushed can ascending only_here
+    (grouped_serves q parts (some_parts (λ i. from_rows (from_of q) 0 (task_tables c held i) []) groups some))
+
+parts_apart : (c : Contents) (q : Query) (held : Held) (groups : List ℕ) → IsLaid c (λ i. 0) q → is_pushed c q ≡ true → ((g : ℕ) → CanHold c g (held g)) → IsAscendingFrom 0 groups → HoldsOnly c held groups →
+    shares_rows (first_column (plain_in c q)) q ≡ false → Serves RowsOnly q [] (map (λ i. from_rows (from_of q) 0 (task_tables c held i) []) groups)
+parts_apart c (Query' cs ctes ss subs from filter_ grouped keys aggs having items shown distinct order limit offset names) held groups laid pushed can ascending only_here apart = by_list (distributions is_plain rels) refl both.1
+  where
+    q : Query
+    q = Query' cs ctes ss subs from filter_ grouped keys aggs having items shown distinct order limit offset names
+
+    first : ℕ → ℕ
+    first = first_of_class (equalities (conjuncts_of filter_ from))
+
+    rels : List Relation
+    rels = relations c from 0 None
+
+    both : (joins_tables from ≡ true) × (are_pushed first rels (distributions is_plain rels) ≡ true)
+    both = and_true (joins_tables from) (are_pushed first rels (distributions is_plain rels)) (ap (λ f. joins_tables f && are_pushed first rels (distributions is_plain rels)) (sym (from_is q)) ∙ pushed)
+
+    by_list : (ds : List Distribution) → distributions is_plain rels ≡ ds → are_pushed first rels ds ≡ true → Serves RowsOnly q [] (map (λ i. from_rows from 0 (task_tables c held i) []) groups)
+    by_list [] e p = cc
+    by_list (d ∷ ds) e p =
+        homed_serve d.column (home_in c d.colocation) q (ap (λ xs. shares_rows (first_column xs) q) (sym e) ∙ apart) 0 (map (λ i. from_rows from 0 (task_tables c held i) []) groups)
+        (tasks_homed c held groups can only_here filter_ from both.0 laid.0 d ds e 0 groups ascending (λ i m. m)) (tasks_sure c held groups can only_here filter_ from both.0 laid.0 d ds e groups (λ i m. m))
+
+pub parts_serve : PartsServe
+parts_serve c q held groups w laid pushed can ascending some only_here = serving (combine_by 2 (shares_rows at q)) c q held groups laid pushed can ascending only_here (elim (two_ways (shares_rows at q)) [
+  | inl y ↦ rw y (shares_serve at q y parts (some_parts (λ i. from_rows (from_of q) 0 (task_tables c held i) []) groups some))
+  | inr f ↦ rw f (parts_apart c q held groups laid pushed can ascending only_here f)
+])
+  where
+    at : ℕ
+    at = first_column (plain_in c q)
+
+    parts : List (List Row)
+    parts = map (λ i. from_rows (from_of q) 0 (task_tables c held i) []) groups

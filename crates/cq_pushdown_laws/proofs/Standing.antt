@@ -23,7 +23,7 @@ use Rattle.cq_planning.specs.Relations.{Distribution, OuterJoin, Relation, distr
 use Rattle.cq_planning.specs.Touched.{among}
 use Rattle.cq_planning_laws.specs.Laid.{IsColumnOf, IsLaidFrom}
 use Rattle.cq_planning_laws.proofs.Lists.{two_ways, all_append, all_left, all_right, all_weaker}
-use Rattle.cq_planning_laws.proofs.Rows.{and_true}
+use Rattle.cq_planning_laws.proofs.Rows.{and_true, same_number}
 use Rattle.cq_planning_laws.proofs.Columns.{column_pad}
 use Rattle.cq_pushdown_laws.specs.Pushed.{is_table, joins_tables}
 use Rattle.cq_pushdown_laws.specs.Tables.{HoldsOnly, side_at}
@@ -59,9 +59,13 @@ to_list P test (r ∷ rels) all = elim (two_ways (test r)) [
 ]
 
 -- a right side isn't plain
-pub never_plain : (b : Bool) → (b && false) ≡ true → ⊥
+never_plain : (b : Bool) → (b && false) ≡ true → ⊥
 never_plain true e = cc
 never_plain false e = cc
+
+right_never : (c : Contents) (P : Relation → Type 0) (f : FromTree) (start : ℕ) (o : OuterJoin) → is_table f ≡ true → AllByRecursion (λ r. is_plain r ≡ true → P r) (relations c f start (Some o))
+right_never c P (Table t n) start o is = (λ plain. absurd (never_plain (is_some (distribution_at start (place_at c t))) plain), tt)
+right_never c P _ start o is = cc
 
 module _ (c : Contents) (held : Held) (groups : List ℕ) (can : (g : ℕ) → CanHold c g (held g)) (only_here : HoldsOnly c held groups) (whole_row : Row) where
   -- ---- one group
@@ -118,6 +122,59 @@ module _ (c : Contents) (held : Held) (groups : List ℕ) (can : (g : ℕ) → C
         ∙ row_stands a start l both.0 laid.0 ca (part_left whole_row start l y wa (columns_in b) long here)
         (all_left IsPlainAt (relations c a start None) (relations c b (start + wa) (Some (record { left = start; equalities = equalities (conjuncts on) }))) plain)
 
+    -- and where the row stands there, that is the group of each plain relation
+    table_plain : (t n start : ℕ) (row : Row) (p : Place) → place_at c t ≡ p → IsColumnOf n p → IsPart whole_row start n row →
+        (not (side_at c t p).cut || nat_eq ((side_at c t p).home row) i) ≡ true → IsPlainAt (record { start = start; distribution = distribution_at start p; outer = None })
+    table_plain t n start row Local e there part here = λ plain. cc
+    table_plain t n start row (Reference group shard) e there part here = λ plain. cc
+    table_plain t n start row (Distributed at colocation first_shard) e there part here = λ plain.
+        let value : column whole_row (start + at) ≡ column row at = part (start + at) (omega arith) (omega (arith, there)) ∙ column_pad start row at in
+        ap (home_in c colocation) value ∙ sym (group_is c t at colocation first_shard e (column row at)) ∙ same_number (group_of c t (column row at)) i here
+
+    both_halves : (a b : FromTree) (start : ℕ) (l y row : Row) → length l ≡ columns_in a → row ≡ l ++ y →
+        (stands (own c held start a) i (take (width_of (own c held start a)) row) && stands (own c held (start + columns_in a) b) i (drop (width_of (own c held start a)) row)) ≡ true →
+        (stands (own c held start a) i l ≡ true) × (stands (own c held (start + columns_in a) b) i y ≡ true)
+    both_halves a b start l y row long e here =
+        let w : ℕ = width_of (own c held start a) in
+        let wide : length l ≡ w = long ∙ sym (own_width c held a start) in
+        let both = and_true (stands (own c held start a) i (take w row)) (stands (own c held (start + columns_in a) b) i (drop w row)) here in
+        (ap (stands (own c held start a) i) (sym (ap (take w) e ∙ take_left l y w wide)) ∙ both.0, ap (stands (own c held (start + columns_in a) b) i) (sym (ap (drop w) e ∙ drop_left l y w wide)) ∙ both.1)
+
+    pub plain_stand : (f : FromTree) (start : ℕ) (row : Row) → joins_tables f ≡ true → IsLaidFrom c (λ i. 0) f → IsChoice (own c held start f) row → IsPart whole_row start (columns_in f) row →
+        stands (own c held start f) i row ≡ true → AllByRecursion IsPlainAt (relations c f start None)
+    plain_stand (Table t n) start row is laid h part here = (table_plain t n start row (place_at c t) refl laid.1 part here, tt)
+    plain_stand (Sub' p q) start row is laid h part here = cc
+    plain_stand (Result k n) start row is laid h part here = cc
+    plain_stand (Cross' p (more_of-FromTree a end_of-FromTree) q (more_of-FromTree b end_of-FromTree)) start row is laid (l, y, ca, cb, m, e) part here =
+        let both = and_true (joins_tables a) (joins_tables b) is in
+        let wa : ℕ = columns_in a in
+        let long : length l ≡ wa = own_long c held groups can only_here a start both.0 laid.0 l ca in
+        let whole_part : IsPart whole_row start (wa + columns_in b) (l ++ y) = subst (IsPart whole_row start (wa + columns_in b)) e part in
+        let halves = both_halves a b start l y row long e here in
+        all_append IsPlainAt (relations c a start None) (relations c b (start + wa) None)
+        (plain_stand a start l both.0 laid.0 ca (part_left whole_row start l y wa (columns_in b) long whole_part) halves.0)
+        (plain_stand b (start + wa) y both.1 laid.1 cb (part_right whole_row start l y wa (columns_in b) long whole_part) halves.1)
+    plain_stand (Inner' p (more_of-FromTree a end_of-FromTree) q (more_of-FromTree b end_of-FromTree) on) start row is laid (l, y, ca, cb, m, e) part here =
+        let both = and_true (joins_tables a) (joins_tables b) is in
+        let wa : ℕ = columns_in a in
+        let long : length l ≡ wa = own_long c held groups can only_here a start both.0 laid.0 l ca in
+        let whole_part : IsPart whole_row start (wa + columns_in b) (l ++ y) = subst (IsPart whole_row start (wa + columns_in b)) e part in
+        let halves = both_halves a b start l y row long e here in
+        all_append IsPlainAt (relations c a start None) (relations c b (start + wa) None)
+        (plain_stand a start l both.0 laid.0 ca (part_left whole_row start l y wa (columns_in b) long whole_part) halves.0)
+        (plain_stand b (start + wa) y both.1 laid.1 cb (part_right whole_row start l y wa (columns_in b) long whole_part) halves.1)
+    plain_stand (Left' p (more_of-FromTree a end_of-FromTree) q (more_of-FromTree b end_of-FromTree) on) start row is laid (l, y, ca, cb, e) part here =
+        let both = and_true (joins_tables a) (is_table b) is in
+        let wa : ℕ = columns_in a in
+        let w : ℕ = width_of (own c held start a) in
+        let o : OuterJoin = record { left = start; equalities = equalities (conjuncts on) } in
+        let long : length l ≡ wa = own_long c held groups can only_here a start both.0 laid.0 l ca in
+        let whole_part : IsPart whole_row start (wa + columns_in b) (l ++ y) = subst (IsPart whole_row start (wa + columns_in b)) e part in
+        let taken : take w row ≡ l = ap (take w) e ∙ take_left l y w (long ∙ sym (own_width c held a start)) in
+        all_append IsPlainAt (relations c a start None) (relations c b (start + wa) (Some o))
+        (plain_stand a start l both.0 laid.0 ca (part_left whole_row start l y wa (columns_in b) long whole_part) (ap (stands (own c held start a) i) (sym taken) ∙ here))
+        (right_never c (λ r. home_by c whole_row (distribution_of r) ≡ i) b (start + wa) o both.1)
+
   -- ---- the group is one of these
 
   -- the group of a plain relation is one of those that there are, and the relation is cut
@@ -143,10 +200,6 @@ module _ (c : Contents) (held : Held) (groups : List ℕ) (can : (g : ℕ) → C
       either true y e = refl
       either false y e = e
 
-  -- a right side isn't plain
-  right_here : (cut : Bool) (f : FromTree) (start : ℕ) (o : OuterJoin) → is_table f ≡ true → AllByRecursion (IsPlainHere cut) (relations c f start (Some o))
-  right_here cut (Table t n) start o is = (λ plain. absurd (never_plain (is_some (distribution_at start (place_at c t))) plain), tt)
-  right_here cut _ start o is = cc
 
   pub plain_here : (f : FromTree) (start : ℕ) (row : Row) → joins_tables f ≡ true → IsLaidFrom c (λ i. 0) f → IsChoice (own c held start f) row → IsPart whole_row start (columns_in f) row →
       AllByRecursion (IsPlainHere (has_cut (own c held start f))) (relations c f start None)
@@ -181,4 +234,4 @@ module _ (c : Contents) (held : Held) (groups : List ℕ) (can : (g : ℕ) → C
       let long : length l ≡ wa = own_long c held groups can only_here a start both.0 laid.0 l ca in
       let here : IsPart whole_row start (wa + columns_in b) (l ++ y) = subst (IsPart whole_row start (wa + columns_in b)) e part in
       all_append (IsPlainHere ka) (relations c a start None) (relations c b (start + wa) (Some o))
-      (plain_here a start l both.0 laid.0 ca (part_left whole_row start l y wa (columns_in b) long here)) (right_here ka b (start + wa) o both.1)
+      (plain_here a start l both.0 laid.0 ca (part_left whole_row start l y wa (columns_in b) long here)) (right_never c (λ r. (among (home_by c whole_row (distribution_of r)) groups ≡ true) × (ka ≡ true)) b (start + wa) o both.1)
