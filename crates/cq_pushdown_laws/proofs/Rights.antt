@@ -27,7 +27,7 @@ use Rattle.cq_planning_laws.proofs.Rows.{Agrees, kept_says, pairs_agree, and_tru
 use Rattle.cq_planning_laws.proofs.Columns.{pad, column_pad, column_nulls, in_left, in_right}
 use Rattle.cq_pushdown_laws.specs.Pushed.{is_table, joins_tables, strays}
 use Rattle.cq_pushdown_laws.specs.Tables.{HoldsOnly, side_at, side_of}
-use Rattle.cq_pushdown_laws.proofs.Choices.{IsPart, part_left, part_right, own, own_long, own_width}
+use Rattle.cq_pushdown_laws.proofs.Choices.{IsPart, part_left, own, own_width, split}
 use Rattle.cq_pushdown_laws.proofs.Standing.{home_in, home_by, group_is}
 use Rattle.cq_pushdown_laws.proofs.Colocated.{IsWithin, right_within, all_within, has_column, AreBelow, others_behind, below_more, is_partnered, Partner, partner_there}
 
@@ -190,28 +190,26 @@ module _ (c : Contents) (held : Held) (groups : List ℕ) (can : (g : ℕ) → C
       let wb : ℕ = columns_in b in
       let ra : List Relation = relations c a start None in
       let rb : List Relation = relations c b (start + wa) None in
-      let long : length l ≡ wa = own_long c held groups can only_here a start both.0 laid.0 l ca in
-      let here : IsPart whole_row start (wa + wb) (l ++ y) = subst (IsPart whole_row start (wa + wb)) e part in
+      let s = split c held groups can only_here whole_row a start wb l y row both.0 laid.0 ca e part in
       let within_a = all_within c a start both.0 laid.0 in
       let within_b = all_within c b (start + wa) both.1 laid.1 in
-      let left_part = rights_stand a start l earlier both.0 laid.0 ca (part_left whole_row start l y wa wb long here) (all_left Stays ra rb stay) (follows_left first rels start wa wb ra rb within_a within_b earlier follows below) below stand in
-      let right_part = rights_stand b (start + wa) y (fold (with_colocated first rels) earlier ra) both.1 laid.1 cb (part_right whole_row start l y wa wb long here) (all_right Stays ra rb stay)
+      let left_part = rights_stand a start l earlier both.0 laid.0 ca s.left_part (all_left Stays ra rb stay) (follows_left first rels start wa wb ra rb within_a within_b earlier follows below) below stand in
+      let right_part = rights_stand b (start + wa) y (fold (with_colocated first rels) earlier ra) both.1 laid.1 cb s.right_part (all_right Stays ra rb stay)
       (follows_right first rels start wa wb ra rb within_a within_b earlier follows below) (below_right first rels start wa wb ra rb within_a within_b earlier follows below) left_part.1 in
-      (both_rights a b start l y row long e left_part.0 right_part.0, subst (AllByRecursion StandsBy) (sym (fold-append (with_colocated first rels) earlier ra rb)) right_part.1)
+      (both_rights a b start l y row s.long e left_part.0 right_part.0, subst (AllByRecursion StandsBy) (sym (fold-append (with_colocated first rels) earlier ra rb)) right_part.1)
   rights_stand (Inner' p (more_of-FromTree a end_of-FromTree) q (more_of-FromTree b end_of-FromTree) on) start row earlier is laid (l, y, ca, cb, m, e) part stay follows below stand =
       let both = and_true (joins_tables a) (joins_tables b) is in
       let wa : ℕ = columns_in a in
       let wb : ℕ = columns_in b in
       let ra : List Relation = relations c a start None in
       let rb : List Relation = relations c b (start + wa) None in
-      let long : length l ≡ wa = own_long c held groups can only_here a start both.0 laid.0 l ca in
-      let here : IsPart whole_row start (wa + wb) (l ++ y) = subst (IsPart whole_row start (wa + wb)) e part in
+      let s = split c held groups can only_here whole_row a start wb l y row both.0 laid.0 ca e part in
       let within_a = all_within c a start both.0 laid.0 in
       let within_b = all_within c b (start + wa) both.1 laid.1 in
-      let left_part = rights_stand a start l earlier both.0 laid.0 ca (part_left whole_row start l y wa wb long here) (all_left Stays ra rb stay) (follows_left first rels start wa wb ra rb within_a within_b earlier follows below) below stand in
-      let right_part = rights_stand b (start + wa) y (fold (with_colocated first rels) earlier ra) both.1 laid.1 cb (part_right whole_row start l y wa wb long here) (all_right Stays ra rb stay)
+      let left_part = rights_stand a start l earlier both.0 laid.0 ca s.left_part (all_left Stays ra rb stay) (follows_left first rels start wa wb ra rb within_a within_b earlier follows below) below stand in
+      let right_part = rights_stand b (start + wa) y (fold (with_colocated first rels) earlier ra) both.1 laid.1 cb s.right_part (all_right Stays ra rb stay)
       (follows_right first rels start wa wb ra rb within_a within_b earlier follows below) (below_right first rels start wa wb ra rb within_a within_b earlier follows below) left_part.1 in
-      (both_rights a b start l y row long e left_part.0 right_part.0, subst (AllByRecursion StandsBy) (sym (fold-append (with_colocated first rels) earlier ra rb)) right_part.1)
+      (both_rights a b start l y row s.long e left_part.0 right_part.0, subst (AllByRecursion StandsBy) (sym (fold-append (with_colocated first rels) earlier ra rb)) right_part.1)
   rights_stand (Left' p (more_of-FromTree a end_of-FromTree) q (more_of-FromTree b end_of-FromTree) on) start row earlier is laid (l, y, ca, given, e) part stay follows below stand =
       let both = and_true (joins_tables a) (is_table b) is in
       let wa : ℕ = columns_in a in
@@ -220,14 +218,13 @@ module _ (c : Contents) (held : Held) (groups : List ℕ) (can : (g : ℕ) → C
       let o : Option OuterJoin = Some (record { left = start; equalities = equalities (conjuncts on) }) in
       let rb : List Relation = relations c b (start + wa) o in
       let w : ℕ = width_of (own c held start a) in
-      let long : length l ≡ wa = own_long c held groups can only_here a start both.0 laid.0 l ca in
-      let here : IsPart whole_row start (wa + wb) (l ++ y) = subst (IsPart whole_row start (wa + wb)) e part in
+      let s = split c held groups can only_here whole_row a start wb l y row both.0 laid.0 ca e part in
       let within_a = all_within c a start both.0 laid.0 in
       let within_b = right_within c b (start + wa) o both.1 laid.1 in
-      let left_part = rights_stand a start l earlier both.0 laid.0 ca (part_left whole_row start l y wa wb long here) (all_left Stays ra rb stay) (follows_left first rels start wa wb ra rb within_a within_b earlier follows below) below stand in
-      let right_part = right_side b both.1 laid.1 on start wa l y long here given (fold (with_colocated first rels) earlier ra) (all_right Stays ra rb stay)
+      let left_part = rights_stand a start l earlier both.0 laid.0 ca s.left_part (all_left Stays ra rb stay) (follows_left first rels start wa wb ra rb within_a within_b earlier follows below) below stand in
+      let right_part = right_side b both.1 laid.1 on start wa l y s.long s.both given (fold (with_colocated first rels) earlier ra) (all_right Stays ra rb stay)
       (follows_right first rels start wa wb ra rb within_a within_b earlier follows below) (below_right first rels start wa wb ra rb within_a within_b earlier follows below) left_part.1 in
-      let taken : take w row ≡ l = ap (take w) e ∙ take_left l y w (long ∙ sym (own_width c held a start)) in (
+      let taken : take w row ≡ l = ap (take w) e ∙ take_left l y w (s.long ∙ sym (own_width c held a start)) in (
         (
           subst (RightsStand (own c held start a) i) (sym taken) left_part.0,
           λ cut z h k. right_part.0 cut z h (subst (λ u. joins on [] start (u ++ z) ≡ true) taken k),

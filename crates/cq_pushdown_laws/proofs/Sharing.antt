@@ -1,13 +1,13 @@
 -- Parts of the rows of a FROM, each of a group of its own by a distribution column: where a key, or an output, is a bare column of the class of
 -- this column, no two parts share a group, or an output row.
-use Rattle.std.proofs.Common.{◌≡◌, ◌+◌, ◌≤◌, ◌<◌, suc, zero, inl, inr, ℕ, Bool, true, false, List, [], ◌∷◌, ◌++◌, map, filter, take, length, refl, sym, ◌∙◌, ap, subst, arith, append-nil}
+use Rattle.std.proofs.Common.{◌≡◌, ◌+◌, ◌≤◌, ◌<◌, suc, zero, inl, inr, ℕ, Bool, true, false, List, [], ◌∷◌, ◌++◌, map, filter, take, length, refl, sym, ◌∙◌, ap, subst, arith}
 use Rattle.std.specs.Prelude.{⊤, ◌⊎◌, ◌&&◌, ◌||◌, not, nat_lt, slice_index_or}
 use Rattle.std.specs.List.{AllByRecursion, list_any}
 use Rattle.cq_tree.specs.declared.expression.Cond.{Cond}
 use Rattle.cq_tree.specs.declared.expression.Expr.{Expr, Column}
 use Rattle.cq_tree.specs.declared.plan.Combine.TheVariants.{RowsOnly, Groups}
 use Rattle.cq_tree.specs.declared.query.Agg.{Agg}
-use Rattle.cq_tree.specs.declared.query.FromTree.{FromTree, Table}
+use Rattle.cq_tree.specs.declared.query.FromTree.{FromTree}
 use Rattle.cq_tree.specs.declared.query.Query.{Query, Query'}
 use Rattle.cq_value.specs.declared.value.Value.{Value}
 use Rattle.cq_meaning.specs.declared.Group.{Group}
@@ -19,14 +19,13 @@ use Rattle.cq_meaning.specs.Queries.{item_rows}
 use Rattle.cq_meaning.proofs.RowLaws.{distinct_has, has_either, has_filtered}
 use Rattle.cq_task_laws.specs.Merging.{joined}
 use Rattle.cq_task_laws.specs.Gathering.{IsNonEmpty, ShareNo, Serves}
-use Rattle.cq_task_laws.proofs.Opened.{from_of}
 use Rattle.cq_task_laws.proofs.PartLaws.{mapped_has}
 use Rattle.cq_task_laws.proofs.SafeMerge.{at_has}
 use Rattle.cq_planning.specs.Classes.{first_of_class}
 use Rattle.cq_planning.specs.Components.{is_of_class}
-use Rattle.cq_planning.specs.Conjuncts.{conjuncts, conjuncts_of, equalities, column_of}
+use Rattle.cq_planning.specs.Conjuncts.{conjuncts_of, equalities, column_of}
 use Rattle.cq_planning.specs.Pushable.{column_behind}
-use Rattle.cq_planning_laws.proofs.Rows.{Says, kept_says, pairs_agree, class_agrees, same_number}
+use Rattle.cq_planning_laws.proofs.Rows.{same_number}
 use Rattle.cq_outline.specs.Tasking.{shares_rows}
 use Rattle.cq_planning_laws.proofs.Lists.{two_ways}
 

@@ -1,5 +1,5 @@
 -- Where a kept row of a FROM of tables stands, by the relations that aren't right sides.
-use Rattle.std.proofs.Common.{◌≡◌, ◌+◌, inl, inr, ℕ, Bool, true, false, List, [], ◌∷◌, ◌++◌, length, take, drop, slice_get, refl, sym, ◌∙◌, ap, subst, arith, eq-eqb, Some, None, is_some}
+use Rattle.std.proofs.Common.{◌≡◌, ◌+◌, inl, inr, ℕ, Bool, true, false, List, [], ◌∷◌, ◌++◌, length, take, drop, slice_get, refl, sym, ◌∙◌, ap, arith, eq-eqb, Some, None, is_some}
 use Rattle.std.specs.Prelude.{nat_eq, not, ◌&&◌, ◌||◌}
 use Rattle.std.specs.List.{AllByRecursion}
 use Rattle.cq_value.specs.declared.value.Value.{Value}
@@ -28,7 +28,7 @@ use Rattle.cq_planning_laws.proofs.Columns.{column_pad}
 use Rattle.cq_pushdown_laws.specs.Pushed.{is_table, joins_tables}
 use Rattle.cq_pushdown_laws.specs.Tables.{HoldsOnly, side_at}
 use Rattle.cq_pushdown_laws.proofs.Spread.{row_among}
-use Rattle.cq_pushdown_laws.proofs.Choices.{IsPart, part_left, part_right, own, own_long, own_width}
+use Rattle.cq_pushdown_laws.proofs.Choices.{IsPart, own, own_width, split}
 
 -- ---- distribution columns
 
@@ -99,27 +99,24 @@ module _ (c : Contents) (held : Held) (groups : List ℕ) (can : (g : ℕ) → C
     row_stands (Cross' p (more_of-FromTree a end_of-FromTree) q (more_of-FromTree b end_of-FromTree)) start row is laid (l, y, ca, cb, m, e) part plain =
         let both = and_true (joins_tables a) (joins_tables b) is in
         let wa : ℕ = columns_in a in
-        let long : length l ≡ wa = own_long c held groups can only_here a start both.0 laid.0 l ca in
-        let here : IsPart whole_row start (wa + columns_in b) (l ++ y) = subst (IsPart whole_row start (wa + columns_in b)) e part in
-        both_stand a b start l y row long e
-        (row_stands a start l both.0 laid.0 ca (part_left whole_row start l y wa (columns_in b) long here) (all_left IsPlainAt (relations c a start None) (relations c b (start + wa) None) plain))
-        (row_stands b (start + wa) y both.1 laid.1 cb (part_right whole_row start l y wa (columns_in b) long here) (all_right IsPlainAt (relations c a start None) (relations c b (start + wa) None) plain))
+        let s = split c held groups can only_here whole_row a start (columns_in b) l y row both.0 laid.0 ca e part in
+        both_stand a b start l y row s.long e
+        (row_stands a start l both.0 laid.0 ca s.left_part (all_left IsPlainAt (relations c a start None) (relations c b (start + wa) None) plain))
+        (row_stands b (start + wa) y both.1 laid.1 cb s.right_part (all_right IsPlainAt (relations c a start None) (relations c b (start + wa) None) plain))
     row_stands (Inner' p (more_of-FromTree a end_of-FromTree) q (more_of-FromTree b end_of-FromTree) on) start row is laid (l, y, ca, cb, m, e) part plain =
         let both = and_true (joins_tables a) (joins_tables b) is in
         let wa : ℕ = columns_in a in
-        let long : length l ≡ wa = own_long c held groups can only_here a start both.0 laid.0 l ca in
-        let here : IsPart whole_row start (wa + columns_in b) (l ++ y) = subst (IsPart whole_row start (wa + columns_in b)) e part in
-        both_stand a b start l y row long e
-        (row_stands a start l both.0 laid.0 ca (part_left whole_row start l y wa (columns_in b) long here) (all_left IsPlainAt (relations c a start None) (relations c b (start + wa) None) plain))
-        (row_stands b (start + wa) y both.1 laid.1 cb (part_right whole_row start l y wa (columns_in b) long here) (all_right IsPlainAt (relations c a start None) (relations c b (start + wa) None) plain))
+        let s = split c held groups can only_here whole_row a start (columns_in b) l y row both.0 laid.0 ca e part in
+        both_stand a b start l y row s.long e
+        (row_stands a start l both.0 laid.0 ca s.left_part (all_left IsPlainAt (relations c a start None) (relations c b (start + wa) None) plain))
+        (row_stands b (start + wa) y both.1 laid.1 cb s.right_part (all_right IsPlainAt (relations c a start None) (relations c b (start + wa) None) plain))
     row_stands (Left' p (more_of-FromTree a end_of-FromTree) q (more_of-FromTree b end_of-FromTree) on) start row is laid (l, y, ca, cb, e) part plain =
         let both = and_true (joins_tables a) (is_table b) is in
         let wa : ℕ = columns_in a in
-        let long : length l ≡ wa = own_long c held groups can only_here a start both.0 laid.0 l ca in
+        let s = split c held groups can only_here whole_row a start (columns_in b) l y row both.0 laid.0 ca e part in
         let w : ℕ = width_of (own c held start a) in
-        let here : IsPart whole_row start (wa + columns_in b) (l ++ y) = subst (IsPart whole_row start (wa + columns_in b)) e part in
-        ap (stands (own c held start a) i) (ap (take w) e ∙ take_left l y w (long ∙ sym (own_width c held a start)))
-        ∙ row_stands a start l both.0 laid.0 ca (part_left whole_row start l y wa (columns_in b) long here)
+        ap (stands (own c held start a) i) (ap (take w) e ∙ take_left l y w (s.long ∙ sym (own_width c held a start)))
+        ∙ row_stands a start l both.0 laid.0 ca s.left_part
         (all_left IsPlainAt (relations c a start None) (relations c b (start + wa) (Some (record { left = start; equalities = equalities (conjuncts on) }))) plain)
 
     -- and where the row stands there, that is the group of each plain relation
@@ -148,31 +145,28 @@ module _ (c : Contents) (held : Held) (groups : List ℕ) (can : (g : ℕ) → C
     plain_stand (Cross' p (more_of-FromTree a end_of-FromTree) q (more_of-FromTree b end_of-FromTree)) start row is laid (l, y, ca, cb, m, e) part here =
         let both = and_true (joins_tables a) (joins_tables b) is in
         let wa : ℕ = columns_in a in
-        let long : length l ≡ wa = own_long c held groups can only_here a start both.0 laid.0 l ca in
-        let whole_part : IsPart whole_row start (wa + columns_in b) (l ++ y) = subst (IsPart whole_row start (wa + columns_in b)) e part in
-        let halves = both_halves a b start l y row long e here in
+        let s = split c held groups can only_here whole_row a start (columns_in b) l y row both.0 laid.0 ca e part in
+        let halves = both_halves a b start l y row s.long e here in
         all_append IsPlainAt (relations c a start None) (relations c b (start + wa) None)
-        (plain_stand a start l both.0 laid.0 ca (part_left whole_row start l y wa (columns_in b) long whole_part) halves.0)
-        (plain_stand b (start + wa) y both.1 laid.1 cb (part_right whole_row start l y wa (columns_in b) long whole_part) halves.1)
+        (plain_stand a start l both.0 laid.0 ca s.left_part halves.0)
+        (plain_stand b (start + wa) y both.1 laid.1 cb s.right_part halves.1)
     plain_stand (Inner' p (more_of-FromTree a end_of-FromTree) q (more_of-FromTree b end_of-FromTree) on) start row is laid (l, y, ca, cb, m, e) part here =
         let both = and_true (joins_tables a) (joins_tables b) is in
         let wa : ℕ = columns_in a in
-        let long : length l ≡ wa = own_long c held groups can only_here a start both.0 laid.0 l ca in
-        let whole_part : IsPart whole_row start (wa + columns_in b) (l ++ y) = subst (IsPart whole_row start (wa + columns_in b)) e part in
-        let halves = both_halves a b start l y row long e here in
+        let s = split c held groups can only_here whole_row a start (columns_in b) l y row both.0 laid.0 ca e part in
+        let halves = both_halves a b start l y row s.long e here in
         all_append IsPlainAt (relations c a start None) (relations c b (start + wa) None)
-        (plain_stand a start l both.0 laid.0 ca (part_left whole_row start l y wa (columns_in b) long whole_part) halves.0)
-        (plain_stand b (start + wa) y both.1 laid.1 cb (part_right whole_row start l y wa (columns_in b) long whole_part) halves.1)
+        (plain_stand a start l both.0 laid.0 ca s.left_part halves.0)
+        (plain_stand b (start + wa) y both.1 laid.1 cb s.right_part halves.1)
     plain_stand (Left' p (more_of-FromTree a end_of-FromTree) q (more_of-FromTree b end_of-FromTree) on) start row is laid (l, y, ca, cb, e) part here =
         let both = and_true (joins_tables a) (is_table b) is in
         let wa : ℕ = columns_in a in
         let w : ℕ = width_of (own c held start a) in
         let o : OuterJoin = record { left = start; equalities = equalities (conjuncts on) } in
-        let long : length l ≡ wa = own_long c held groups can only_here a start both.0 laid.0 l ca in
-        let whole_part : IsPart whole_row start (wa + columns_in b) (l ++ y) = subst (IsPart whole_row start (wa + columns_in b)) e part in
-        let taken : take w row ≡ l = ap (take w) e ∙ take_left l y w (long ∙ sym (own_width c held a start)) in
+        let s = split c held groups can only_here whole_row a start (columns_in b) l y row both.0 laid.0 ca e part in
+        let taken : take w row ≡ l = ap (take w) e ∙ take_left l y w (s.long ∙ sym (own_width c held a start)) in
         all_append IsPlainAt (relations c a start None) (relations c b (start + wa) (Some o))
-        (plain_stand a start l both.0 laid.0 ca (part_left whole_row start l y wa (columns_in b) long whole_part) (ap (stands (own c held start a) i) (sym taken) ∙ here))
+        (plain_stand a start l both.0 laid.0 ca s.left_part (ap (stands (own c held start a) i) (sym taken) ∙ here))
         (right_never c (λ r. home_by c whole_row (distribution_of r) ≡ i) b (start + wa) o both.1)
 
   -- ---- the group is one of these
@@ -200,7 +194,6 @@ module _ (c : Contents) (held : Held) (groups : List ℕ) (can : (g : ℕ) → C
       either true y e = refl
       either false y e = e
 
-
   pub plain_here : (f : FromTree) (start : ℕ) (row : Row) → joins_tables f ≡ true → IsLaidFrom c (λ i. 0) f → IsChoice (own c held start f) row → IsPart whole_row start (columns_in f) row →
       AllByRecursion (IsPlainHere (has_cut (own c held start f))) (relations c f start None)
   plain_here (Table t n) start row is laid h part = (table_here t n start row (place_at c t) refl laid.1 part h, tt)
@@ -211,27 +204,24 @@ module _ (c : Contents) (held : Held) (groups : List ℕ) (can : (g : ℕ) → C
       let wa : ℕ = columns_in a in
       let ka : Bool = has_cut (own c held start a) in
       let kb : Bool = has_cut (own c held (start + wa) b) in
-      let long : length l ≡ wa = own_long c held groups can only_here a start both.0 laid.0 l ca in
-      let here : IsPart whole_row start (wa + columns_in b) (l ++ y) = subst (IsPart whole_row start (wa + columns_in b)) e part in
+      let s = split c held groups can only_here whole_row a start (columns_in b) l y row both.0 laid.0 ca e part in
       all_append (IsPlainHere (ka || kb)) (relations c a start None) (relations c b (start + wa) None)
-      (here_left ka kb (relations c a start None) (plain_here a start l both.0 laid.0 ca (part_left whole_row start l y wa (columns_in b) long here)))
-      (here_right ka kb (relations c b (start + wa) None) (plain_here b (start + wa) y both.1 laid.1 cb (part_right whole_row start l y wa (columns_in b) long here)))
+      (here_left ka kb (relations c a start None) (plain_here a start l both.0 laid.0 ca s.left_part))
+      (here_right ka kb (relations c b (start + wa) None) (plain_here b (start + wa) y both.1 laid.1 cb s.right_part))
   plain_here (Inner' p (more_of-FromTree a end_of-FromTree) q (more_of-FromTree b end_of-FromTree) on) start row is laid (l, y, ca, cb, m, e) part =
       let both = and_true (joins_tables a) (joins_tables b) is in
       let wa : ℕ = columns_in a in
       let ka : Bool = has_cut (own c held start a) in
       let kb : Bool = has_cut (own c held (start + wa) b) in
-      let long : length l ≡ wa = own_long c held groups can only_here a start both.0 laid.0 l ca in
-      let here : IsPart whole_row start (wa + columns_in b) (l ++ y) = subst (IsPart whole_row start (wa + columns_in b)) e part in
+      let s = split c held groups can only_here whole_row a start (columns_in b) l y row both.0 laid.0 ca e part in
       all_append (IsPlainHere (ka || kb)) (relations c a start None) (relations c b (start + wa) None)
-      (here_left ka kb (relations c a start None) (plain_here a start l both.0 laid.0 ca (part_left whole_row start l y wa (columns_in b) long here)))
-      (here_right ka kb (relations c b (start + wa) None) (plain_here b (start + wa) y both.1 laid.1 cb (part_right whole_row start l y wa (columns_in b) long here)))
+      (here_left ka kb (relations c a start None) (plain_here a start l both.0 laid.0 ca s.left_part))
+      (here_right ka kb (relations c b (start + wa) None) (plain_here b (start + wa) y both.1 laid.1 cb s.right_part))
   plain_here (Left' p (more_of-FromTree a end_of-FromTree) q (more_of-FromTree b end_of-FromTree) on) start row is laid (l, y, ca, cb, e) part =
       let both = and_true (joins_tables a) (is_table b) is in
       let wa : ℕ = columns_in a in
       let ka : Bool = has_cut (own c held start a) in
       let o : OuterJoin = record { left = start; equalities = equalities (conjuncts on) } in
-      let long : length l ≡ wa = own_long c held groups can only_here a start both.0 laid.0 l ca in
-      let here : IsPart whole_row start (wa + columns_in b) (l ++ y) = subst (IsPart whole_row start (wa + columns_in b)) e part in
+      let s = split c held groups can only_here whole_row a start (columns_in b) l y row both.0 laid.0 ca e part in
       all_append (IsPlainHere ka) (relations c a start None) (relations c b (start + wa) (Some o))
-      (plain_here a start l both.0 laid.0 ca (part_left whole_row start l y wa (columns_in b) long here)) (right_never c (λ r. (among (home_by c whole_row (distribution_of r)) groups ≡ true) × (ka ≡ true)) b (start + wa) o both.1)
+      (plain_here a start l both.0 laid.0 ca s.left_part) (right_never c (λ r. (among (home_by c whole_row (distribution_of r)) groups ≡ true) × (ka ≡ true)) b (start + wa) o both.1)
