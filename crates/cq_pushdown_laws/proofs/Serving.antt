@@ -36,7 +36,7 @@ use Rattle.cq_pushdown_laws.specs.Pushed.{joins_tables, strays, are_pushed, is_p
 use Rattle.cq_pushdown_laws.specs.Tables.{HoldsOnly, task_tables, side_of}
 use Rattle.cq_pushdown_laws.proofs.Spread.{among_has, ascending_distinct}
 use Rattle.cq_pushdown_laws.proofs.Choices.{IsPart, own, own_says, all_fit}
-use Rattle.cq_pushdown_laws.proofs.Standing.{home_in, home_by, of_list, to_list, row_stands, plain_stand, plain_here}
+use Rattle.cq_pushdown_laws.proofs.Standing.{home_in, home_by, of_list, to_list, row_tells, plain_here}
 use Rattle.cq_pushdown_laws.proofs.Rights.{rights_stand}
 use Rattle.cq_pushdown_laws.proofs.Sharing.{apart_serve, shares_serve}
 
@@ -100,7 +100,7 @@ module _ (c : Contents) (held : Held) (groups : List ℕ) (can : (g : ℕ) → C
           let plain : AllByRecursion At (distributions is_plain rels) = subst (AllByRecursion At) (sym e) (refl, one_home c row first (one_value row h k) d ds both.0) in
           let here : AllByRecursion Here (d ∷ ds) = subst (AllByRecursion Here) e (to_list Here is_plain rels (plain_here c held groups can only_here row from 0 row is laid h part)) in
           let rights = rights_stand c held groups can only_here row i first rels (one_value row h k) plain from 0 row [] is laid h part (none_strays (strays first rels) rels both.1) (λ x lo hi. refl) (λ x lo. refl) tt in
-          (i, among_has i groups here.0.0, row_stands c held groups can only_here row i from 0 row is laid h part (of_list At is_plain rels plain), rights.0, inl here.0.1)
+          (i, among_has i groups here.0.0, (row_tells c held groups can only_here row i from 0 row is laid h part).0 (of_list At is_plain rels plain), rights.0, inl here.0.1)
 
   -- ---- the rows of a task
 
@@ -116,7 +116,7 @@ module _ (c : Contents) (held : Held) (groups : List ℕ) (can : (g : ℕ) → C
     task_home i m row h =
         let t : IsChoice (own c held 0 from) row × (stands (own c held 0 from) i row ≡ true) = task_row i m row h in
         let At : Distribution → Type 0 = λ x. home_by c row x ≡ i in
-        let all : AllByRecursion At (d ∷ ds) = subst (AllByRecursion At) plain (to_list At is_plain rels (plain_stand c held groups can only_here row i from 0 row is laid t.0 (λ x lo hi. refl) t.1)) in
+        let all : AllByRecursion At (d ∷ ds) = subst (AllByRecursion At) plain (to_list At is_plain rels ((row_tells c held groups can only_here row i from 0 row is laid t.0 (λ x lo hi. refl)).1 t.1)) in
         all.0
 
 -- ---- the laws
