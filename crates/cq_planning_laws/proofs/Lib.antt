@@ -17,5 +17,6 @@ pub mod Narrowing
 pub mod Blocks
 pub mod Fewer
 pub mod Large
+pub mod Listed
 pub mod Statements
 pub mod Examples

@@ -1,5 +1,5 @@
 -- For a statement's query the groups that it doesn't touch don't matter.
-use Rattle.std.proofs.Common.{suc, zero, ◌≡◌, ◌+◌, ◌<◌, ◌≤◌, inl, inr, ℕ, Bool, true, false, List, [], ◌∷◌, ◌++◌, length, filter, replicate, refl, sym, ◌∙◌, ap, subst, arith, Some, None, Option, slice_get, length-append, eq-eqb}
+use Rattle.std.proofs.Common.{suc, zero, ◌≡◌, ◌+◌, ◌<◌, ◌≤◌, inl, inr, ℕ, Bool, true, false, List, [], ◌∷◌, ◌++◌, length, filter, replicate, refl, sym, ◌∙◌, ap, subst, arith, slice_get, length-append}
 use Rattle.std.specs.Prelude.{slice_set, nat_eq}
 use Rattle.std.specs.List.{AllByRecursion, flat_map}
 use Rattle.std.specs.List.Sorted.{IsPermutation}
@@ -14,7 +14,7 @@ use Rattle.cq_meaning.specs.Queries.{from_rows, meaning, AnswersWith}
 use Rattle.cq_meaning.specs.Results.{results_of}
 use Rattle.cq_meaning_laws.specs.WholeRules.{Step, steps_of, no_results, with_step, with_steps}
 use Rattle.cq_meaning_laws.proofs.WholeLaws.{results_in_steps}
-use Rattle.cq_catalog.specs.Contents.{Contents, place_in, colocation_of, first_group_in, count_in}
+use Rattle.cq_catalog.specs.Contents.{Contents, colocation_of, first_group_in, count_in}
 use Rattle.cq_catalog.specs.Placement.{place_at, HasShard, group_of}
 use Rattle.cq_catalog.specs.Whole.{IsWhole}
 use Rattle.cq_catalog.specs.declared.info.Place.{Place}
@@ -28,7 +28,7 @@ use Rattle.cq_planning_laws.specs.Laid.{IsLaid, IsColumnOf, IsLaidStep, IsLaidSt
 use Rattle.cq_planning_laws.specs.Laws.{QueriesNarrow, LargeNarrows, UntouchedAreFree}
 use Rattle.cq_planning.specs.Simple.{GivesSimply}
 use Rattle.cq_planning_laws.proofs.Lists.{two_ways, all_weaker, all_append, filter_none}
-use Rattle.std.proofs.lemmas.Bool.Decides.{eqb_tells}
+use Rattle.cq_planning_laws.proofs.Listed.{listed, listed_at}
 use Rattle.cq_planning_laws.proofs.SameRows.{SameKept, PushesThrough}
 use Rattle.cq_planning_laws.proofs.Pushing.{pushes_through}
 use Rattle.cq_planning_laws.proofs.GroupLists.{in_order_has, among_left, among_right}
@@ -40,44 +40,12 @@ use Rattle.cq_planning_laws.proofs.Fewer.{Fewer}
 
 -- ---- a table of the undistributed database
 
-looked_up : (c : Contents) (held : Held) (k i : ℕ) (ts : List TableInfo) (t : TableInfo) → slice_get ts i ≡ Some t → table_rows (whole_from c held k ts) (k + i) ≡ whole_at c held (k + i) t.place
-looked_up c held k i [] t s = cc
-looked_up c held k zero (u ∷ ts) t s =
-    let here : k ≡ k + 0 = omega arith in
-    let same : u ≡ t = cc in
-    rw (eq-eqb k (k + 0) here) (ap (λ n. whole_at c held n u.place) here ∙ ap (λ (v : TableInfo). whole_at c held (k + 0) v.place) same)
-looked_up c held k (suc i) (u ∷ ts) t s =
-    let next : k + suc i ≡ k + 1 + i = omega arith in
-    elim (eqb_tells k (k + suc i)) [
-      | inl same ↦ absurd (let e = same.1 in omega (arith, e))
-      | inr other ↦ rw other.0 (subst (λ n. table_rows (whole_from c held (k + 1) ts) n ≡ whole_at c held n t.place) (sym next) (looked_up c held (k + 1) i ts t s))
-    ]
+whole_is : (c : Contents) (held : Held) (k : ℕ) (ts : List TableInfo) → whole_from c held k ts ≡ listed (whole_at c held) k ts
+whole_is c held k [] = refl
+whole_is c held k (t ∷ ts) = ap (λ more. (k, whole_at c held k t.place) ∷ more) (whole_is c held (k + 1) ts)
 
-table_in_whole : (c : Contents) (held : Held) (table : ℕ) (t : TableInfo) → slice_get c.tables table ≡ Some t → table_rows (whole c held) table ≡ whole_at c held table (place_at c table)
-table_in_whole c held table t s =
-    let here : 0 + table ≡ table = omega arith in
-    subst (λ n. table_rows (whole c held) n ≡ whole_at c held n t.place) here (looked_up c held 0 table c.tables t s)
-    ∙ rw s refl
-
-past : (c : Contents) (held : Held) (ts : List TableInfo) (k i : ℕ) → slice_get ts i ≡ None → table_rows (whole_from c held k ts) (k + i) ≡ []
-past c held [] k i e = refl
-past c held (t ∷ ts) k zero e = cc
-past c held (t ∷ ts) k (suc i) e =
-    let next : k + 1 + i ≡ k + suc i = omega arith in
-    elim (eqb_tells k (k + suc i)) [
-      | inl same ↦ absurd (let q = same.1 in omega (arith, q))
-      | inr other ↦ rw other.0 (subst (λ n. table_rows (whole_from c held (k + 1) ts) n ≡ []) next (past c held ts (k + 1) i e))
-    ]
-
--- a table that isn't there has no rows, as a local table
-table_at : (c : Contents) (held : Held) (table : ℕ) → table_rows (whole c held) table ≡ whole_at c held table (place_at c table)
-table_at c held table = pick (slice_get c.tables table) refl
-  where
-    pick : (o : Option TableInfo) → slice_get c.tables table ≡ o → table_rows (whole c held) table ≡ whole_at c held table (place_at c table)
-    pick (Some t) e = table_in_whole c held table t e
-    pick None e =
-        let here : 0 + table ≡ table = omega arith in
-        subst (λ n. table_rows (whole c held) n ≡ []) here (past c held c.tables 0 table e) ∙ sym (ap (λ o. whole_at c held table (place_in o)) e)
+pub table_at : (c : Contents) (held : Held) (table : ℕ) → table_rows (whole c held) table ≡ whole_at c held table (place_at c table)
+table_at c held table = ap (λ tables. table_rows tables table) (whole_is c held 0 c.tables) ∙ listed_at (whole_at c held) (λ t. refl) c.tables table
 
 kept_joined : (a b : Held) (table : ℕ) (p : Row → Bool) (g n : ℕ) → ((h : ℕ) → g ≤ h → h < g + n → filter p (a h table) ≡ filter p (b h table)) → filter p (joined a table g n) ≡ filter p (joined b table g n)
 kept_joined a b table p g zero e = refl
@@ -122,7 +90,7 @@ module _ (c : Contents) (touched : List ℕ) (table : ℕ) (p : Row → Bool) (h
       ∙ sym (ap (filter p) (table_at c (narrowed touched held) table))
 
 module _ (c : Contents) (held : Held) (can : (g : ℕ) → CanHold c g (held g)) (table : ℕ) where
-  abbrev wide_row : Row → Type 0
+  abbrev pub wide_row : Row → Type 0
   wide_row row = IsWide (length (shape_in c table).kinds) row
 
   wide_at : (place : Place) → ((g : ℕ) → HasShard (slice_get c.colocations (colocation_of place)) place g → AllByRecursion wide_row (held g table)) → AllByRecursion wide_row (whole_at c held table place)
@@ -130,7 +98,7 @@ module _ (c : Contents) (held : Held) (can : (g : ℕ) → CanHold c g (held g))
   wide_at (Reference group shard) f = f group refl
   wide_at (Distributed at colocation first_shard) f = joined_all wide_row held table (first_group_in (slice_get c.colocations colocation)) (count_in (slice_get c.colocations colocation)) (λ g l m. f g (l, m))
 
-  table_wide : (n : ℕ) → IsColumnOf n (place_at c table) → AllByRecursion wide_row (table_rows (whole c held) table)
+  pub table_wide : (n : ℕ) → IsColumnOf n (place_at c table) → AllByRecursion wide_row (table_rows (whole c held) table)
   table_wide n h =
       subst (AllByRecursion wide_row) (sym (table_at c held table))
       (wide_at (place_at c table) (λ g has. all_weaker (IsRowOf c g table) wide_row (λ row r. kinds_long (shape_in c table).kinds row r.1) (held g table) (can g table has)))

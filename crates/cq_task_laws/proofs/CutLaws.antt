@@ -189,7 +189,7 @@ module _ (is : List ℕ) where
     | inr m ↦ (let u : (y : Row) × Has rs y × (l ++ y ≡ x) = mapped_has (λ y. l ++ y) rs x (has_filtered on (map (λ y. l ++ y) rs) x m).0 in (u.0, sym u.2))
   ]
 
-  rows_stand : (f : Joins) → AllFit f is → (i : ℕ) → Has is i → (x : Row) → Has (rows_at f i) x → IsChoice f x × (stands f i x ≡ true)
+  pub rows_stand : (f : Joins) → AllFit f is → (i : ℕ) → Has is i → (x : Row) → Has (rows_at f i) x → IsChoice f x × (stands f i x ≡ true)
   rows_stand (only r) fit i m x h = fits_has r is fit i m x h
   rows_stand (inner on a b) fit i m x h =
       let u : Has (product (rows_at a i) (rows_at b i)) x × (on x ≡ true) = has_filtered on (product (rows_at a i) (rows_at b i)) x h in
