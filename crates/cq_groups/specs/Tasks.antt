@@ -74,17 +74,17 @@ kind_by c q = combine_by 2 (shares_rows (first_column (plain_in c q)) q)
 abbrev pub way_by : Contents → Query → List Look → Option Combine
 way_by c q looks = if is_alone q && (are_several (count_tasks c looks) && is_pushed c q) then Some (kind_by c q) else None
 
--- tasks over these tables, each beside these, can be computed and combined, and what they come to is what the query does over all tables
-pub record TasksServe (kind : Combine) (q : Query) (beside : Tables) (parts : List Tables) (db : Tables) : Type 0 where
-  pub safe : AllByRecursion (λ read. IsSafeQuery (partial kind q) read []) (reads_by beside parts)
-  pub merge : has_large_task kind q [] (reads_by beside parts) ≡ false → CanMerge kind q [] (task_rows kind q [] (reads_by beside parts))
-  pub answers : (rows : List Row) → GathersTo kind q [] (task_rows kind q [] (reads_by beside parts)) rows → Answers q db rows
-  pub large : (has_large_task kind q [] (reads_by beside parts) ≡ true) ⊎ (has_large_together kind q [] (task_rows kind q [] (reads_by beside parts)) ≡ true) → is_large q db (results_of q db) ≡ true
+-- tasks that read these tables can be computed and combined, and what they come to is what the query does over all tables
+pub record CanServe (kind : Combine) (q : Query) (reads : List Tables) (db : Tables) : Type 0 where
+  pub safe : AllByRecursion (λ read. IsSafeQuery (partial kind q) read []) reads
+  pub merge : has_large_task kind q [] reads ≡ false → CanMerge kind q [] (task_rows kind q [] reads)
+  pub answers : (rows : List Row) → GathersTo kind q [] (task_rows kind q [] reads) rows → Answers q db rows
+  pub large : (has_large_task kind q [] reads ≡ true) ⊎ (has_large_together kind q [] (task_rows kind q [] reads) ≡ true) → is_large q db (results_of q db) ≡ true
 
 -- so do those that a query has by this way
 abbrev pub WayServes : Option Combine → Contents → Query → List Look → Tables → Tables → Type 0
 WayServes None c q looks seen db = ⊤
-WayServes (Some kind) c q looks seen db = TasksServe kind q (beside_of c looks seen) (own_of c looks seen) db
+WayServes (Some kind) c q looks seen db = CanServe kind q (reads_by (beside_of c looks seen) (own_of c looks seen)) db
 
 -- ---- what a query comes to
 

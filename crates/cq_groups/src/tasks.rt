@@ -1,7 +1,7 @@
-ghost use Rattle.std.specs.Prelude.{◌≡◌, [], Some};
+ghost use Rattle.cq_tasks.specs.Execution.{reads_by};
 ghost use Rattle.cq_groups.specs.Reads.{IsComputable};
 ghost use Rattle.cq_groups.specs.Looking.{merged};
-ghost use Rattle.cq_groups.specs.Tasks.{beside_of, own_of, TasksServe, WayServes, IsRun};
+ghost use Rattle.cq_groups.specs.Tasks.{beside_of, own_of, CanServe, WayServes, IsRun};
 
 use crate::captures::{Captures, captures_of};
 use crate::gathering::gather;
@@ -23,7 +23,7 @@ fn run_parts(
     looks: &[Look],
     seen: Tables,
 ) -> Result<Rows, QueryError>
-    requires { TasksServe kind query.now (beside_of catalog.now looks.now seen) (own_of catalog.now looks.now seen) (merged seen) }
+    requires { CanServe kind query.now (reads_by (beside_of catalog.now looks.now seen) (own_of catalog.now looks.now seen)) (merged seen) }
     ensures { IsRun query.now (merged seen) result }
 {
     let Ok(captures) = captures_of(alloc, catalog, looks, seen) else {

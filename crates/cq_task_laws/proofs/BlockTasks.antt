@@ -5,6 +5,7 @@ use Rattle.std.specs.List.{flat_map, list_any, AllByRecursion}
 use Rattle.cq_tree.specs.declared.plan.Combine.{Combine}
 use Rattle.cq_tree.specs.declared.plan.Combine.TheVariants.{Nothing, RowsOnly, Groups}
 use Rattle.cq_tree.specs.declared.query.Agg.TheVariants as agg
+use Rattle.cq_tree.specs.declared.query.FromTree.{FromTree}
 use Rattle.cq_tree.specs.declared.query.Query.{Query, Query'}
 use Rattle.cq_meaning.specs.Lists.{Has}
 use Rattle.cq_meaning.specs.Values.{Row, Tables}
@@ -22,8 +23,10 @@ use Rattle.cq_task_laws.specs.Partial.{partial}
 use Rattle.cq_task_laws.specs.Merging.{joined, GathersTo, has_large_together}
 use Rattle.cq_task_laws.specs.Counting.{CanMerge}
 use Rattle.cq_task_laws.specs.Gathering.{AllAnswer, AnswersOver, full_over, kept_of, has_large_over, IsSafeOver, IsNonEmpty, Serves}
+use Rattle.cq_task_laws.specs.Tasks.{Side, TasksServe}
 use Rattle.cq_task_laws.proofs.Opened.{from_of, items_in, task_columns, task_items, task_distinct, task_groups, task_meaning, task_group_meaning, over_from, partial_from, large_partial}
-use Rattle.cq_task_laws.proofs.PartLaws.{mapped_has}
+use Rattle.cq_task_laws.proofs.PartLaws.{flat_map_of_map}
+use Rattle.cq_task_laws.proofs.TaskLaws.{from_cut}
 use Rattle.cq_task_laws.proofs.GatherRows.{whole_rows, shown_whole}
 use Rattle.cq_task_laws.proofs.GatherLaws.{part_width, length_push, gather, some_map}
 use Rattle.cq_task_laws.proofs.LargeLaws.{any_at, length_map, large_task, large_together}
@@ -47,6 +50,19 @@ large_over (Query' cs ctes ss subs from filter_ grouped keys aggs having items s
 -- its rows are an answer over those of its FROM
 pub answers_over : (q : Query) (db : Tables) (rs : List (List Row)) (rows : List Row) → AnswersOver q rs (from_rows (from_of q) 0 db rs) rows → AnswersWith q db rs rows
 answers_over (Query' cs ctes ss subs from filter_ grouped keys aggs having items shown distinct order limit offset names) db rs rows h = h
+
+-- ---- tasks that serve for a block
+
+-- its FROM keeps, up to order, what the tasks' FROMs keep
+pub served_cut : (side : FromTree → Side) (kind : Combine) (q : Query) (db : Tables) (dbs : ℕ → Tables) (rs : List (List Row)) (indices : List ℕ) → TasksServe side kind q db dbs rs indices →
+    Reordered (kept_of q rs (from_rows (from_of q) 0 db rs)) (flat_map (kept_of q rs) (map (λ i. from_rows (from_of q) 0 (dbs i) rs) indices))
+served_cut side kind (Query' cs ctes ss subs from filter_ grouped keys aggs having items shown distinct order limit offset names) db dbs rs indices serve =
+    subst (λ us. Reordered (filter (keeps filter_ rs) (from_rows from 0 db rs)) us) (sym (flat_map_of_map (filter (keeps filter_ rs)) (λ i. from_rows from 0 (dbs i) rs) indices))
+    (from_cut side db dbs rs from (keeps filter_ rs) indices serve.0 serve.1 serve.2)
+
+pub served_parts : (side : FromTree → Side) (kind : Combine) (q : Query) (db : Tables) (dbs : ℕ → Tables) (rs : List (List Row)) (indices : List ℕ) → TasksServe side kind q db dbs rs indices →
+    Serves kind q rs (map (λ i. from_rows (from_of q) 0 (dbs i) rs) indices)
+served_parts side kind (Query' cs ctes ss subs from filter_ grouped keys aggs having items shown distinct order limit offset names) db dbs rs indices serve = serve.3
 
 -- ---- a task's rows stand in the order in which they are made, and have its columns
 

@@ -7,6 +7,6 @@ use Rattle.cq_tasks.proofs.execution.run_tasks.Given as goal
 
 abbrev pub invariant-loop-own : goal.invariant-loop-own
 invariant-loop-own l =
-    (l.tables ≡ l.beside)
-    × (l.all ≡ map (λ db. meaning l.task db l.results) (reads_by l.beside l.yielded))
-    × (list_any (λ db. is_large l.task db l.results) (reads_by l.beside l.yielded) ≡ false)
+    (l.tables ≡ l.fn.beside)
+    × (l.all ≡ map (λ db. meaning l.task db l.results) (reads_by l.fn.beside l.yielded))
+    × (list_any (λ db. is_large l.task db l.results) (reads_by l.fn.beside l.yielded) ≡ false)
