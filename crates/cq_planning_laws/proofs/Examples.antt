@@ -32,19 +32,19 @@ three = record {
 abbrev is : ℕ → ℕ → Cond
 is x n = Compare Eq (Column x) (Literal (Int (pos n)))
 
-abbrev equal : ℕ → ℕ → Cond
+abbrev pub equal : ℕ → ℕ → Cond
 equal x y = Compare Eq (Column x) (Column y)
 
 abbrev either : Cond → Cond → Cond
 either a b = Or' (shape-the_row-Cond-0 a) (more_of-Cond a end_of-Cond) (shape-the_row-Cond-0 b) (more_of-Cond b end_of-Cond)
 
-abbrev both : Cond → Cond → Cond
+abbrev pub both : Cond → Cond → Cond
 both a b = And' (shape-the_row-Cond-0 a) (more_of-Cond a end_of-Cond) (shape-the_row-Cond-0 b) (more_of-Cond b end_of-Cond)
 
-abbrev inner : FromTree → FromTree → Cond → FromTree
+abbrev pub inner : FromTree → FromTree → Cond → FromTree
 inner a b on = Inner' (shape-the_row-FromTree-1 a) (more_of-FromTree a end_of-FromTree) (shape-the_row-FromTree-1 b) (more_of-FromTree b end_of-FromTree) on
 
-abbrev left : FromTree → FromTree → Cond → FromTree
+abbrev pub left : FromTree → FromTree → Cond → FromTree
 left a b on = Left' (shape-the_row-FromTree-1 a) (more_of-FromTree a end_of-FromTree) (shape-the_row-FromTree-1 b) (more_of-FromTree b end_of-FromTree) on
 
 abbrev sub : Query → FromTree

@@ -101,5 +101,19 @@ module _ (c : Contents) (held : Held) (groups : List ℕ) (can : (g : ℕ) → C
   pub own_says : (f : FromTree) (start : ℕ) → joins_tables f ≡ true → IsLaidFrom c (λ i. 0) f → (x : Row) → IsChoice (own c held start f) x → AllByRecursion (Says (pad start x)) (inner_conjuncts f)
   own_says f start is laid x h = choice_says (side_of c) (whole c held) (task_tables c held) groups f start (all_fit f start is laid) x h
 
+  -- a joined row of which a part is one of the whole row
+  pub record Split (row : Row) (start wa wb : ℕ) (l y : Row) : Type 0 where
+    pub long : length l ≡ wa
+    pub both : IsPart row start (wa + wb) (l ++ y)
+    pub left_part : IsPart row start wa l
+    pub right_part : IsPart row (start + wa) wb y
+
+  pub split : (row : Row) (f : FromTree) (start wb : ℕ) (l y part : Row) → joins_tables f ≡ true → IsLaidFrom c (λ i. 0) f → IsChoice (own c held start f) l → part ≡ l ++ y → IsPart row start (columns_in f + wb) part →
+      Split row start (columns_in f) wb l y
+  split row f start wb l y part is laid h e whole_part =
+      let long : length l ≡ columns_in f = own_long f start is laid l h in
+      let here : IsPart row start (columns_in f + wb) (l ++ y) = subst (IsPart row start (columns_in f + wb)) e whole_part in
+      record { long = long; both = here; left_part = part_left row start l y (columns_in f) wb long here; right_part = part_right row start l y (columns_in f) wb long here }
+
 pub own_width : (c : Contents) (held : Held) (f : FromTree) (start : ℕ) → width_of (own c held start f) ≡ columns_in f
 own_width c held f start = width_is (side_of c) (whole c held) (task_tables c held) f start

@@ -5,3 +5,4 @@ pub mod Colocated
 pub mod Rights
 pub mod Sharing
 pub mod Serving
+pub mod Examples

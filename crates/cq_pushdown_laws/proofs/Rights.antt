@@ -27,7 +27,7 @@ use Rattle.cq_planning_laws.proofs.Rows.{Agrees, kept_says, pairs_agree, and_tru
 use Rattle.cq_planning_laws.proofs.Columns.{pad, column_pad, column_nulls, in_left, in_right}
 use Rattle.cq_pushdown_laws.specs.Pushed.{is_table, joins_tables, strays}
 use Rattle.cq_pushdown_laws.specs.Tables.{HoldsOnly, side_at, side_of}
-use Rattle.cq_pushdown_laws.proofs.Choices.{IsPart, part_left, part_right, own, own_long, own_width}
+use Rattle.cq_pushdown_laws.proofs.Choices.{IsPart, part_left, own, own_width, split}
 use Rattle.cq_pushdown_laws.proofs.Standing.{home_in, home_by, group_is}
 use Rattle.cq_pushdown_laws.proofs.Colocated.{IsWithin, right_within, all_within, has_column, AreBelow, others_behind, below_more, is_partnered, Partner, partner_there}
 
@@ -166,52 +166,53 @@ module _ (c : Contents) (held : Held) (groups : List ℕ) (can : (g : ℕ) → C
 
   -- ---- a FROM
 
-  both_rights : (a b : FromTree) (start : ℕ) (l y row : Row) → length l ≡ columns_in a → row ≡ l ++ y → RightsStand (own c held start a) i l → RightsStand (own c held (start + columns_in a) b) i y →
-      RightsStand (own c held start a) i (take (width_of (own c held start a)) row) × RightsStand (own c held (start + columns_in a) b) i (drop (width_of (own c held start a)) row)
-  both_rights a b start l y row long e ra rb =
-      let w : ℕ = width_of (own c held start a) in
-      let wide : length l ≡ w = long ∙ sym (own_width c held a start) in
-      (subst (RightsStand (own c held start a) i) (sym (ap (take w) e ∙ take_left l y w wide)) ra, subst (RightsStand (own c held (start + columns_in a) b) i) (sym (ap (drop w) e ∙ drop_left l y w wide)) rb)
-
   plain_adds : (start : ℕ) (p : Place) (earlier : List Distribution) → with_colocated first rels earlier (record { start = start; distribution = distribution_at start p; outer = None }) ≡ earlier
   plain_adds start Local earlier = refl
   plain_adds start (Reference group shard) earlier = refl
   plain_adds start (Distributed at colocation first_shard) earlier = refl
 
-  pub rights_stand : (f : FromTree) (start : ℕ) (row : Row) (earlier : List Distribution) → joins_tables f ≡ true → IsLaidFrom c (λ i. 0) f → IsChoice (own c held start f) row → IsPart whole_row start (columns_in f) row →
+  -- after earlier ones the right sides stand there, and so do the columns that are collected of all
+  abbrev pub StandAfter : FromTree → ℕ → Row → List Distribution → Type 0
+  StandAfter f start row earlier =
       AllByRecursion Stays (relations c f start None) → Follows first rels start (columns_in f) earlier (relations c f start None) → AreBelow start earlier → AllByRecursion StandsBy earlier →
       RightsStand (own c held start f) i row × AllByRecursion StandsBy (fold (with_colocated first rels) earlier (relations c f start None))
+
+  both_stand : (a b : FromTree) (start : ℕ) (l y row : Row) (earlier : List Distribution) → (joins_tables a ≡ true) × (joins_tables b ≡ true) → IsLaidFrom c (λ i. 0) a × IsLaidFrom c (λ i. 0) b → length l ≡ columns_in a → row ≡ l ++ y →
+      StandAfter a start l earlier → ((more : List Distribution) → StandAfter b (start + columns_in a) y more) →
+      AllByRecursion Stays (relations c a start None ++ relations c b (start + columns_in a) None) →
+      Follows first rels start (columns_in a + columns_in b) earlier (relations c a start None ++ relations c b (start + columns_in a) None) → AreBelow start earlier → AllByRecursion StandsBy earlier →
+      (RightsStand (own c held start a) i (take (width_of (own c held start a)) row) × RightsStand (own c held (start + columns_in a) b) i (drop (width_of (own c held start a)) row))
+      × AllByRecursion StandsBy (fold (with_colocated first rels) earlier (relations c a start None ++ relations c b (start + columns_in a) None))
+  both_stand a b start l y row earlier is laid long e in_a in_b stay follows below stand =
+      let wa : ℕ = columns_in a in
+      let wb : ℕ = columns_in b in
+      let ra : List Relation = relations c a start None in
+      let rb : List Relation = relations c b (start + wa) None in
+      let w : ℕ = width_of (own c held start a) in
+      let wide : length l ≡ w = long ∙ sym (own_width c held a start) in
+      let within_a = all_within c a start is.0 laid.0 in
+      let within_b = all_within c b (start + wa) is.1 laid.1 in
+      let left_part = in_a (all_left Stays ra rb stay) (follows_left first rels start wa wb ra rb within_a within_b earlier follows below) below stand in
+      let right_part = in_b (fold (with_colocated first rels) earlier ra) (all_right Stays ra rb stay) (follows_right first rels start wa wb ra rb within_a within_b earlier follows below)
+      (below_right first rels start wa wb ra rb within_a within_b earlier follows below) left_part.1 in (
+        (subst (RightsStand (own c held start a) i) (sym (ap (take w) e ∙ take_left l y w wide)) left_part.0, subst (RightsStand (own c held (start + wa) b) i) (sym (ap (drop w) e ∙ drop_left l y w wide)) right_part.0),
+        subst (AllByRecursion StandsBy) (sym (fold-append (with_colocated first rels) earlier ra rb)) right_part.1,
+      )
+
+  pub rights_stand : (f : FromTree) (start : ℕ) (row : Row) (earlier : List Distribution) → joins_tables f ≡ true → IsLaidFrom c (λ i. 0) f → IsChoice (own c held start f) row → IsPart whole_row start (columns_in f) row → StandAfter f start row earlier
   rights_stand (Table t n) start row earlier is laid h part stay follows below stand = (tt, subst (AllByRecursion StandsBy) (sym (plain_adds start (place_at c t) earlier)) stand)
   rights_stand (Sub' p q) start row earlier is laid h part stay follows below stand = cc
   rights_stand (Result k n) start row earlier is laid h part stay follows below stand = cc
   rights_stand (Cross' p (more_of-FromTree a end_of-FromTree) q (more_of-FromTree b end_of-FromTree)) start row earlier is laid (l, y, ca, cb, m, e) part stay follows below stand =
       let both = and_true (joins_tables a) (joins_tables b) is in
-      let wa : ℕ = columns_in a in
-      let wb : ℕ = columns_in b in
-      let ra : List Relation = relations c a start None in
-      let rb : List Relation = relations c b (start + wa) None in
-      let long : length l ≡ wa = own_long c held groups can only_here a start both.0 laid.0 l ca in
-      let here : IsPart whole_row start (wa + wb) (l ++ y) = subst (IsPart whole_row start (wa + wb)) e part in
-      let within_a = all_within c a start both.0 laid.0 in
-      let within_b = all_within c b (start + wa) both.1 laid.1 in
-      let left_part = rights_stand a start l earlier both.0 laid.0 ca (part_left whole_row start l y wa wb long here) (all_left Stays ra rb stay) (follows_left first rels start wa wb ra rb within_a within_b earlier follows below) below stand in
-      let right_part = rights_stand b (start + wa) y (fold (with_colocated first rels) earlier ra) both.1 laid.1 cb (part_right whole_row start l y wa wb long here) (all_right Stays ra rb stay)
-      (follows_right first rels start wa wb ra rb within_a within_b earlier follows below) (below_right first rels start wa wb ra rb within_a within_b earlier follows below) left_part.1 in
-      (both_rights a b start l y row long e left_part.0 right_part.0, subst (AllByRecursion StandsBy) (sym (fold-append (with_colocated first rels) earlier ra rb)) right_part.1)
+      let s = split c held groups can only_here whole_row a start (columns_in b) l y row both.0 laid.0 ca e part in
+      both_stand a b start l y row earlier both laid s.long e (rights_stand a start l earlier both.0 laid.0 ca s.left_part) (λ more. rights_stand b (start + columns_in a) y more both.1 laid.1 cb s.right_part)
+      stay follows below stand
   rights_stand (Inner' p (more_of-FromTree a end_of-FromTree) q (more_of-FromTree b end_of-FromTree) on) start row earlier is laid (l, y, ca, cb, m, e) part stay follows below stand =
       let both = and_true (joins_tables a) (joins_tables b) is in
-      let wa : ℕ = columns_in a in
-      let wb : ℕ = columns_in b in
-      let ra : List Relation = relations c a start None in
-      let rb : List Relation = relations c b (start + wa) None in
-      let long : length l ≡ wa = own_long c held groups can only_here a start both.0 laid.0 l ca in
-      let here : IsPart whole_row start (wa + wb) (l ++ y) = subst (IsPart whole_row start (wa + wb)) e part in
-      let within_a = all_within c a start both.0 laid.0 in
-      let within_b = all_within c b (start + wa) both.1 laid.1 in
-      let left_part = rights_stand a start l earlier both.0 laid.0 ca (part_left whole_row start l y wa wb long here) (all_left Stays ra rb stay) (follows_left first rels start wa wb ra rb within_a within_b earlier follows below) below stand in
-      let right_part = rights_stand b (start + wa) y (fold (with_colocated first rels) earlier ra) both.1 laid.1 cb (part_right whole_row start l y wa wb long here) (all_right Stays ra rb stay)
-      (follows_right first rels start wa wb ra rb within_a within_b earlier follows below) (below_right first rels start wa wb ra rb within_a within_b earlier follows below) left_part.1 in
-      (both_rights a b start l y row long e left_part.0 right_part.0, subst (AllByRecursion StandsBy) (sym (fold-append (with_colocated first rels) earlier ra rb)) right_part.1)
+      let s = split c held groups can only_here whole_row a start (columns_in b) l y row both.0 laid.0 ca e part in
+      both_stand a b start l y row earlier both laid s.long e (rights_stand a start l earlier both.0 laid.0 ca s.left_part) (λ more. rights_stand b (start + columns_in a) y more both.1 laid.1 cb s.right_part)
+      stay follows below stand
   rights_stand (Left' p (more_of-FromTree a end_of-FromTree) q (more_of-FromTree b end_of-FromTree) on) start row earlier is laid (l, y, ca, given, e) part stay follows below stand =
       let both = and_true (joins_tables a) (is_table b) is in
       let wa : ℕ = columns_in a in
@@ -220,14 +221,13 @@ module _ (c : Contents) (held : Held) (groups : List ℕ) (can : (g : ℕ) → C
       let o : Option OuterJoin = Some (record { left = start; equalities = equalities (conjuncts on) }) in
       let rb : List Relation = relations c b (start + wa) o in
       let w : ℕ = width_of (own c held start a) in
-      let long : length l ≡ wa = own_long c held groups can only_here a start both.0 laid.0 l ca in
-      let here : IsPart whole_row start (wa + wb) (l ++ y) = subst (IsPart whole_row start (wa + wb)) e part in
+      let s = split c held groups can only_here whole_row a start wb l y row both.0 laid.0 ca e part in
       let within_a = all_within c a start both.0 laid.0 in
       let within_b = right_within c b (start + wa) o both.1 laid.1 in
-      let left_part = rights_stand a start l earlier both.0 laid.0 ca (part_left whole_row start l y wa wb long here) (all_left Stays ra rb stay) (follows_left first rels start wa wb ra rb within_a within_b earlier follows below) below stand in
-      let right_part = right_side b both.1 laid.1 on start wa l y long here given (fold (with_colocated first rels) earlier ra) (all_right Stays ra rb stay)
+      let left_part = rights_stand a start l earlier both.0 laid.0 ca s.left_part (all_left Stays ra rb stay) (follows_left first rels start wa wb ra rb within_a within_b earlier follows below) below stand in
+      let right_part = right_side b both.1 laid.1 on start wa l y s.long s.both given (fold (with_colocated first rels) earlier ra) (all_right Stays ra rb stay)
       (follows_right first rels start wa wb ra rb within_a within_b earlier follows below) (below_right first rels start wa wb ra rb within_a within_b earlier follows below) left_part.1 in
-      let taken : take w row ≡ l = ap (take w) e ∙ take_left l y w (long ∙ sym (own_width c held a start)) in (
+      let taken : take w row ≡ l = ap (take w) e ∙ take_left l y w (s.long ∙ sym (own_width c held a start)) in (
         (
           subst (RightsStand (own c held start a) i) (sym taken) left_part.0,
           λ cut z h k. right_part.0 cut z h (subst (λ u. joins on [] start (u ++ z) ≡ true) taken k),

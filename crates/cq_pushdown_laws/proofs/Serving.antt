@@ -1,5 +1,5 @@
 -- The tasks of a query that is pushed serve for it.
-use Rattle.std.proofs.Common.{◌≡◌, ◌+◌, ◌≤◌, ◌⊎◌, inl, inr, ℕ, Bool, true, false, List, [], ◌∷◌, length, map, refl, sym, ◌∙◌, ap, subst, arith, None}
+use Rattle.std.proofs.Common.{◌≡◌, ◌≤◌, ◌⊎◌, inl, inr, ℕ, Bool, true, false, List, [], ◌∷◌, length, map, refl, sym, ◌∙◌, ap, subst, arith, None}
 use Rattle.std.specs.Prelude.{nat_eq, not, ◌&&◌, ◌||◌}
 use Rattle.std.specs.List.{AllByRecursion, list_any, list_all}
 use Rattle.cq_tree.specs.declared.expression.Cond.{Cond}
@@ -36,9 +36,9 @@ use Rattle.cq_pushdown_laws.specs.Pushed.{joins_tables, strays, are_pushed, is_p
 use Rattle.cq_pushdown_laws.specs.Tables.{HoldsOnly, task_tables, side_of}
 use Rattle.cq_pushdown_laws.proofs.Spread.{among_has, ascending_distinct}
 use Rattle.cq_pushdown_laws.proofs.Choices.{IsPart, own, own_says, all_fit}
-use Rattle.cq_pushdown_laws.proofs.Standing.{home_in, home_by, of_list, to_list, row_stands, plain_stand, plain_here}
+use Rattle.cq_pushdown_laws.proofs.Standing.{home_in, home_by, of_list, to_list, row_tells, plain_here}
 use Rattle.cq_pushdown_laws.proofs.Rights.{rights_stand}
-use Rattle.cq_pushdown_laws.proofs.Sharing.{AreHomed, home, IsSure, homed_serve, shares_serve}
+use Rattle.cq_pushdown_laws.proofs.Sharing.{apart_serve, shares_serve}
 
 -- ---- the way of combining
 
@@ -100,7 +100,7 @@ module _ (c : Contents) (held : Held) (groups : List ℕ) (can : (g : ℕ) → C
           let plain : AllByRecursion At (distributions is_plain rels) = subst (AllByRecursion At) (sym e) (refl, one_home c row first (one_value row h k) d ds both.0) in
           let here : AllByRecursion Here (d ∷ ds) = subst (AllByRecursion Here) e (to_list Here is_plain rels (plain_here c held groups can only_here row from 0 row is laid h part)) in
           let rights = rights_stand c held groups can only_here row i first rels (one_value row h k) plain from 0 row [] is laid h part (none_strays (strays first rels) rels both.1) (λ x lo hi. refl) (λ x lo. refl) tt in
-          (i, among_has i groups here.0.0, row_stands c held groups can only_here row i from 0 row is laid h part (of_list At is_plain rels plain), rights.0, inl here.0.1)
+          (i, among_has i groups here.0.0, (row_tells c held groups can only_here row i from 0 row is laid h part).0 (of_list At is_plain rels plain), rights.0, inl here.0.1)
 
   -- ---- the rows of a task
 
@@ -112,32 +112,12 @@ module _ (c : Contents) (held : Held) (groups : List ℕ) (can : (g : ℕ) → C
   task_row i m row h = rows_stand groups (own c held 0 from) (all_fit c held groups can only_here from 0 is laid) i m row (subst (λ rows. Has rows row) (sym (rows_at_are (side_of c) (whole c held) (task_tables c held) [] from 0 i)) h)
 
   module _ (d : Distribution) (ds : List Distribution) (plain : distributions is_plain rels ≡ d ∷ ds) where
-    task_home : (i : ℕ) → Has groups i → (row : Row) → Has (task_rows i) row → home d.column (home_in c d.colocation) row ≡ i
+    task_home : (i : ℕ) → Has groups i → (row : Row) → Has (task_rows i) row → home_by c row d ≡ i
     task_home i m row h =
         let t : IsChoice (own c held 0 from) row × (stands (own c held 0 from) i row ≡ true) = task_row i m row h in
         let At : Distribution → Type 0 = λ x. home_by c row x ≡ i in
-        let all : AllByRecursion At (d ∷ ds) = subst (AllByRecursion At) plain (to_list At is_plain rels (plain_stand c held groups can only_here row i from 0 row is laid t.0 (λ x lo hi. refl) t.1)) in
+        let all : AllByRecursion At (d ∷ ds) = subst (AllByRecursion At) plain (to_list At is_plain rels ((row_tells c held groups can only_here row i from 0 row is laid t.0 (λ x lo hi. refl)).1 t.1)) in
         all.0
-
-    each_row : (P : Row → Type 0) (rows : List Row) → ((row : Row) → Has rows row → P row) → AllByRecursion P rows
-    each_row P [] f = tt
-    each_row P (r ∷ rows) f = (f r (inl refl), each_row P rows (λ row h. f row (inr h)))
-
-    tasks_homed : (low : ℕ) (gs : List ℕ) → IsAscendingFrom low gs → ((i : ℕ) → Has gs i → Has groups i) → AreHomed (home d.column (home_in c d.colocation)) low (map task_rows gs)
-    tasks_homed low [] ascending within = tt
-    tasks_homed low (g ∷ gs) ascending within = (
-      g,
-      ascending.0,
-      each_row (λ row. home d.column (home_in c d.colocation) row ≡ g) (task_rows g) (task_home g (within g (inl refl))),
-      tasks_homed (g + 1) gs ascending.1 (λ i m. within i (inr m)),
-    )
-
-    tasks_sure : (gs : List ℕ) → ((i : ℕ) → Has gs i → Has groups i) → AllByRecursion (AllByRecursion (IsSure d.column (home_in c d.colocation) filter_ from)) (map task_rows gs)
-    tasks_sure [] within = tt
-    tasks_sure (g ∷ gs) within = (
-      each_row (IsSure d.column (home_in c d.colocation) filter_ from) (task_rows g) (λ row h kept x e. one_value row (task_row g (within g (inl refl)) row h).0 kept x d.column e),
-      tasks_sure gs (λ i m. within i (inr m)),
-    )
 
 -- ---- the laws
 
@@ -175,8 +155,10 @@ parts_apart c (Query' cs ctes ss subs from filter_ grouped keys aggs having item
     by_list : (ds : List Distribution) → distributions is_plain rels ≡ ds → are_pushed first rels ds ≡ true → Serves RowsOnly q [] (map (λ i. from_rows from 0 (task_tables c held i) []) groups)
     by_list [] e p = cc
     by_list (d ∷ ds) e p =
-        homed_serve d.column (home_in c d.colocation) q (ap (λ xs. shares_rows (first_column xs) q) (sym e) ∙ apart) 0 (map (λ i. from_rows from 0 (task_tables c held i) []) groups)
-        (tasks_homed c held groups can only_here filter_ from both.0 laid.0 d ds e 0 groups ascending (λ i m. m)) (tasks_sure c held groups can only_here filter_ from both.0 laid.0 d ds e groups (λ i m. m))
+        apart_serve d.column (home_in c d.colocation) filter_ from (λ i. from_rows from 0 (task_tables c held i) []) groups (ascending_distinct 0 groups ascending)
+        (task_home c held groups can only_here filter_ from both.0 laid.0 d ds e)
+        (λ i m row h kept x same. one_value c held groups can only_here filter_ from both.0 laid.0 row (task_row c held groups can only_here filter_ from both.0 laid.0 i m row h).0 kept x d.column same)
+        grouped keys aggs having items shown distinct (ap (λ xs. shares_rows (first_column xs) q) (sym e) ∙ apart)
 
 pub parts_serve : PartsServe
 parts_serve c q held groups w laid pushed can ascending some only_here = serving (combine_by 2 (shares_rows at q)) c q held groups laid pushed can ascending only_here (elim (two_ways (shares_rows at q)) [

@@ -1,6 +1,6 @@
 -- Where a kept row of a FROM of tables stands, by the relations that aren't right sides.
-use Rattle.std.proofs.Common.{◌≡◌, ◌+◌, inl, inr, ℕ, Bool, true, false, List, [], ◌∷◌, ◌++◌, length, take, drop, slice_get, refl, sym, ◌∙◌, ap, subst, arith, eq-eqb, Some, None, is_some}
-use Rattle.std.specs.Prelude.{nat_eq, not, ◌&&◌, ◌||◌}
+use Rattle.std.proofs.Common.{◌≡◌, ◌+◌, inl, inr, ℕ, Bool, true, false, List, [], ◌∷◌, ◌++◌, length, take, drop, slice_get, refl, sym, ◌∙◌, ap, arith, eq-eqb, Some, None, is_some}
+use Rattle.std.specs.Prelude.{nat_eq, not, ◌&&◌, ◌||◌, ◌↔◌}
 use Rattle.std.specs.List.{AllByRecursion}
 use Rattle.cq_value.specs.declared.value.Value.{Value}
 use Rattle.cq_value.specs.Placement.{token_of}
@@ -28,7 +28,7 @@ use Rattle.cq_planning_laws.proofs.Columns.{column_pad}
 use Rattle.cq_pushdown_laws.specs.Pushed.{is_table, joins_tables}
 use Rattle.cq_pushdown_laws.specs.Tables.{HoldsOnly, side_at}
 use Rattle.cq_pushdown_laws.proofs.Spread.{row_among}
-use Rattle.cq_pushdown_laws.proofs.Choices.{IsPart, part_left, part_right, own, own_long, own_width}
+use Rattle.cq_pushdown_laws.proofs.Choices.{IsPart, own, own_width, split}
 
 -- ---- distribution columns
 
@@ -74,106 +74,59 @@ module _ (c : Contents) (held : Held) (groups : List ℕ) (can : (g : ℕ) → C
     abbrev pub IsPlainAt : Relation → Type 0
     IsPlainAt r = is_plain r ≡ true → home_by c whole_row (distribution_of r) ≡ i
 
-    table_stands : (t n start : ℕ) (row : Row) (p : Place) → place_at c t ≡ p → IsColumnOf n p → IsPart whole_row start n row →
-        IsPlainAt (record { start = start; distribution = distribution_at start p; outer = None }) → (not (side_at c t p).cut || nat_eq ((side_at c t p).home row) i) ≡ true
-    table_stands t n start row Local e there part plain = refl
-    table_stands t n start row (Reference group shard) e there part plain = refl
-    table_stands t n start row (Distributed at colocation first_shard) e there part plain =
-        let value : column whole_row (start + at) ≡ column row at = part (start + at) (omega arith) (omega (arith, there)) ∙ column_pad start row at in
-        eq-eqb (group_of c t (column row at)) i (group_is c t at colocation first_shard e (column row at) ∙ ap (home_in c colocation) (sym value) ∙ plain refl)
+    -- this is the group of each plain relation exactly where the row stands there
+    abbrev pub Tells : FromTree → ℕ → Row → Type 0
+    Tells f start row = AllByRecursion IsPlainAt (relations c f start None) ↔ (stands (own c held start f) i row ≡ true)
 
-    both_stand : (a b : FromTree) (start : ℕ) (l y row : Row) → length l ≡ columns_in a → row ≡ l ++ y → stands (own c held start a) i l ≡ true → stands (own c held (start + columns_in a) b) i y ≡ true →
-        (stands (own c held start a) i (take (width_of (own c held start a)) row) && stands (own c held (start + columns_in a) b) i (drop (width_of (own c held start a)) row)) ≡ true
-    both_stand a b start l y row long e sa sb =
+    table_tells : (t n start : ℕ) (row : Row) (p : Place) → place_at c t ≡ p → IsColumnOf n p → IsPart whole_row start n row →
+        IsPlainAt (record { start = start; distribution = distribution_at start p; outer = None }) ↔ ((not (side_at c t p).cut || nat_eq ((side_at c t p).home row) i) ≡ true)
+    table_tells t n start row Local e there part = (λ plain. refl, λ here plain. cc)
+    table_tells t n start row (Reference group shard) e there part = (λ plain. refl, λ here plain. cc)
+    table_tells t n start row (Distributed at colocation first_shard) e there part =
+        let value : column whole_row (start + at) ≡ column row at = part (start + at) (omega arith) (omega (arith, there)) ∙ column_pad start row at in
+        let same : home_in c colocation (column whole_row (start + at)) ≡ group_of c t (column row at) = ap (home_in c colocation) value ∙ sym (group_is c t at colocation first_shard e (column row at)) in
+        (λ plain. eq-eqb (group_of c t (column row at)) i (sym same ∙ plain refl), λ here plain. same ∙ same_number (group_of c t (column row at)) i here)
+
+    both_tell : (a b : FromTree) (start : ℕ) (l y row : Row) → length l ≡ columns_in a → row ≡ l ++ y → Tells a start l → Tells b (start + columns_in a) y →
+        AllByRecursion IsPlainAt (relations c a start None ++ relations c b (start + columns_in a) None)
+        ↔ ((stands (own c held start a) i (take (width_of (own c held start a)) row) && stands (own c held (start + columns_in a) b) i (drop (width_of (own c held start a)) row)) ≡ true)
+    both_tell a b start l y row long e tells_a tells_b =
         let w : ℕ = width_of (own c held start a) in
         let wide : length l ≡ w = long ∙ sym (own_width c held a start) in
-        both_true (stands (own c held start a) i (take w row)) (stands (own c held (start + columns_in a) b) i (drop w row))
-        (ap (stands (own c held start a) i) (ap (take w) e ∙ take_left l y w wide) ∙ sa) (ap (stands (own c held (start + columns_in a) b) i) (ap (drop w) e ∙ drop_left l y w wide) ∙ sb)
+        let in_a : stands (own c held start a) i (take w row) ≡ stands (own c held start a) i l = ap (stands (own c held start a) i) (ap (take w) e ∙ take_left l y w wide) in
+        let in_b : stands (own c held (start + columns_in a) b) i (drop w row) ≡ stands (own c held (start + columns_in a) b) i y = ap (stands (own c held (start + columns_in a) b) i) (ap (drop w) e ∙ drop_left l y w wide) in
+        let ra : List Relation = relations c a start None in
+        let rb : List Relation = relations c b (start + columns_in a) None in (
+          λ plain. both_true (stands (own c held start a) i (take w row)) (stands (own c held (start + columns_in a) b) i (drop w row)) (in_a ∙ tells_a.0 (all_left IsPlainAt ra rb plain)) (in_b ∙ tells_b.0 (all_right IsPlainAt ra rb plain)),
+          λ here.
+              (let both = and_true (stands (own c held start a) i (take w row)) (stands (own c held (start + columns_in a) b) i (drop w row)) here in
+              all_append IsPlainAt ra rb (tells_a.1 (sym in_a ∙ both.0)) (tells_b.1 (sym in_b ∙ both.1))),
+        )
 
-    -- where the group of each plain relation is this one, the row stands there
-    pub row_stands : (f : FromTree) (start : ℕ) (row : Row) → joins_tables f ≡ true → IsLaidFrom c (λ i. 0) f → IsChoice (own c held start f) row → IsPart whole_row start (columns_in f) row →
-        AllByRecursion IsPlainAt (relations c f start None) → stands (own c held start f) i row ≡ true
-    row_stands (Table t n) start row is laid h part plain = table_stands t n start row (place_at c t) refl laid.1 part plain.0
-    row_stands (Sub' p q) start row is laid h part plain = cc
-    row_stands (Result k n) start row is laid h part plain = cc
-    row_stands (Cross' p (more_of-FromTree a end_of-FromTree) q (more_of-FromTree b end_of-FromTree)) start row is laid (l, y, ca, cb, m, e) part plain =
+    pub row_tells : (f : FromTree) (start : ℕ) (row : Row) → joins_tables f ≡ true → IsLaidFrom c (λ i. 0) f → IsChoice (own c held start f) row → IsPart whole_row start (columns_in f) row → Tells f start row
+    row_tells (Table t n) start row is laid h part = let tells = table_tells t n start row (place_at c t) refl laid.1 part in (λ plain. tells.0 plain.0, λ here. (tells.1 here, tt))
+    row_tells (Sub' p q) start row is laid h part = cc
+    row_tells (Result k n) start row is laid h part = cc
+    row_tells (Cross' p (more_of-FromTree a end_of-FromTree) q (more_of-FromTree b end_of-FromTree)) start row is laid (l, y, ca, cb, m, e) part =
         let both = and_true (joins_tables a) (joins_tables b) is in
-        let wa : ℕ = columns_in a in
-        let long : length l ≡ wa = own_long c held groups can only_here a start both.0 laid.0 l ca in
-        let here : IsPart whole_row start (wa + columns_in b) (l ++ y) = subst (IsPart whole_row start (wa + columns_in b)) e part in
-        both_stand a b start l y row long e
-        (row_stands a start l both.0 laid.0 ca (part_left whole_row start l y wa (columns_in b) long here) (all_left IsPlainAt (relations c a start None) (relations c b (start + wa) None) plain))
-        (row_stands b (start + wa) y both.1 laid.1 cb (part_right whole_row start l y wa (columns_in b) long here) (all_right IsPlainAt (relations c a start None) (relations c b (start + wa) None) plain))
-    row_stands (Inner' p (more_of-FromTree a end_of-FromTree) q (more_of-FromTree b end_of-FromTree) on) start row is laid (l, y, ca, cb, m, e) part plain =
+        let s = split c held groups can only_here whole_row a start (columns_in b) l y row both.0 laid.0 ca e part in
+        both_tell a b start l y row s.long e (row_tells a start l both.0 laid.0 ca s.left_part) (row_tells b (start + columns_in a) y both.1 laid.1 cb s.right_part)
+    row_tells (Inner' p (more_of-FromTree a end_of-FromTree) q (more_of-FromTree b end_of-FromTree) on) start row is laid (l, y, ca, cb, m, e) part =
         let both = and_true (joins_tables a) (joins_tables b) is in
-        let wa : ℕ = columns_in a in
-        let long : length l ≡ wa = own_long c held groups can only_here a start both.0 laid.0 l ca in
-        let here : IsPart whole_row start (wa + columns_in b) (l ++ y) = subst (IsPart whole_row start (wa + columns_in b)) e part in
-        both_stand a b start l y row long e
-        (row_stands a start l both.0 laid.0 ca (part_left whole_row start l y wa (columns_in b) long here) (all_left IsPlainAt (relations c a start None) (relations c b (start + wa) None) plain))
-        (row_stands b (start + wa) y both.1 laid.1 cb (part_right whole_row start l y wa (columns_in b) long here) (all_right IsPlainAt (relations c a start None) (relations c b (start + wa) None) plain))
-    row_stands (Left' p (more_of-FromTree a end_of-FromTree) q (more_of-FromTree b end_of-FromTree) on) start row is laid (l, y, ca, cb, e) part plain =
+        let s = split c held groups can only_here whole_row a start (columns_in b) l y row both.0 laid.0 ca e part in
+        both_tell a b start l y row s.long e (row_tells a start l both.0 laid.0 ca s.left_part) (row_tells b (start + columns_in a) y both.1 laid.1 cb s.right_part)
+    row_tells (Left' p (more_of-FromTree a end_of-FromTree) q (more_of-FromTree b end_of-FromTree) on) start row is laid (l, y, ca, cb, e) part =
         let both = and_true (joins_tables a) (is_table b) is in
-        let wa : ℕ = columns_in a in
-        let long : length l ≡ wa = own_long c held groups can only_here a start both.0 laid.0 l ca in
-        let w : ℕ = width_of (own c held start a) in
-        let here : IsPart whole_row start (wa + columns_in b) (l ++ y) = subst (IsPart whole_row start (wa + columns_in b)) e part in
-        ap (stands (own c held start a) i) (ap (take w) e ∙ take_left l y w (long ∙ sym (own_width c held a start)))
-        ∙ row_stands a start l both.0 laid.0 ca (part_left whole_row start l y wa (columns_in b) long here)
-        (all_left IsPlainAt (relations c a start None) (relations c b (start + wa) (Some (record { left = start; equalities = equalities (conjuncts on) }))) plain)
-
-    -- and where the row stands there, that is the group of each plain relation
-    table_plain : (t n start : ℕ) (row : Row) (p : Place) → place_at c t ≡ p → IsColumnOf n p → IsPart whole_row start n row →
-        (not (side_at c t p).cut || nat_eq ((side_at c t p).home row) i) ≡ true → IsPlainAt (record { start = start; distribution = distribution_at start p; outer = None })
-    table_plain t n start row Local e there part here = λ plain. cc
-    table_plain t n start row (Reference group shard) e there part here = λ plain. cc
-    table_plain t n start row (Distributed at colocation first_shard) e there part here = λ plain.
-        let value : column whole_row (start + at) ≡ column row at = part (start + at) (omega arith) (omega (arith, there)) ∙ column_pad start row at in
-        ap (home_in c colocation) value ∙ sym (group_is c t at colocation first_shard e (column row at)) ∙ same_number (group_of c t (column row at)) i here
-
-    both_halves : (a b : FromTree) (start : ℕ) (l y row : Row) → length l ≡ columns_in a → row ≡ l ++ y →
-        (stands (own c held start a) i (take (width_of (own c held start a)) row) && stands (own c held (start + columns_in a) b) i (drop (width_of (own c held start a)) row)) ≡ true →
-        (stands (own c held start a) i l ≡ true) × (stands (own c held (start + columns_in a) b) i y ≡ true)
-    both_halves a b start l y row long e here =
-        let w : ℕ = width_of (own c held start a) in
-        let wide : length l ≡ w = long ∙ sym (own_width c held a start) in
-        let both = and_true (stands (own c held start a) i (take w row)) (stands (own c held (start + columns_in a) b) i (drop w row)) here in
-        (ap (stands (own c held start a) i) (sym (ap (take w) e ∙ take_left l y w wide)) ∙ both.0, ap (stands (own c held (start + columns_in a) b) i) (sym (ap (drop w) e ∙ drop_left l y w wide)) ∙ both.1)
-
-    pub plain_stand : (f : FromTree) (start : ℕ) (row : Row) → joins_tables f ≡ true → IsLaidFrom c (λ i. 0) f → IsChoice (own c held start f) row → IsPart whole_row start (columns_in f) row →
-        stands (own c held start f) i row ≡ true → AllByRecursion IsPlainAt (relations c f start None)
-    plain_stand (Table t n) start row is laid h part here = (table_plain t n start row (place_at c t) refl laid.1 part here, tt)
-    plain_stand (Sub' p q) start row is laid h part here = cc
-    plain_stand (Result k n) start row is laid h part here = cc
-    plain_stand (Cross' p (more_of-FromTree a end_of-FromTree) q (more_of-FromTree b end_of-FromTree)) start row is laid (l, y, ca, cb, m, e) part here =
-        let both = and_true (joins_tables a) (joins_tables b) is in
-        let wa : ℕ = columns_in a in
-        let long : length l ≡ wa = own_long c held groups can only_here a start both.0 laid.0 l ca in
-        let whole_part : IsPart whole_row start (wa + columns_in b) (l ++ y) = subst (IsPart whole_row start (wa + columns_in b)) e part in
-        let halves = both_halves a b start l y row long e here in
-        all_append IsPlainAt (relations c a start None) (relations c b (start + wa) None)
-        (plain_stand a start l both.0 laid.0 ca (part_left whole_row start l y wa (columns_in b) long whole_part) halves.0)
-        (plain_stand b (start + wa) y both.1 laid.1 cb (part_right whole_row start l y wa (columns_in b) long whole_part) halves.1)
-    plain_stand (Inner' p (more_of-FromTree a end_of-FromTree) q (more_of-FromTree b end_of-FromTree) on) start row is laid (l, y, ca, cb, m, e) part here =
-        let both = and_true (joins_tables a) (joins_tables b) is in
-        let wa : ℕ = columns_in a in
-        let long : length l ≡ wa = own_long c held groups can only_here a start both.0 laid.0 l ca in
-        let whole_part : IsPart whole_row start (wa + columns_in b) (l ++ y) = subst (IsPart whole_row start (wa + columns_in b)) e part in
-        let halves = both_halves a b start l y row long e here in
-        all_append IsPlainAt (relations c a start None) (relations c b (start + wa) None)
-        (plain_stand a start l both.0 laid.0 ca (part_left whole_row start l y wa (columns_in b) long whole_part) halves.0)
-        (plain_stand b (start + wa) y both.1 laid.1 cb (part_right whole_row start l y wa (columns_in b) long whole_part) halves.1)
-    plain_stand (Left' p (more_of-FromTree a end_of-FromTree) q (more_of-FromTree b end_of-FromTree) on) start row is laid (l, y, ca, cb, e) part here =
-        let both = and_true (joins_tables a) (is_table b) is in
-        let wa : ℕ = columns_in a in
+        let s = split c held groups can only_here whole_row a start (columns_in b) l y row both.0 laid.0 ca e part in
         let w : ℕ = width_of (own c held start a) in
         let o : OuterJoin = record { left = start; equalities = equalities (conjuncts on) } in
-        let long : length l ≡ wa = own_long c held groups can only_here a start both.0 laid.0 l ca in
-        let whole_part : IsPart whole_row start (wa + columns_in b) (l ++ y) = subst (IsPart whole_row start (wa + columns_in b)) e part in
-        let taken : take w row ≡ l = ap (take w) e ∙ take_left l y w (long ∙ sym (own_width c held a start)) in
-        all_append IsPlainAt (relations c a start None) (relations c b (start + wa) (Some o))
-        (plain_stand a start l both.0 laid.0 ca (part_left whole_row start l y wa (columns_in b) long whole_part) (ap (stands (own c held start a) i) (sym taken) ∙ here))
-        (right_never c (λ r. home_by c whole_row (distribution_of r) ≡ i) b (start + wa) o both.1)
+        let ra : List Relation = relations c a start None in
+        let rb : List Relation = relations c b (start + columns_in a) (Some o) in
+        let in_a : stands (own c held start a) i (take w row) ≡ stands (own c held start a) i l = ap (stands (own c held start a) i) (ap (take w) e ∙ take_left l y w (s.long ∙ sym (own_width c held a start))) in
+        let tells = row_tells a start l both.0 laid.0 ca s.left_part in (
+          λ plain. in_a ∙ tells.0 (all_left IsPlainAt ra rb plain),
+          λ here. all_append IsPlainAt ra rb (tells.1 (sym in_a ∙ here)) (right_never c (λ r. home_by c whole_row (distribution_of r) ≡ i) b (start + columns_in a) o both.1),
+        )
 
   -- ---- the group is one of these
 
@@ -190,16 +143,14 @@ module _ (c : Contents) (held : Held) (groups : List ℕ) (can : (g : ℕ) → C
       let same : home_in c colocation (column whole_row (start + at)) ≡ group_of c t (column row at) = ap (home_in c colocation) value ∙ sym (group_is c t at colocation first_shard e (column row at)) in
       (ap (λ g. among g groups) same ∙ row_among c held groups can only_here t at colocation first_shard e row h, refl)
 
-  here_left : (x y : Bool) (rels : List Relation) → AllByRecursion (IsPlainHere x) rels → AllByRecursion (IsPlainHere (x || y)) rels
-  here_left x y rels all = all_weaker (IsPlainHere x) (IsPlainHere (x || y)) (λ r h plain. let k = h plain in (k.0, rw k.1 refl)) rels all
-
-  here_right : (x y : Bool) (rels : List Relation) → AllByRecursion (IsPlainHere y) rels → AllByRecursion (IsPlainHere (x || y)) rels
-  here_right x y rels all = all_weaker (IsPlainHere y) (IsPlainHere (x || y)) (λ r h plain. let k = h plain in (k.0, either x y k.1)) rels all
+  both_here : (x y : Bool) (ra rb : List Relation) → AllByRecursion (IsPlainHere x) ra → AllByRecursion (IsPlainHere y) rb → AllByRecursion (IsPlainHere (x || y)) (ra ++ rb)
+  both_here x y ra rb ha hb =
+      all_append (IsPlainHere (x || y)) ra rb (all_weaker (IsPlainHere x) (IsPlainHere (x || y)) (λ r h plain. let k = h plain in (k.0, rw k.1 refl)) ra ha)
+      (all_weaker (IsPlainHere y) (IsPlainHere (x || y)) (λ r h plain. let k = h plain in (k.0, either x y k.1)) rb hb)
     where
       either : (x y : Bool) → y ≡ true → (x || y) ≡ true
       either true y e = refl
       either false y e = e
-
 
   pub plain_here : (f : FromTree) (start : ℕ) (row : Row) → joins_tables f ≡ true → IsLaidFrom c (λ i. 0) f → IsChoice (own c held start f) row → IsPart whole_row start (columns_in f) row →
       AllByRecursion (IsPlainHere (has_cut (own c held start f))) (relations c f start None)
@@ -208,30 +159,19 @@ module _ (c : Contents) (held : Held) (groups : List ℕ) (can : (g : ℕ) → C
   plain_here (Result k n) start row is laid h part = cc
   plain_here (Cross' p (more_of-FromTree a end_of-FromTree) q (more_of-FromTree b end_of-FromTree)) start row is laid (l, y, ca, cb, m, e) part =
       let both = and_true (joins_tables a) (joins_tables b) is in
-      let wa : ℕ = columns_in a in
-      let ka : Bool = has_cut (own c held start a) in
-      let kb : Bool = has_cut (own c held (start + wa) b) in
-      let long : length l ≡ wa = own_long c held groups can only_here a start both.0 laid.0 l ca in
-      let here : IsPart whole_row start (wa + columns_in b) (l ++ y) = subst (IsPart whole_row start (wa + columns_in b)) e part in
-      all_append (IsPlainHere (ka || kb)) (relations c a start None) (relations c b (start + wa) None)
-      (here_left ka kb (relations c a start None) (plain_here a start l both.0 laid.0 ca (part_left whole_row start l y wa (columns_in b) long here)))
-      (here_right ka kb (relations c b (start + wa) None) (plain_here b (start + wa) y both.1 laid.1 cb (part_right whole_row start l y wa (columns_in b) long here)))
+      let s = split c held groups can only_here whole_row a start (columns_in b) l y row both.0 laid.0 ca e part in
+      both_here (has_cut (own c held start a)) (has_cut (own c held (start + columns_in a) b)) (relations c a start None) (relations c b (start + columns_in a) None)
+      (plain_here a start l both.0 laid.0 ca s.left_part) (plain_here b (start + columns_in a) y both.1 laid.1 cb s.right_part)
   plain_here (Inner' p (more_of-FromTree a end_of-FromTree) q (more_of-FromTree b end_of-FromTree) on) start row is laid (l, y, ca, cb, m, e) part =
       let both = and_true (joins_tables a) (joins_tables b) is in
-      let wa : ℕ = columns_in a in
-      let ka : Bool = has_cut (own c held start a) in
-      let kb : Bool = has_cut (own c held (start + wa) b) in
-      let long : length l ≡ wa = own_long c held groups can only_here a start both.0 laid.0 l ca in
-      let here : IsPart whole_row start (wa + columns_in b) (l ++ y) = subst (IsPart whole_row start (wa + columns_in b)) e part in
-      all_append (IsPlainHere (ka || kb)) (relations c a start None) (relations c b (start + wa) None)
-      (here_left ka kb (relations c a start None) (plain_here a start l both.0 laid.0 ca (part_left whole_row start l y wa (columns_in b) long here)))
-      (here_right ka kb (relations c b (start + wa) None) (plain_here b (start + wa) y both.1 laid.1 cb (part_right whole_row start l y wa (columns_in b) long here)))
+      let s = split c held groups can only_here whole_row a start (columns_in b) l y row both.0 laid.0 ca e part in
+      both_here (has_cut (own c held start a)) (has_cut (own c held (start + columns_in a) b)) (relations c a start None) (relations c b (start + columns_in a) None)
+      (plain_here a start l both.0 laid.0 ca s.left_part) (plain_here b (start + columns_in a) y both.1 laid.1 cb s.right_part)
   plain_here (Left' p (more_of-FromTree a end_of-FromTree) q (more_of-FromTree b end_of-FromTree) on) start row is laid (l, y, ca, cb, e) part =
       let both = and_true (joins_tables a) (is_table b) is in
       let wa : ℕ = columns_in a in
       let ka : Bool = has_cut (own c held start a) in
       let o : OuterJoin = record { left = start; equalities = equalities (conjuncts on) } in
-      let long : length l ≡ wa = own_long c held groups can only_here a start both.0 laid.0 l ca in
-      let here : IsPart whole_row start (wa + columns_in b) (l ++ y) = subst (IsPart whole_row start (wa + columns_in b)) e part in
+      let s = split c held groups can only_here whole_row a start (columns_in b) l y row both.0 laid.0 ca e part in
       all_append (IsPlainHere ka) (relations c a start None) (relations c b (start + wa) (Some o))
-      (plain_here a start l both.0 laid.0 ca (part_left whole_row start l y wa (columns_in b) long here)) (right_never c (λ r. (among (home_by c whole_row (distribution_of r)) groups ≡ true) × (ka ≡ true)) b (start + wa) o both.1)
+      (plain_here a start l both.0 laid.0 ca s.left_part) (right_never c (λ r. (among (home_by c whole_row (distribution_of r)) groups ≡ true) × (ka ≡ true)) b (start + wa) o both.1)

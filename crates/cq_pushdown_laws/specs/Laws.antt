@@ -12,16 +12,16 @@ use Rattle.cq_outline.specs.Tasking.{first_column, shares_rows, combine_by}
 use Rattle.cq_pushdown_laws.specs.Pushed.{is_pushed}
 use Rattle.cq_pushdown_laws.specs.Tables.{task_tables, HoldsOnly, side_of}
 
--- the tasks of a query that is pushed serve for it, where this says whether they can share groups or output rows
+-- the tasks of a query that is pushed serve for it, where this says whether they may share groups or output rows
 abbrev pub ServesBy : (Contents → Query → Bool) → Type 0
 ServesBy shares = (c : Contents) (q : Query) (held : Held) (groups : List ℕ) → IsWhole c → IsLaid c (λ i. 0) q → is_pushed c q ≡ true →
     ((g : ℕ) → CanHold c g (held g)) → IsAscendingFrom 0 groups → 1 ≤ length groups → HoldsOnly c held groups →
     TasksServe (side_of c) (combine_by 2 (shares c q)) q (whole c held) (task_tables c held) [] groups
 
--- wherever the query groups or has DISTINCT
+-- they may wherever the query groups or has DISTINCT
 abbrev pub PushdownServes : Type 0
 PushdownServes = ServesBy (λ c q. (out-Query q).grouped || (out-Query q).distinct)
 
--- only where no key, or with DISTINCT no output, is of the class of the first distribution column, as the plan has it
+-- they may only where no key, or with DISTINCT no output, is of the class of the first distribution column, as the plan has it
 abbrev pub PartsServe : Type 0
 PartsServe = ServesBy (λ c q. shares_rows (first_column (plain_in c q)) q)
