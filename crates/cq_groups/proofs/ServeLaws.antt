@@ -31,7 +31,6 @@ use Rattle.cq_tasks.specs.Execution.{reads_by, task_rows, has_large_task}
 use Rattle.cq_whole.specs.Tables.{tables_from, tables_in, tables_of_steps, tables_of_statement}
 use Rattle.cq_whole.proofs.TableLaws.{meaning_alike, large_alike, tables_suffice}
 use Rattle.cq_catalog.specs.Contents.{Contents}
-use Rattle.cq_catalog.specs.Whole.{IsWhole}
 use Rattle.cq_planning.specs.Classes.{first_of_class}
 use Rattle.cq_planning.specs.Database.{IsRowOf, whole}
 use Rattle.cq_planning.specs.Joins.{equalities_of, relations_of, plain_in}
@@ -149,7 +148,7 @@ never_nothing : (b : Bool) → combine_by 2 b ≡ Nothing → ⊥
 never_nothing true e = cc
 never_nothing false e = cc
 
-module _ {X : Type 0} (c : Contents) (groups : List (GroupState X)) {nodes : ℕ} (shaped : AreShaped c nodes groups) (legal : (g : ℕ) → IsLegal c g (journal_in (journals_of groups) g)) (is_whole : IsWhole c) (wants : Wants)
+module _ {X : Type 0} (c : Contents) (groups : List (GroupState X)) {nodes : ℕ} (shaped : AreShaped c nodes groups) (legal : (g : ℕ) → IsLegal c g (journal_in (journals_of groups) g)) (wants : Wants)
     (q : Query) (readable : IsReadable c q) (alone : is_alone q ≡ true) (several : are_several (count_tasks c (looks_of c q)) ≡ true) (pushed : is_pushed c q ≡ true) where
   abbrev tables : List ℕ
   tables = tables_of_statement q
@@ -233,7 +232,7 @@ module _ {X : Type 0} (c : Contents) (groups : List (GroupState X)) {nodes : ℕ
   small db = tables_small (from_of q) joins db []
 
   serve : TasksServe (side_of c) (kind_by c q) q (whole c (held c tables rows gs)) task [] ts
-  serve = parts_serve c q (held c tables rows gs) ts is_whole (query_laid c readable.laid.0 q joins readable.laid.1) pushed (can c tables rows gs placed) (tasks_ascend c tables 0 gs ascending) (let some = count.0 in omega (arith, some)) (only_there c tables rows gs)
+  serve = parts_serve c q (held c tables rows gs) ts (query_laid c readable.laid.0 q joins readable.laid.1) pushed (can c tables rows gs placed) (tasks_ascend c tables 0 gs ascending) (let some = count.0 in omega (arith, some)) (only_there c tables rows gs)
 
   -- ---- what they read agrees with the placement
 
@@ -301,9 +300,9 @@ module _ {X : Type 0} (c : Contents) (groups : List (GroupState X)) {nodes : ℕ
   tasks_serve = subst (λ reads. CanServe (kind_by c q) q reads (merged seen)) (sym reads_are) read_serves
 
 -- so do those that a query has by its way
-pub way_serves : {X : Type 0} (c : Contents) (groups : List (GroupState X)) {nodes : ℕ} → AreShaped c nodes groups → ((g : ℕ) → IsLegal c g (journal_in (journals_of groups) g)) → IsWhole c → (wants : Wants) (q : Query) → IsReadable c q →
+pub way_serves : {X : Type 0} (c : Contents) (groups : List (GroupState X)) {nodes : ℕ} → AreShaped c nodes groups → ((g : ℕ) → IsLegal c g (journal_in (journals_of groups) g)) → (wants : Wants) (q : Query) → IsReadable c q →
     (looks : List Look) → looks ≡ looks_of c q → (way : Option Combine) → way ≡ way_by c q looks → WayServes way c q looks (narrow wants (captured_by groups looks)) (merged (narrow wants (captured_by groups looks)))
-way_serves c groups shaped legal is_whole wants q readable looks planned way is =
+way_serves c groups shaped legal wants q readable looks planned way is =
     subst (λ (ls : List Look). WayServes way c q ls (narrow wants (captured_by groups ls)) (merged (narrow wants (captured_by groups ls)))) (sym planned)
     (subst (λ w. WayServes w c q (looks_of c q) (narrow wants (captured_by groups (looks_of c q))) (merged (narrow wants (captured_by groups (looks_of c q))))) (sym (is ∙ ap (way_by c q) planned)) by_tests)
   where
@@ -314,7 +313,7 @@ way_serves c groups shaped legal is_whole wants q readable looks planned way is 
         | inr n ↦ rw (alone, n) tt
         | inl several ↦ elim (two_ways (is_pushed c q)) [
           | inr n ↦ rw (alone, several, n) tt
-          | inl pushed ↦ rw (alone, several, pushed) (tasks_serve c groups shaped legal is_whole wants q readable alone several pushed)
+          | inl pushed ↦ rw (alone, several, pushed) (tasks_serve c groups shaped legal wants q readable alone several pushed)
         ]
       ]
     ]

@@ -1,5 +1,5 @@
 -- What the tasks of a query read, of all that was read in the order of its looks.
-use Rattle.std.proofs.Common.{◌≡◌, ◌<◌, inl, inr, ℕ, Bool, true, false, cond, List, [], ◌∷◌, ◌++◌, map, fold, filter, length, take, drop, refl, sym, ◌∙◌, ap, subst, arith, append-nil, append_assoc}
+use Rattle.std.proofs.Common.{◌≡◌, ◌+◌, ◌≤◌, ◌<◌, inl, inr, ℕ, Bool, true, false, cond, List, [], ◌∷◌, ◌++◌, map, fold, filter, length, take, drop, refl, sym, ◌∙◌, ap, subst, arith, append-nil, append_assoc}
 use Rattle.std.specs.Prelude.{◌⊎◌, not, ◌&&◌, ◌||◌, nat_eq}
 use Rattle.std.specs.List.{flat_map, list_any, AllByRecursion}
 use Rattle.std.proofs.lemmas.Bool.{eq-eqb}
@@ -268,14 +268,16 @@ module _ (c : Contents) (tables : List ℕ) where
               passed (λ u. not (is_distributed c u)) t gs (own_at g) (λ h k. others f h ∙ off h) ∙ (none_own f ∙ sym (ap (task_at c held g t) at))
           by_place (Distributed column colocation first_shard) at =
               let y : is_distributed c t ≡ true = ap is_distributed_place at in
-              passed (λ u. not (is_distributed c u)) t gs (own_at g) (λ h k. among_filter (λ u. not (is_distributed c u)) (there h) t ∙ rw y (and_false (among t (there h))))
-              ∙ (own_rows g t ∙ (rw y (ap (λ b. cond b (rows g t) []) (and_true (among t (there g)))) ∙ (sym (rw m refl) ∙ sym (ap (task_at c held g t) at))))
+              let beside : (h : ℕ) → among t (filter (λ u. not (is_distributed c u)) (there h)) ≡ false = λ h. among_filter (λ u. not (is_distributed c u)) (there h) t ∙ (ap (λ b. among t (there h) && not b) y ∙ and_false (among t (there h))) in
+              let mine : table_rows (own_at g) t ≡ held_there g t = own_rows g t ∙ (ap (λ b. cond (among t (there g) && b) (rows g t) []) y ∙ ap (λ b. cond b (rows g t) []) (and_true (among t (there g)))) in
+              let has_it : held g t ≡ held_there g t = ap (λ b. cond b (held_there g t) []) m in
+              passed (λ u. not (is_distributed c u)) t gs (own_at g) (λ h k. beside h) ∙ (mine ∙ (sym has_it ∙ sym (ap (task_at c held g t) at)))
             where
               and_true : (b : Bool) → (b && true) ≡ b
               and_true true = refl
               and_true false = refl
 
-              and_false : (b : Bool) → (b && not true) ≡ false
+              and_false : (b : Bool) → (b && false) ≡ false
               and_false true = refl
               and_false false = refl
           by_place (Reference own shard) at =
@@ -283,10 +285,14 @@ module _ (c : Contents) (tables : List ℕ) where
               let on : (h : ℕ) → has_shard c h t ≡ nat_eq h own = λ h. ap (λ p. has_shard_at (colocation_at c t) p h) at in
               let mine : among t (there own) ≡ true = has own ∙ (on own ∙ eq-eqb own own refl) in
               elim (two_ways (among own gs)) [
-                | inl y ↦ found (λ u. not (is_distributed c u)) t own gs (own_at g) (λ h. others f h ∙ on h) y ∙ (sym (rw (y, mine) refl) ∙ sym (ap (task_at c held g t) at))
-                | inr n ↦
-                    passed (λ u. not (is_distributed c u)) t gs (own_at g) (λ h k. others f h ∙ (on h ∙ apart h k n))
-                    ∙ (none_own f ∙ (sym (rw n refl) ∙ sym (ap (task_at c held g t) at)))
+                | inl y ↦ (
+                    let has_it : held own t ≡ rows own t = ap (λ b. cond b (held_there own t) []) y ∙ ap (λ b. cond b (rows own t) []) mine in
+                    found (λ u. not (is_distributed c u)) t own gs (own_at g) (λ h. others f h ∙ on h) y ∙ (sym has_it ∙ sym (ap (task_at c held g t) at))
+                    )
+                | inr n ↦ (
+                    let has_none : held own t ≡ [] = ap (λ b. cond b (held_there own t) []) n in
+                    passed (λ u. not (is_distributed c u)) t gs (own_at g) (λ h k. others f h ∙ (on h ∙ apart h k n)) ∙ (none_own f ∙ (sym has_none ∙ sym (ap (task_at c held g t) at)))
+                    )
               ]
             where
               apart : (h : ℕ) → among h gs ≡ true → among own gs ≡ false → nat_eq h own ≡ false

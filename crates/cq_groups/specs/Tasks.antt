@@ -69,10 +69,13 @@ are_several count = nat_le 2 count && nat_le count (2 ^ 31)
 abbrev pub kind_by : Contents → Query → Combine
 kind_by c q = combine_by 2 (shares_rows (first_column (plain_in c q)) q)
 
--- the same, where tasks compute the query: it has neither CTEs nor IN subqueries, its looks are at distributed tables in several groups, and pushdown
--- takes it
+-- the same, where pushdown takes the query
+abbrev pub pushed_by : Contents → Query → Option Combine
+pushed_by c q = if is_pushed c q then Some (kind_by c q) else None
+
+-- the same, where tasks compute it: it has neither CTEs nor IN subqueries, and its looks are at distributed tables in several groups
 abbrev pub way_by : Contents → Query → List Look → Option Combine
-way_by c q looks = if is_alone q && (are_several (count_tasks c looks) && is_pushed c q) then Some (kind_by c q) else None
+way_by c q looks = if is_alone q && are_several (count_tasks c looks) then pushed_by c q else None
 
 -- tasks that read these tables can be computed and combined, and what they come to is what the query does over all tables
 pub record CanServe (kind : Combine) (q : Query) (reads : List Tables) (db : Tables) : Type 0 where

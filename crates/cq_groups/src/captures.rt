@@ -1,5 +1,5 @@
-ghost use Rattle.std.specs.Prelude.{◌≡◌, ◌++◌, take, drop, IfOk, OnOk};
-ghost use Rattle.std.specs.Vec.{into_iter_items};
+ghost use Rattle.std.specs.Prelude.{◌≡◌, ◌++◌, length, take, drop, IfOk, OnOk};
+ghost use Rattle.std.specs.Vec.Iter.{into_iter_items, into_iter_len};
 ghost use Rattle.cq_groups.specs.Tasks.{is_distributed as is_distributed_by_rule, is_of_task as is_of_task_by_rule, own_in, beside_in, own_of, beside_of};
 
 use crate::reads::Look;
@@ -38,8 +38,10 @@ fn next_ones(
     more: &mut IntoIter<(u32, Rows), Global>,
     count: u64,
 ) -> Result<Tables, NoMemory>
+    requires { into_iter_len more.old ≡ length (into_iter_items more.old) }
     ensures tables { IfOk result (λ tables. tables ≡ take count (into_iter_items more.old)) }
     ensures more { OnOk result (into_iter_items more.new ≡ drop count (into_iter_items more.old)) }
+    ensures len { OnOk result (into_iter_len more.new ≡ length (into_iter_items more.new)) }
 {
     let mut tables = Tables::new(alloc);
     for _table in 0..count {

@@ -1,12 +1,13 @@
-ghost use Rattle.std.specs.Prelude.{◌≡◌, not, IfOk, ◌&&◌, ◌||◌};
+ghost use Rattle.std.specs.Prelude.{◌≡◌, ◌&&◌, not, IfOk};
 ghost use Rattle.std.specs.List.{list_any};
-ghost use Rattle.cq_catalog.specs.Whole.{IsWhole};
-ghost use Rattle.cq_planning.specs.Joins.{plain_in};
+ghost use Rattle.cq_tree.specs.declared.query.Query.{out-Query};
+ghost use Rattle.cq_planning.specs.Classes.{first_of_class};
+ghost use Rattle.cq_planning.specs.Conjuncts.{conjuncts_of, equalities};
 ghost use Rattle.cq_planning.specs.Relations.{distributions, is_plain as is_plain_by_rule, is_distributed as is_distributed_by_rule, is_left_in_block};
 ghost use Rattle.cq_shape.specs.Labels.{label};
 ghost use Rattle.cq_outline.specs.Tasking.{first_column as first_column_by_rule};
-ghost use Rattle.cq_pushdown_laws.specs.Pushed.{is_table as is_table_by_rule, joins_tables as joins_tables_by_rule, strays as strays_by_rule, are_pushed as are_pushed_by_rule, is_pushed as is_pushed_by_rule};
-ghost use Rattle.cq_groups.specs.Tasks.{are_several as are_several_by_rule, count_tasks as count_tasks_by_rule, kind_by, way_by};
+ghost use Rattle.cq_pushdown_laws.specs.Pushed.{is_table as is_table_by_rule, joins_tables as joins_tables_by_rule, strays as strays_by_rule, are_pushed as are_pushed_by_rule};
+ghost use Rattle.cq_groups.specs.Tasks.{are_several as are_several_by_rule, count_tasks as count_tasks_by_rule, pushed_by, way_by};
 
 use crate::alone::is_alone;
 use crate::captures::is_of_task;
@@ -101,6 +102,8 @@ fn takes(
     relations: &[Relation],
     plain_ones: &[Distribution],
 ) -> Result<bool, NoMemory>
+    requires { plain_ones.now ≡ distributions is_plain_by_rule relations.now }
+    ensures { IfOk result (λ b. b ≡ are_pushed_by_rule (first_of_class (equalities (conjuncts_of (out-Query query.now).filter (out-Query query.now).from))) relations.now plain_ones.now) }
 {
     let labels = labels_in(alloc, &query.from, &query.filter)?;
     are_pushed(
@@ -123,11 +126,13 @@ fn first_column(plain_ones: &[Distribution]) -> u64
 }
 
 /// How the rows of several tasks become those of a query over tables alone, where pushdown makes tasks of it.
+#[tactic(auto, using(crate::proofs::PushLaws::not_joined, crate::proofs::PushLaws::not_taken, crate::proofs::PushLaws::taken))]
 fn pushed_kind(
     alloc: Global,
     catalog: &Catalog,
     query: &Query,
 ) -> Result<Option<Combine>, NoMemory>
+    ensures { IfOk result (λ kind. kind ≡ pushed_by catalog.now query.now) }
 {
     if !joins_tables(&query.from) {
         return Ok(None);
@@ -142,16 +147,20 @@ fn pushed_kind(
     Ok(Some(combine_by(2, shares)))
 }
 
-/// How tasks' rows become those of a query, where tasks compute it by its looks: it has neither CTEs nor IN subqueries, distributed tables are read in
-/// several groups, and pushdown makes tasks of it.
+/// How tasks' rows become those of a query, where tasks compute it by its looks: it has neither CTEs nor IN subqueries, distributed tables are
+/// read in several groups, and pushdown makes tasks of it.
 pub fn way_of(
     alloc: Global,
     catalog: &Catalog,
     query: &Query,
     looks: &[Look],
 ) -> Result<Option<Combine>, NoMemory>
+    ensures { IfOk result (λ way. way ≡ way_by catalog.now query.now looks.now) }
 {
-    if is_alone(query) && are_several(count_tasks(catalog, looks)) {
+    if !is_alone(query) {
+        return Ok(None);
+    }
+    if are_several(count_tasks(catalog, looks)) {
         pushed_kind(alloc, catalog, query)
     } else {
         Ok(None)
