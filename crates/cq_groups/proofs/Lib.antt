@@ -23,3 +23,4 @@ pub mod CaptureLaws
 pub mod RunLaws
 pub mod PushLaws
 pub mod ServeLaws
+pub mod WayLaws

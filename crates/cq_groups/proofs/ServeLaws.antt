@@ -55,7 +55,7 @@ use Rattle.cq_history.proofs.Lists.{two_ways, all_filtered}
 use Rattle.cq_history.proofs.Sums.{among_here, among_more}
 use Rattle.cq_groups.specs.Reads.{Look, captured_of, captured_by, AreShaped, IsComputable}
 use Rattle.cq_groups.specs.Looking.{looks_of, looks_by, tables_there, merged, gathered}
-use Rattle.cq_groups.specs.Tasks.{own_of, beside_of, count_tasks, are_several, kind_by, way_by, CanServe, WayServes}
+use Rattle.cq_groups.specs.Tasks.{own_of, beside_of, count_tasks, are_several, kind_by, CanServe}
 use Rattle.cq_groups.proofs.GatherLaws.{seen_of, rows_at, look_rows, merged_rows}
 use Rattle.cq_groups.proofs.LookLaws.{in_order_ascends, in_order_below, has_shapes, rows_placed, rows_within}
 use Rattle.cq_groups.proofs.QueryLaws.{each_of}
@@ -148,56 +148,19 @@ never_nothing : (b : Bool) → combine_by 2 b ≡ Nothing → ⊥
 never_nothing true e = cc
 never_nothing false e = cc
 
-module _ {X : Type 0} (c : Contents) (groups : List (GroupState X)) {nodes : ℕ} (shaped : AreShaped c nodes groups) (legal : (g : ℕ) → IsLegal c g (journal_in (journals_of groups) g)) (wants : Wants)
-    (q : Query) (readable : IsReadable c q) (alone : is_alone q ≡ true) (several : are_several (count_tasks c (looks_of c q)) ≡ true) (pushed : is_pushed c q ≡ true) where
+module _ (c : Contents) (q : Query) (rows : ℕ → ℕ → List Row) (placed : (g t : ℕ) → has_shard c g t ≡ true → AllByRecursion (IsRowOf c g t) (rows g t)) (within : (g t : ℕ) → has_shard c g t ≡ true → AllWithin (column_bits c t) (rows g t))
+    (gs : List ℕ) (ascending : IsAscendingFrom 0 gs) (readable : IsReadable c q) (alone : is_alone q ≡ true) (several : are_several (count_tasks c (looks_by c (tables_of_statement q) gs)) ≡ true) (pushed : is_pushed c q ≡ true) where
   abbrev tables : List ℕ
   tables = tables_of_statement q
 
-  abbrev gs : List ℕ
-  gs = touched c (statement.Select q)
-
-  -- what is read of a table in a group
-  abbrev rows : ℕ → ℕ → List Row
-  rows g t = rows_with (wants_at wants t) (rows_at c groups g t)
-
+  -- what was read
   abbrev seen : Tables
-  seen = narrow wants (captured_by groups (looks_of c q))
-
-  below : (g : ℕ) → among g gs ≡ true → g < c.groups
-  below = in_order_below c (touched_by_query c q)
-
-  ascending : IsAscendingFrom 0 gs
-  ascending = in_order_ascends c (touched_by_query c q)
-
-  placed : (g t : ℕ) → has_shard c g t ≡ true → AllByRecursion (IsRowOf c g t) (rows g t)
-  placed g t s = all_filtered (IsRowOf c g t) (has_all (wants_at wants t)) (rows_at c groups g t) (rows_placed c groups shaped tables legal g t s)
-
-  within : (g t : ℕ) → has_shard c g t ≡ true → AllWithin (column_bits c t) (rows g t)
-  within g t s = all_filtered (Within (column_bits c t)) (has_all (wants_at wants t)) (rows_at c groups g t) (rows_within c groups shaped tables legal g t s)
-
-  seen_is : seen ≡ all_seen c tables rows gs
-  seen_is = by_groups gs below
-    where
-      narrowed_look : (g : ℕ) (us : List ℕ) → narrow wants (seen_of c g (rows_at c groups g) 0 us) ≡ map (λ u. (u, rows g u)) us
-      narrowed_look g [] = refl
-      narrowed_look g (u ∷ us) = ap (λ (v : Tables). (u, rows g u) ∷ v) (narrowed_look g us)
-
-      by_groups : (hs : List ℕ) → ((h : ℕ) → among h hs ≡ true → h < c.groups) → narrow wants (captured_by groups (looks_by c tables hs)) ≡ all_seen c tables rows hs
-      by_groups [] few = refl
-      by_groups (h ∷ hs) few =
-          let there : List ℕ = tables_there c h tables in
-          let first : narrow wants (captured_of (slice_get groups h) there) ≡ map (λ u. (u, rows h u)) there =
-          ap (narrow wants) (look_rows c groups h there (has_shapes c groups shaped tables h (few h (among_here h hs)))) ∙ narrowed_look h there in
-          let rest : narrow wants (captured_by groups (looks_by c tables hs)) ≡ all_seen c tables rows hs = by_groups hs (λ k m. few k (among_more k h hs m)) in
-          narrow_append wants (captured_of (slice_get groups h) there) (captured_by groups (looks_by c tables hs)) ∙ (λ i. first i ++ rest i)
+  seen = all_seen c tables rows gs
 
   -- ---- the groups of the tasks
 
   abbrev ts : List ℕ
   ts = tasks_in c tables gs
-
-  kind : Combine
-  kind = kind_by c q
 
   abbrev read : ℕ → Tables
   read = read_at c tables rows gs
@@ -205,10 +168,8 @@ module _ {X : Type 0} (c : Contents) (groups : List (GroupState X)) {nodes : ℕ
   abbrev task : ℕ → Tables
   task = task_tables c (held c tables rows gs)
 
-  reads_are : reads_by (beside_of c (looks_of c q) seen) (own_of c (looks_of c q) seen) ≡ map read ts
-  reads_are =
-      ap (λ (v : Tables). reads_by (beside_of c (looks_of c q) v) (own_of c (looks_of c q) v)) seen_is
-      ∙ ((λ i. reads_by (beside_are c tables rows gs i) (own_are c tables rows gs i)) ∙ map_map (λ (own : Tables). beside_at c tables rows gs ++ own) (own_at c tables rows) ts)
+  reads_are : reads_by (beside_of c (looks_by c tables gs) seen) (own_of c (looks_by c tables gs) seen) ≡ map read ts
+  reads_are = (λ i. reads_by (beside_are c tables rows gs i) (own_are c tables rows gs i)) ∙ map_map (λ (own : Tables). beside_at c tables rows gs ++ own) (own_at c tables rows) ts
 
   count : (2 ≤ length ts) × (length ts ≤ 2 ^ 31)
   count =
@@ -252,7 +213,7 @@ module _ {X : Type 0} (c : Contents) (groups : List (GroupState X)) {nodes : ℕ
 
   all_agree : AllByRecursion (λ t. table_rows (merged seen) t ≡ table_rows (whole c (held c tables rows gs)) t) tables
   all_agree = each_of (λ t. table_rows (merged seen) t ≡ table_rows (whole c (held c tables rows gs)) t) tables (λ t m.
-      merged_rows seen t ∙ (ap (λ (v : Tables). gathered v t) seen_is ∙ whole_agrees c tables rows gs ascending t m))
+      merged_rows seen t ∙ whole_agrees c tables rows gs ascending t m)
 
   -- ---- and they serve
 
@@ -296,24 +257,5 @@ module _ {X : Type 0} (c : Contents) (groups : List (GroupState X)) {nodes : ℕ
       moved (inl e) = inl (sym same_large ∙ e)
       moved (inr e) = inr (sym (ap (has_large_together (kind_by c q) q []) same_rows) ∙ e)
 
-  pub tasks_serve : CanServe (kind_by c q) q (reads_by (beside_of c (looks_of c q) seen) (own_of c (looks_of c q) seen)) (merged seen)
+  pub tasks_serve : CanServe (kind_by c q) q (reads_by (beside_of c (looks_by c tables gs) seen) (own_of c (looks_by c tables gs) seen)) (merged seen)
   tasks_serve = subst (λ reads. CanServe (kind_by c q) q reads (merged seen)) (sym reads_are) read_serves
-
--- so do those that a query has by its way
-pub way_serves : {X : Type 0} (c : Contents) (groups : List (GroupState X)) {nodes : ℕ} → AreShaped c nodes groups → ((g : ℕ) → IsLegal c g (journal_in (journals_of groups) g)) → (wants : Wants) (q : Query) → IsReadable c q →
-    (looks : List Look) → looks ≡ looks_of c q → (way : Option Combine) → way ≡ way_by c q looks → WayServes way c q looks (narrow wants (captured_by groups looks)) (merged (narrow wants (captured_by groups looks)))
-way_serves c groups shaped legal wants q readable looks planned way is =
-    subst (λ (ls : List Look). WayServes way c q ls (narrow wants (captured_by groups ls)) (merged (narrow wants (captured_by groups ls)))) (sym planned)
-    (subst (λ w. WayServes w c q (looks_of c q) (narrow wants (captured_by groups (looks_of c q))) (merged (narrow wants (captured_by groups (looks_of c q))))) (sym (is ∙ ap (way_by c q) planned)) by_tests)
-  where
-    by_tests : WayServes (way_by c q (looks_of c q)) c q (looks_of c q) (narrow wants (captured_by groups (looks_of c q))) (merged (narrow wants (captured_by groups (looks_of c q))))
-    by_tests = elim (two_ways (is_alone q)) [
-      | inr n ↦ rw n tt
-      | inl alone ↦ elim (two_ways (are_several (count_tasks c (looks_of c q)))) [
-        | inr n ↦ rw (alone, n) tt
-        | inl several ↦ elim (two_ways (is_pushed c q)) [
-          | inr n ↦ rw (alone, several, n) tt
-          | inl pushed ↦ rw (alone, several, pushed) (tasks_serve c groups shaped legal wants q readable alone several pushed)
-        ]
-      ]
-    ]

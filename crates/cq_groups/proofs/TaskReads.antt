@@ -57,7 +57,7 @@ any_of p (u ∷ us) t m h = elim (eqb_tells t u) [
   | inr other ↦ (let more : among t us ≡ true = rw other.0 at m in elim (two_ways (p u)) [ inl y ↦ rw y refl | inr n ↦ rw n (any_of p us t more h) ])
 ]
 
-has_among : (gs : List ℕ) (g : ℕ) → Has gs g → among g gs ≡ true
+pub has_among : (gs : List ℕ) (g : ℕ) → Has gs g → among g gs ≡ true
 has_among [] g h = absurd h
 has_among (k ∷ gs) g (inl e) = let own : nat_eq g k ≡ true = eq-eqb g k (sym e) in rw own refl
 has_among (k ∷ gs) g (inr h) = elim (two_ways (nat_eq g k)) [ inl y ↦ rw y refl | inr n ↦ rw n (has_among gs g h) ]

@@ -6,7 +6,7 @@ use Rattle.cq_groups.specs.Looking.{merged}
 use Rattle.cq_groups.proofs.Growth.{go_on_itself, as_many}
 use Rattle.cq_groups.proofs.QueryLaws.{query_lacks_memory, plan_there, plan_ascends, query_computed, computed_blames}
 use Rattle.cq_groups.proofs.JoinLaws.{plan_within, wants_safe, joined_computed}
-use Rattle.cq_groups.proofs.ServeLaws.{way_serves}
+use Rattle.cq_groups.proofs.WayLaws.{way_serves}
 use Rattle.cq_groups.proofs.ShardLaws.{shard_there, shard_safe, shard_answered}
 use Rattle.cq_groups.proofs.queries.answer_query.Goals as goal
 
