@@ -72,12 +72,16 @@ fn has_one_apart(relations: &[Relation]) -> bool
 }
 
 /// Whether a relation is planned by itself, or its LEFT JOIN isn't co-located.
+#[tactic(auto, using(crate::proofs::PushLaws::stray_apart, crate::proofs::PushLaws::stray_loose))]
 fn has_stray(alloc: Global, block: Block<'_>) -> Result<bool, NoMemory>
     requires { block.plain.now ≡ distributions is_plain_by_rule block.relations.now }
     ensures { IfOk result (λ b. b ≡ list_any (strays_by_rule (label block.entry.labels.now) block.entry.relations.now) block.entry.relations.now) }
 {
+    if has_one_apart(block.relations) {
+        return Ok(true);
+    }
     let good = colocated(alloc, block)?;
-    Ok(has_one_apart(block.relations) || has_loose(block, good.as_slice()))
+    Ok(has_loose(block, good.as_slice()))
 }
 
 /// Whether pushdown makes tasks of a block.
