@@ -1,5 +1,5 @@
 -- What a query comes to by its tasks.
-use Rattle.std.proofs.Common.{◌≡◌, inr, true, List, [], refl, sym, subst, Result, Ok, Err}
+use Rattle.std.proofs.Common.{◌≡◌, inr, true, List, [], refl, subst, Result, Ok, Err}
 use Rattle.std.specs.Prelude.{◌⊎◌, IfOk, IfErr}
 use Rattle.cq_tree.specs.declared.plan.Combine.{Combine}
 use Rattle.cq_tree.specs.declared.query.QueryError.{QueryError}

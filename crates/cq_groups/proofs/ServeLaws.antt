@@ -1,5 +1,5 @@
 -- The tasks of a query that pushdown takes serve for it, over what its looks read.
-use Rattle.std.proofs.Common.{◌≡◌, ◌≤◌, ◌<◌, ◌^◌, inl, inr, ℕ, Bool, true, false, List, [], ◌∷◌, ◌++◌, map, length, replicate, refl, sym, ◌∙◌, ap, subst, arith, Some, None, Option, slice_get}
+use Rattle.std.proofs.Common.{◌≡◌, ◌≤◌, ◌^◌, inl, inr, ℕ, Bool, true, false, List, [], ◌∷◌, ◌++◌, map, length, replicate, refl, sym, ◌∙◌, ap, subst, arith}
 use Rattle.std.specs.Prelude.{◌⊎◌, ◌&&◌, ◌||◌, nat_le}
 use Rattle.std.specs.List.{flat_map, list_any, AllByRecursion}
 use Rattle.std.proofs.lemmas.List.{length-map}
@@ -7,13 +7,12 @@ use Rattle.cq_tree.specs.declared.plan.Combine.{Combine}
 use Rattle.cq_tree.specs.declared.plan.Combine.TheVariants.{Nothing}
 use Rattle.cq_tree.specs.declared.query.FromTree.{FromTree, Table, Sub', Result, Cross', Inner', Left', end_of-FromTree, more_of-FromTree}
 use Rattle.cq_tree.specs.declared.query.Query.{Query, Query', out-Query}
-use Rattle.cq_tree.specs.declared.statement.Statement.TheVariants as statement
 use Rattle.cq_meaning.specs.Lists.{Has}
 use Rattle.cq_meaning.specs.Values.{Row, Tables, table_rows}
-use Rattle.cq_meaning.specs.Widths.{AllWithin, Within}
-use Rattle.cq_meaning.specs.Queries.{from_rows, meaning, AnswersWith}
+use Rattle.cq_meaning.specs.Widths.{AllWithin}
+use Rattle.cq_meaning.specs.Queries.{from_rows, AnswersWith}
 use Rattle.cq_meaning.specs.Limits.{is_large, is_large_from}
-use Rattle.cq_meaning.specs.Results.{results_of, Answers}
+use Rattle.cq_meaning.specs.Results.{results_of}
 use Rattle.cq_meaning.specs.Safety.{IsSafeQuery}
 use Rattle.cq_meaning.proofs.MapLaws.{map_map, map_same}
 use Rattle.cq_meaning.proofs.Reorder.{Reordered}
@@ -35,29 +34,18 @@ use Rattle.cq_planning.specs.Classes.{first_of_class}
 use Rattle.cq_planning.specs.Database.{IsRowOf, whole}
 use Rattle.cq_planning.specs.Joins.{equalities_of, relations_of, plain_in}
 use Rattle.cq_planning.specs.Reaching.{IsAscendingFrom}
-use Rattle.cq_planning.specs.Touched.{among, touched, touched_by_query}
 use Rattle.cq_planning_laws.specs.Laid.{IsLaidFrom, IsLaid}
 use Rattle.cq_outline.specs.Tasking.{first_column, shares_rows, combine_by}
 use Rattle.cq_pushdown_laws.specs.Pushed.{is_table, joins_tables, are_pushed, is_pushed}
 use Rattle.cq_pushdown_laws.specs.Tables.{task_tables, side_of}
 use Rattle.cq_pushdown_laws.proofs.Serving.{parts_serve}
-use Rattle.cq_demands.specs.Demands.{has_all, rows_with}
-use Rattle.cq_demands.specs.JoinDemands.{Wants, wants_at, narrow}
-use Rattle.cq_demands.proofs.Narrowed.{narrow_append}
-use Rattle.cq_group.specs.declared.group.GroupState.{GroupState}
-use Rattle.cq_group.specs.Resting.{journals_of}
 use Rattle.cq_history.specs.Computable.{column_bits, AreWithin, IsReadable}
-use Rattle.cq_history.specs.Journals.{journal_in}
-use Rattle.cq_history.specs.Legality.{IsLegal}
 use Rattle.cq_history.specs.Looks.{has_shard}
 use Rattle.cq_history.specs.Refusals.{is_alone}
-use Rattle.cq_history.proofs.Lists.{two_ways, all_filtered}
-use Rattle.cq_history.proofs.Sums.{among_here, among_more}
-use Rattle.cq_groups.specs.Reads.{Look, captured_of, captured_by, AreShaped, IsComputable}
-use Rattle.cq_groups.specs.Looking.{looks_of, looks_by, tables_there, merged, gathered}
+use Rattle.cq_groups.specs.Reads.{IsComputable}
+use Rattle.cq_groups.specs.Looking.{looks_by, tables_there, merged}
 use Rattle.cq_groups.specs.Tasks.{own_of, beside_of, count_tasks, are_several, kind_by, CanServe}
-use Rattle.cq_groups.proofs.GatherLaws.{seen_of, rows_at, look_rows, merged_rows}
-use Rattle.cq_groups.proofs.LookLaws.{in_order_ascends, in_order_below, has_shapes, rows_placed, rows_within}
+use Rattle.cq_groups.proofs.GatherLaws.{merged_rows}
 use Rattle.cq_groups.proofs.QueryLaws.{each_of}
 use Rattle.cq_groups.proofs.StepLaws.{no_steps}
 use Rattle.cq_groups.proofs.TaskReads.{tasks_in, counted, tasks_ascend, has_among, own_at, beside_at, all_seen, own_are, beside_are, held, read_at, reads_agree, whole_agrees, can, only_there, read_within}

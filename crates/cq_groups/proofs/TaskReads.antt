@@ -1,15 +1,14 @@
 -- What the tasks of a query read, of all that was read in the order of its looks.
-use Rattle.std.proofs.Common.{◌≡◌, ◌+◌, ◌≤◌, ◌<◌, inl, inr, ℕ, Bool, true, false, cond, List, [], ◌∷◌, ◌++◌, map, fold, filter, length, take, drop, refl, sym, ◌∙◌, ap, subst, arith, append-nil, append_assoc}
-use Rattle.std.specs.Prelude.{◌⊎◌, not, ◌&&◌, ◌||◌, nat_eq}
+use Rattle.std.proofs.Common.{◌≡◌, ◌+◌, ◌≤◌, inl, inr, ℕ, Bool, true, false, cond, List, [], ◌∷◌, ◌++◌, map, fold, filter, length, take, drop, refl, sym, ◌∙◌, ap, subst, arith, append-nil, append_assoc}
+use Rattle.std.specs.Prelude.{not, ◌&&◌, ◌||◌, nat_eq}
 use Rattle.std.specs.List.{flat_map, list_any, AllByRecursion}
 use Rattle.std.proofs.lemmas.Bool.{eq-eqb}
 use Rattle.std.proofs.lemmas.Bool.Decides.{eqb_tells}
 use Rattle.cq_meaning.specs.Lists.{Has}
 use Rattle.cq_meaning.specs.Values.{Row, Tables, table_rows}
 use Rattle.cq_meaning.specs.Widths.{AllWithin}
-use Rattle.cq_meaning.proofs.RowLaws.{has_filtered}
 use Rattle.cq_catalog.specs.Contents.{Contents}
-use Rattle.cq_catalog.specs.Placement.{place_at, colocation_at, IsDistributed, HasShard}
+use Rattle.cq_catalog.specs.Placement.{place_at, colocation_at, IsDistributed}
 use Rattle.cq_catalog.specs.declared.info.Place.{Place}
 use Rattle.cq_catalog.specs.declared.info.Place.TheVariants.{Local, Distributed, Reference}
 use Rattle.cq_planning.specs.Database.{Held, IsRowOf, CanHold, narrowed, whole}
@@ -23,7 +22,7 @@ use Rattle.cq_history.specs.Looks.{has_shard, has_shard_at}
 use Rattle.cq_history.proofs.Lists.{two_ways}
 use Rattle.cq_history.proofs.Wholes.{whole_by_groups}
 use Rattle.cq_groups.specs.Looking.{with_table, tables_there, looks_by, gathered}
-use Rattle.cq_groups.specs.Tasks.{is_distributed, own_of, beside_of, is_of_task, count_tasks}
+use Rattle.cq_groups.specs.Tasks.{is_distributed, own_of, beside_of, count_tasks}
 use Rattle.cq_groups.proofs.GatherLaws.{seen_once, gathered_append}
 use Rattle.cq_groups.proofs.LookLaws.{all_there, has_its_shard}
 

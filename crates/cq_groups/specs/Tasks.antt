@@ -1,5 +1,5 @@
 -- A query that is computed by a task for each group of distributed tables that was read.
-use Rattle.std.specs.Prelude.{◌≡◌, ◌≤◌, ◌⊎◌, ◌^◌, ⊤, ℕ, List, [], ◌∷◌, ◌++◌, filter, take, drop, length, Bool, true, false, not, ◌&&◌, if◌then◌else◌, nat_le, Option, Some, None, Result, Ok, Err}
+use Rattle.std.specs.Prelude.{◌≡◌, ◌⊎◌, ◌^◌, ⊤, ℕ, List, [], ◌∷◌, ◌++◌, filter, take, drop, length, Bool, true, false, not, ◌&&◌, if◌then◌else◌, nat_le, Option, Some, None, Result, Ok, Err}
 use Rattle.std.specs.List.{list_any, AllByRecursion}
 use Rattle.cq_tree.specs.declared.plan.Combine.{Combine}
 use Rattle.cq_tree.specs.declared.query.QueryError.{QueryError}

@@ -29,7 +29,10 @@ fn is_distributed(catalog: &Catalog, table: u32) -> bool
 pub fn is_of_task(catalog: &Catalog, look: &Look) -> bool
     ensures { result ≡ is_of_task_by_rule catalog.now look.now }
 {
-    look.1.as_slice().iter().any(|table| is_distributed(catalog, *table))
+    look.1
+        .as_slice()
+        .iter()
+        .any(|table| is_distributed(catalog, *table))
 }
 
 /// The next so many tables.

@@ -34,7 +34,10 @@ fn are_several(count: u64) -> bool
 fn count_tasks(catalog: &Catalog, looks: &[Look]) -> u64
     ensures { result ≡ count_tasks_by_rule catalog.now looks.now }
 {
-    looks.iter().filter(|look| is_of_task(catalog, look)).count() as u64
+    looks
+        .iter()
+        .filter(|look| is_of_task(catalog, look))
+        .count() as u64
 }
 
 fn is_table(from: &FromTree) -> bool
@@ -131,11 +134,7 @@ fn first_column(plain_ones: &[Distribution]) -> u64
 
 /// How the rows of several tasks become those of a query over tables alone, where pushdown makes tasks of it.
 #[tactic(auto, using(crate::proofs::PushLaws::not_joined, crate::proofs::PushLaws::not_taken, crate::proofs::PushLaws::taken))]
-fn pushed_kind(
-    alloc: Global,
-    catalog: &Catalog,
-    query: &Query,
-) -> Result<Option<Combine>, NoMemory>
+fn pushed_kind(alloc: Global, catalog: &Catalog, query: &Query) -> Result<Option<Combine>, NoMemory>
     ensures { IfOk result (λ kind. kind ≡ pushed_by catalog.now query.now) }
 {
     if !joins_tables(&query.from) {

@@ -19,9 +19,9 @@ ghost use Rattle.cq_groups.specs.Tasks.{answer_by, WayServes};
 
 use crate::looks::looks_at;
 use crate::near::near_node;
+use crate::pushing::way_of;
 use crate::reads::{Look, Looks, pick_group, read_groups};
 use crate::shard::{Shard, shard_alone};
-use crate::pushing::way_of;
 use crate::tasks::run_seen;
 use crate::wanting::wants_of;
 use cq_answer::{Answer, Fault, What};
@@ -83,10 +83,7 @@ fn compute_seen(
     requires whole { IsComputable query.now (merged seen) }
     ensures { Computes query.now (merged seen) names result }
 {
-    answer_with(
-        names,
-        run_seen(alloc, catalog, query, way, looks, seen),
-    )
+    answer_with(names, run_seen(alloc, catalog, query, way, looks, seen))
 }
 
 /// The fault of an error in a read.
@@ -204,9 +201,7 @@ pub fn answer_query<S: Store>(
             let Ok(way) = way_of(alloc, catalog, query, looks) else {
                 return Answer::Failed(Fault::Memory);
             };
-            look_and_compute(
-                alloc, groups, who, near, catalog, query, way, looks, &wants,
-            )
+            look_and_compute(alloc, groups, who, near, catalog, query, way, looks, &wants)
         }
     }
 }

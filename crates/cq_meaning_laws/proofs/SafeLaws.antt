@@ -1,6 +1,6 @@
 -- Queries that the binder lets through are safe, and their rows are within the widths of their outputs.
-use Rattle.std.proofs.Common.{◌≡◌, ℕ, zero, suc, pos, ◌+◌, ◌^◌, ◌≤◌, ◌<◌, Bool, true, false, cond, List, [], ◌∷◌, ◌++◌, map, length, take, drop, replicate, refl, sym, ap, subst, ◌∙◌, arith, max}
-use Rattle.std.specs.Prelude.{filter, fold, ⊤, All, ◌||◌, nat_lt}
+use Rattle.std.proofs.Common.{◌≡◌, ℕ, zero, suc, ◌+◌, ◌^◌, ◌≤◌, ◌<◌, Bool, true, false, cond, List, [], ◌∷◌, ◌++◌, map, length, take, replicate, refl, sym, ap, subst, arith}
+use Rattle.std.specs.Prelude.{filter, fold, ⊤, All, ◌||◌}
 use Rattle.std.specs.Ordering.{is_lt}
 use Rattle.std.specs.List.{AllByRecursion, flat_map, list_any}
 use Rattle.std.proofs.lemmas.List.Elements.{All-from_recursion}
@@ -20,18 +20,18 @@ use Rattle.cq_tree.specs.declared.write.ShardOp.{ShardOp}
 use Rattle.cq_tree.specs.declared.write.ShardOp.TheVariants.{Insert, Update, Remove}
 use Rattle.cq_meaning.specs.declared.Group.{Group}
 use Rattle.cq_meaning.specs.declared.Columns.{Columns}
-use Rattle.cq_meaning.specs.Values.{Row, Results, Tables, table_rows, result_at}
+use Rattle.cq_meaning.specs.Values.{Row, Results, Tables}
 use Rattle.cq_meaning.specs.Expressions.{value_of, keeps, items_of}
 use Rattle.cq_meaning.specs.Joins.{product, left_join}
-use Rattle.cq_meaning.specs.Groups.{distinct, distinct_if, group_with, groups_by, groups_of, is_known, known_values, sum_of, lesser_of, greater_of, least, greatest, aggregate, group_row}
+use Rattle.cq_meaning.specs.Groups.{distinct, distinct_if, group_with, groups_of, is_known, known_values, sum_of, lesser_of, greater_of, aggregate, group_row}
 use Rattle.cq_meaning.specs.Sorting.{keys_cmp, sorted}
 use Rattle.cq_meaning.specs.Queries.{item_rows, outputs_of, columns_in, joins, from_rows, meaning}
 use Rattle.cq_meaning.specs.Limits.{is_large_group, has_large_group, is_large_from, is_large}
-use Rattle.cq_meaning.specs.Safety.{Fits, IsSafe, IsSafeCondition, AreSafeOver, IsSafeAggregate, AreSafeGroups, AreSafeItems, IsSafeOn, IsSafeFrom, IsSafeQuery}
-use Rattle.cq_meaning.specs.Widths.{bits, bits_of_aggregate, group_bits, input_bits, table_bits, from_bits, output_bits, IsBelow, IsBound, IsBoundCondition, IsBoundAggregate, AreBoundItems, IsBoundFrom, IsBoundQuery, IsBoundWrite, Within, AllWithin, Holds}
+use Rattle.cq_meaning.specs.Safety.{IsSafe, IsSafeCondition, AreSafeOver, IsSafeAggregate, AreSafeGroups, AreSafeItems, IsSafeOn, IsSafeFrom, IsSafeQuery}
+use Rattle.cq_meaning.specs.Widths.{bits, bits_of_aggregate, group_bits, input_bits, from_bits, output_bits, IsBelow, IsBound, IsBoundCondition, IsBoundAggregate, AreBoundItems, IsBoundFrom, IsBoundQuery, IsBoundWrite, Within, AllWithin, Holds}
 use Rattle.cq_meaning.specs.Effects.{IsSafeWrite}
 use Rattle.cq_meaning_laws.specs.WholeRules.{IsSafeTogether}
-use Rattle.cq_meaning_laws.proofs.WidthLaws.{below, safe, safe_condition, sum_below, fits_value, wider, same_length}
+use Rattle.cq_meaning_laws.proofs.WidthLaws.{below, safe, safe_condition, sum_below, fits_value, same_length}
 use Rattle.cq_meaning_laws.proofs.WithinLaws.{all_filter, all_append, all_take, all_map, all_both, all_distinct, all_distinct_if, all_sorted, all_of, within_append, within_nulls, within_product, within_left, within_cut}
 
 pub either : (a b : Bool) → (a || b) ≡ false → (a ≡ false) × (b ≡ false)

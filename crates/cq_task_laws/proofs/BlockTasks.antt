@@ -16,7 +16,6 @@ use Rattle.cq_meaning.specs.Sorting.{sorted_by, placed}
 use Rattle.cq_meaning.specs.Queries.{item_rows, from_rows, meaning, AnswersWith}
 use Rattle.cq_meaning.specs.Safety.{IsSafeQuery, IsSafeFrom}
 use Rattle.cq_meaning.proofs.AnswerLaws.{mean_answers}
-use Rattle.cq_meaning.proofs.MapLaws.{map_map, map_same}
 use Rattle.cq_meaning.proofs.Reorder.{Reordered}
 use Rattle.cq_meaning_laws.proofs.OrderFree.{itemed_width, distinct_width}
 use Rattle.cq_task_laws.specs.Partial.{partial}

@@ -46,8 +46,7 @@ loop-own-preserved c =
     let put : c.put.new.self ≡ c.loop-own.all ++ c.in_ok-rows.rows ∷ [] = search rules in
     let f = λ (db : Tables). meaning c.args.task.now db c.args.results.now in
     let p = λ (db : Tables). is_large c.args.task.now db c.args.results.now in
-    let beside : c.loop-own.tables ≡ c.args.beside = c.loop-own.invariant.0 in
-    (
+    let beside : c.loop-own.tables ≡ c.args.beside = c.loop-own.invariant.0 in (
       c.in_ok-rows.ensures.again ∙ beside,
       put ∙ ((λ i. c.loop-own.invariant.1 i ++ (c.in_ok-rows.ensures.rows ∙ ap (λ ts. f (ts ++ own)) beside) i ∷ []) ∙ sym (rows_push c.args.beside f done own)),
       none_push c.args.beside p done own c.loop-own.invariant.2 (subst (λ ts. p (ts ++ own) ≡ false) beside c.in_ok-rows.ensures.fits),
