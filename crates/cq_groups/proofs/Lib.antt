@@ -18,6 +18,9 @@ pub mod Judging
 pub mod Answering
 pub mod ShardLaws
 pub mod JoinLaws
-pub mod PartLaws
-pub mod HomeLaws
-pub mod KindLaws
+pub mod TaskReads
+pub mod CaptureLaws
+pub mod RunLaws
+pub mod PushLaws
+pub mod ServeLaws
+pub mod WayLaws

@@ -144,7 +144,7 @@ module _ {X : Type 0} (c : Contents) (groups : List (GroupState X)) {nodes : ℕ
         let all : AllByRecursion (IsRowOf c g t) (rows_of (held_in c (cut (length j.entries) j) t)) = can_hold c g j (length j.entries) (legal g) t (has_its_shard c g t s) in
         subst (λ (es : List Entry). AllByRecursion (IsRowOf c g t) (rows_of (held_in c (record j { entries = es }) t))) (take_all (length j.entries) j.entries (omega arith)) all
 
-    rows_within : (g t : ℕ) → has_shard c g t ≡ true → AllWithin (column_bits c t) (rows_at c groups g t)
+    pub rows_within : (g t : ℕ) → has_shard c g t ≡ true → AllWithin (column_bits c t) (rows_at c groups g t)
     rows_within g t s = all_weaker (IsRowOf c g t) (Within (column_bits c t)) (λ row h. fits_within (shape_in c t) row h.1) (rows_at c groups g t) (rows_placed g t s)
 
     seen_within : (g t : ℕ) (there : List ℕ) → AllByRecursion (λ u. has_shard c g u ≡ true) there → AllWithin (column_bits c t) (gathered (seen_of c g (rows_at c groups g) t there) t)

@@ -30,12 +30,12 @@ some_there p low (suc k) t a b h = elim (eqb_tells t low) [
 
 -- ---- looks of which one is at a group of distributed tables
 
-drop_at : (looks : List Look) (i : ℕ) (l : Look) → i < length looks → l ≡ get_or looks i l → drop i looks ≡ l ∷ drop (suc i) looks
+pub drop_at : (looks : List Look) (i : ℕ) (l : Look) → i < length looks → l ≡ get_or looks i l → drop i looks ≡ l ∷ drop (suc i) looks
 drop_at [] i l h e = absurd (omega (arith, h))
 drop_at (k ∷ looks) zero l h e = ap (λ (v : Look). v ∷ looks) (sym e)
 drop_at (k ∷ looks) (suc i) l h e = drop_at looks i l (omega (arith, h)) e
 
-drop_all : (looks : List Look) (i : ℕ) → length looks ≤ i → drop i looks ≡ []
+pub drop_all : (looks : List Look) (i : ℕ) → length looks ≤ i → drop i looks ≡ []
 drop_all [] zero h = refl
 drop_all [] (suc i) h = refl
 drop_all (l ∷ looks) zero h = absurd (omega (arith, h))

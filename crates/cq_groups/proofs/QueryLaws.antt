@@ -48,7 +48,7 @@ use Rattle.cq_groups.proofs.StepLaws.{no_large_step}
 use Rattle.cq_groups.proofs.Growth.{length_map}
 use Rattle.cq_groups.proofs.ReadLaws.{nothing_read, among_one, below_one}
 
-each_of : (P : ℕ → Type 0) (xs : List ℕ) → ((t : ℕ) → among t xs ≡ true → P t) → AllByRecursion P xs
+pub each_of : (P : ℕ → Type 0) (xs : List ℕ) → ((t : ℕ) → among t xs ≡ true → P t) → AllByRecursion P xs
 each_of P [] f = tt
 each_of P (x ∷ xs) f = (f x (among_here x xs), each_of P xs (λ t m. f t (among_more t x xs m)))
 

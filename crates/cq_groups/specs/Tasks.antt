@@ -1,66 +1,95 @@
--- A query that is computed by a task for each group that was read.
-use Rattle.std.specs.Prelude.{◌≡◌, ◌⊎◌, ◌^◌, ⊤, ℕ, List, [], ◌∷◌, map, length, Bool, true, ◌&&◌, ◌||◌, if◌then◌else◌, nat_le, Option, Some, None, Result, Ok, Err}
-use Rattle.std.specs.List.{list_all}
+-- A query that is computed by a task for each group of distributed tables that was read.
+use Rattle.std.specs.Prelude.{◌≡◌, ◌⊎◌, ◌^◌, ⊤, ℕ, List, [], ◌∷◌, ◌++◌, filter, take, drop, length, Bool, true, false, not, ◌&&◌, if◌then◌else◌, nat_le, Option, Some, None, Result, Ok, Err}
+use Rattle.std.specs.List.{list_any, AllByRecursion}
 use Rattle.cq_tree.specs.declared.plan.Combine.{Combine}
 use Rattle.cq_tree.specs.declared.query.QueryError.{QueryError}
 use Rattle.cq_tree.specs.declared.query.QueryError.TheVariants as error
-use Rattle.cq_tree.specs.declared.query.FromTree.{FromTree, Table}
-use Rattle.cq_tree.specs.declared.query.Query.{Query, out-Query}
+use Rattle.cq_tree.specs.declared.query.Query.{Query}
 use Rattle.cq_meaning.specs.Values.{Row, Tables}
 use Rattle.cq_meaning.specs.Results.{results_of, Answers}
 use Rattle.cq_meaning.specs.Limits.{is_large}
+use Rattle.cq_meaning.specs.Safety.{IsSafeQuery}
 use Rattle.cq_meaning_laws.specs.WholeRules.{steps_of, no_results, has_large_step}
+use Rattle.cq_task_laws.specs.Partial.{partial}
+use Rattle.cq_task_laws.specs.Merging.{GathersTo, has_large_together}
+use Rattle.cq_task_laws.specs.Counting.{CanMerge}
+use Rattle.cq_tasks.specs.Execution.{reads_by, task_rows, has_large_task}
 use Rattle.cq_catalog.specs.Contents.{Contents}
 use Rattle.cq_catalog.specs.Placement.{place_at}
-use Rattle.cq_catalog.specs.declared.info.Place.{Place}
-use Rattle.cq_catalog.specs.declared.info.Place.TheVariants.{Distributed}
-use Rattle.cq_outline.specs.Tasking.{shares_rows, combine_by}
+use Rattle.cq_planning.specs.Joins.{plain_in}
+use Rattle.cq_planning.specs.Routing.{is_distributed_place}
+use Rattle.cq_outline.specs.Tasking.{first_column, shares_rows, combine_by}
+use Rattle.cq_pushdown_laws.specs.Pushed.{is_pushed}
 use Rattle.cq_answer.specs.declared.answer.Answer.{Answer}
 use Rattle.cq_answer.specs.declared.answer.Answer.TheVariants as answer
 use Rattle.cq_answer.specs.declared.fault.What.TheVariants as what
 use Rattle.cq_answer.specs.declared.fault.Fault.TheVariants as fault
 use Rattle.cq_history.specs.Refusals.{is_alone}
 use Rattle.cq_history.specs.Standing.{most_rows}
-use Rattle.cq_groups.specs.Looking.{is_of}
-use Rattle.cq_groups.specs.Reads.{IsComputable}
+use Rattle.cq_groups.specs.Reads.{Look}
+
+-- ---- what tasks read
+
+abbrev pub is_distributed : Contents → ℕ → Bool
+is_distributed c table = is_distributed_place (place_at c table)
+
+-- whether a look is at distributed tables
+abbrev pub is_of_task : Contents → Look → Bool
+is_of_task c l = list_any (is_distributed c) l.1
+
+-- of what a look read the distributed tables, and the others
+abbrev pub own_in : Contents → Tables → Tables
+own_in c tables = filter (λ (p : ℕ × List Row). is_distributed c p.0) tables
+
+abbrev pub beside_in : Contents → Tables → Tables
+beside_in c tables = filter (λ (p : ℕ × List Row). not (is_distributed c p.0)) tables
+
+-- each task's own tables: those distributed ones that a look read, of all that was read in the order of the looks
+abbrev pub own_of : Contents → List Look → Tables → List Tables
+own_of c [] seen = []
+own_of c (l ∷ looks) seen =
+    if is_of_task c l then own_in c (take (length l.1) seen) ∷ own_of c looks (drop (length l.1) seen) else own_of c looks (drop (length l.1) seen)
+
+-- the tables beside them, which all tasks read: reference tables
+abbrev pub beside_of : Contents → List Look → Tables → Tables
+beside_of c [] seen = []
+beside_of c (l ∷ looks) seen = beside_in c (take (length l.1) seen) ++ beside_of c looks (drop (length l.1) seen)
+
+-- ---- which queries tasks compute
+
+abbrev pub count_tasks : Contents → List Look → ℕ
+count_tasks c looks = length (filter (is_of_task c) looks)
 
 -- whether these are at least two, and so few that the rows of a group of each that fits have a sum that fits
 abbrev pub are_several : ℕ → Bool
 are_several count = nat_le 2 count && nat_le count (2 ^ 31)
 
--- whether rows of one table alone were read, in several groups
-abbrev pub are_parts : ℕ → Tables → Bool
-are_parts table seen = are_several (length seen) && list_all (is_of table) seen
-
--- the table that is a FROM, where parts of it alone were read
-abbrev pub parted_from : FromTree → Tables → Option ℕ
-parted_from (Table t n) seen = if are_parts t seen then Some t else None
-parted_from f seen = None
-
--- the same, of a query without CTEs and IN subqueries
-abbrev pub parted_table : Query → Tables → Option ℕ
-parted_table q seen = if is_alone q then parted_from (out-Query q).from seen else None
-
--- the rows of each part
-abbrev pub parts_of : Tables → List (List Row)
-parts_of seen = map (λ (p : ℕ × List Row). p.1) seen
-
--- whether tasks of a query over a table at this place can share rows. Where it isn't distributed, nothing is said of which rows a task reads
-abbrev pub shares_at : Place → Query → Bool
-shares_at (Distributed at colocation first_shard) q = shares_rows at q
-shares_at _ q = (out-Query q).grouped || (out-Query q).distinct
-
-abbrev pub shares_by : Contents → FromTree → Query → Bool
-shares_by c (Table t n) q = shares_at (place_at c t) q
-shares_by c f q = (out-Query q).grouped || (out-Query q).distinct
-
--- how the rows of several tasks become those of a query
+-- how the rows of several tasks become those of a query: no two share a group, or with DISTINCT a row, where a key, or an output, is of the class
+-- of the first distribution column
 abbrev pub kind_by : Contents → Query → Combine
-kind_by c q = combine_by 2 (shares_by c (out-Query q).from q)
+kind_by c q = combine_by 2 (shares_rows (first_column (plain_in c q)) q)
 
--- a query and the steps before it are safe over a part of a table
-abbrev pub IsComputableOver : Query → ℕ × List Row → Type 0
-IsComputableOver q p = IsComputable q (p ∷ [])
+-- the same, where pushdown takes the query
+abbrev pub pushed_by : Contents → Query → Option Combine
+pushed_by c q = if is_pushed c q then Some (kind_by c q) else None
+
+-- the same, where tasks compute it: it has neither CTEs nor IN subqueries, and its looks are at distributed tables in several groups
+abbrev pub way_by : Contents → Query → List Look → Option Combine
+way_by c q looks = if is_alone q && are_several (count_tasks c looks) then pushed_by c q else None
+
+-- tasks that read these tables can be computed and combined, and what they come to is what the query does over all tables
+pub record CanServe (kind : Combine) (q : Query) (reads : List Tables) (db : Tables) : Type 0 where
+  pub safe : AllByRecursion (λ read. IsSafeQuery (partial kind q) read []) reads
+  pub merge : has_large_task kind q [] reads ≡ false → CanMerge kind q [] (task_rows kind q [] reads)
+  pub answers : (rows : List Row) → GathersTo kind q [] (task_rows kind q [] reads) rows → Answers q db rows
+  pub large : (has_large_task kind q [] reads ≡ true) ⊎ (has_large_together kind q [] (task_rows kind q [] reads) ≡ true) → is_large q db (results_of q db) ≡ true
+
+-- so do those that a query has by this way
+abbrev pub WayServes : Option Combine → Contents → Query → List Look → Tables → Tables → Type 0
+WayServes None c q looks seen db = ⊤
+WayServes (Some kind) c q looks seen db = CanServe kind q (reads_by (beside_of c looks seen) (own_of c looks seen)) db
+
+-- ---- what a query comes to
 
 -- a query's rows over tables, or why there are none: a group of it, or of a CTE or an IN subquery, passes the limit of rows, or want of memory
 abbrev pub IsRun : Query → Tables → Result (List Row) QueryError → Type 0

@@ -3,11 +3,13 @@
 #![tactic(auto)]
 
 mod alone;
+mod captures;
 mod error;
 mod gathering;
 mod laws;
 mod looks;
 mod near;
+mod pushing;
 mod queries;
 mod reads;
 mod shard;

@@ -1,9 +1,6 @@
-ghost use Rattle.std.specs.Prelude.{◌≡◌, ◌≢◌, ◌<◌, ℕ, List, [], ◌∷◌, Some, None, IfOk};
+ghost use Rattle.std.specs.Prelude.{◌≡◌, ◌<◌, ℕ, List, [], ◌∷◌, Some, None, IfOk};
 ghost use Rattle.std.specs.List.{AllByRecursion};
-ghost use Rattle.cq_tree.specs.declared.plan.Combine.TheVariants as kinds;
-ghost use Rattle.cq_tree.specs.declared.query.Query.{out-Query};
 ghost use Rattle.cq_tree.specs.declared.statement.Statement.TheVariants as statement;
-ghost use Rattle.cq_task_laws.specs.Gathering.{Serves};
 ghost use Rattle.cq_planning.specs.Reaching.{IsAscendingFrom};
 ghost use Rattle.cq_answer.specs.declared.answer.Answer.TheVariants as answer;
 ghost use Rattle.cq_answer.specs.declared.answered.Settings.{Settings};
@@ -18,13 +15,14 @@ ghost use Rattle.cq_demands.specs.JoinDemands.{narrow};
 ghost use Rattle.cq_group.specs.Resting.{journals_of, AreResting, GoOn, HasFailed};
 ghost use Rattle.cq_groups.specs.Reads.{captured_by, groups_in, CanLook, AreShaped, IsComputable, Computes, IsComputed, fault_by};
 ghost use Rattle.cq_groups.specs.Looking.{merged, look_at, wanted_of, looks_of, environment_at};
-ghost use Rattle.cq_groups.specs.Tasks.{answer_by, parted_table, parts_of, IsComputableOver};
+ghost use Rattle.cq_groups.specs.Tasks.{answer_by, WayServes};
 
 use crate::looks::looks_at;
 use crate::near::near_node;
+use crate::pushing::way_of;
 use crate::reads::{Look, Looks, pick_group, read_groups};
 use crate::shard::{Shard, shard_alone};
-use crate::tasks::{kind_of, run_seen};
+use crate::tasks::run_seen;
 use crate::wanting::wants_of;
 use cq_answer::{Answer, Fault, What};
 use cq_catalog::Catalog;
@@ -71,15 +69,21 @@ fn compute(alloc: Global, query: &Query, names: Names, tables: &Tables) -> Answe
     answer_with(names, run_statement(alloc, query, tables))
 }
 
-/// The answer of a query over what was read of each table in each group.
-fn compute_seen(alloc: Global, query: &Query, kind: Combine, names: Names, seen: Tables) -> Answer
-    requires apart { kind ≢ kinds.Nothing }
-    requires serves { (table : ℕ) → parted_table query.now seen ≡ Some table → Serves kind query.now [] (parts_of seen) }
+/// The answer of a query over what its looks read, by tasks whose rows are combined in this way or over all of it.
+fn compute_seen(
+    alloc: Global,
+    catalog: &Catalog,
+    query: &Query,
+    way: Option<Combine>,
+    names: Names,
+    looks: &[Look],
+    seen: Tables,
+) -> Answer
+    requires serves { WayServes way catalog.now query.now looks.now seen (merged seen) }
     requires whole { IsComputable query.now (merged seen) }
-    requires each { AllByRecursion (IsComputableOver query.now) seen }
     ensures { Computes query.now (merged seen) names result }
 {
-    answer_with(names, run_seen(alloc, query, kind, seen))
+    answer_with(names, run_seen(alloc, catalog, query, way, looks, seen))
 }
 
 /// The fault of an error in a read.
@@ -108,8 +112,9 @@ fn look_and_compute<S: Store>(
     groups: &mut Vec<GroupState<S>>,
     who: Who,
     near: u32,
+    catalog: &Catalog,
     query: &Query,
-    kind: Combine,
+    way: Option<Combine>,
     looks: &[Look],
     wants: &Wants,
 ) -> Answer
@@ -117,9 +122,7 @@ fn look_and_compute<S: Store>(
     requires there { AllByRecursion (CanLook near groups.old.items) looks.now }
     requires ascending { IsAscendingFrom 0 (groups_in looks.now) }
     requires safe { IsComputable query.now (merged (narrow wants.now (captured_by groups.old.items looks.now))) }
-    requires each { AllByRecursion (IsComputableOver query.now) (narrow wants.now (captured_by groups.old.items looks.now)) }
-    requires apart { kind ≢ kinds.Nothing }
-    requires serves { (table : ℕ) → parted_table query.now (narrow wants.now (captured_by groups.old.items looks.now)) ≡ Some table → Serves kind query.now [] (parts_of (narrow wants.now (captured_by groups.old.items looks.now))) }
+    requires serves { WayServes way catalog.now query.now looks.now (narrow wants.now (captured_by groups.old.items looks.now)) (merged (narrow wants.now (captured_by groups.old.items looks.now))) }
     ensures computed { IsComputed S.state who near query.now looks.now (merged (narrow wants.now (captured_by groups.old.items looks.now))) groups.old.items groups.new.items result }
     ensures goes_on { GoOn S.state groups.old.items groups.new.items }
 {
@@ -130,7 +133,7 @@ fn look_and_compute<S: Store>(
         Ok(seen) => seen,
         Err(error) => return Answer::Failed(fault_of(error)),
     };
-    compute_seen(alloc, query, kind, names, seen)
+    compute_seen(alloc, catalog, query, way, names, looks, seen)
 }
 
 /// The answer of a query by the rows of its one shard that its WHERE demands; the group's journal has a Read then.
@@ -184,29 +187,21 @@ pub fn answer_query<S: Store>(
     ensures blamed { (node shard before after : ℕ) → result ≡ answer.Failed (fault.Worker node shard before after) → HasFailed S.state node shard before after groups.old.items groups.new.items }
     ensures goes_on { GoOn S.state groups.old.items groups.new.items }
 {
-    let Ok(looks) = plan(alloc, catalog, query) else {
+    let Ok(planned) = plan(alloc, catalog, query) else {
         return Answer::Failed(Fault::Memory);
     };
-    let near = near_node(catalog, nodes, looks.as_slice());
-    match shard_alone(query, looks.as_slice()) {
+    let looks = planned.as_slice();
+    let near = near_node(catalog, nodes, looks);
+    match shard_alone(query, looks) {
         Some(shard) => pick_and_compute(alloc, groups, who, near, query, shard),
         None => {
             let Ok(wants) = wants_of(alloc, catalog, query) else {
                 return Answer::Failed(Fault::Memory);
             };
-            let Ok(kind) = kind_of(alloc, catalog, query) else {
+            let Ok(way) = way_of(alloc, catalog, query, looks) else {
                 return Answer::Failed(Fault::Memory);
             };
-            look_and_compute(
-                alloc,
-                groups,
-                who,
-                near,
-                query,
-                kind,
-                looks.as_slice(),
-                &wants,
-            )
+            look_and_compute(alloc, groups, who, near, catalog, query, way, looks, &wants)
         }
     }
 }

@@ -1,5 +1,5 @@
 -- What the binder makes sure of, so that a statement can be computed and planned.
-use Rattle.std.specs.Prelude.{◌≡◌, ◌<◌, ◌^◌, ⊤, ℕ, false, List, map}
+use Rattle.std.specs.Prelude.{◌≡◌, ◌<◌, ◌^◌, ⊤, ℕ, false, List, [], map}
 use Rattle.std.specs.List.{AllByRecursion}
 use Rattle.cq_value.specs.Tables.{Pair}
 use Rattle.cq_tree.specs.declared.query.Query.{Query}
@@ -12,7 +12,7 @@ use Rattle.cq_meaning.specs.Widths.{AllWithin, Within, bits_of_kind}
 use Rattle.cq_meaning.specs.Safety.{IsSafeQuery}
 use Rattle.cq_meaning.specs.Effects.{IsSafeWrite, table_of}
 use Rattle.cq_meaning.specs.Results.{Answers, results_of}
-use Rattle.cq_meaning_laws.specs.WholeRules.{steps_of, no_results, has_large_step, AreSafeSteps}
+use Rattle.cq_meaning_laws.specs.WholeRules.{steps_of, no_results, has_large_step, AreSafeSteps, IsSafeTogether}
 use Rattle.cq_catalog.specs.Contents.{Contents}
 use Rattle.cq_catalog.specs.Placement.{place_at}
 use Rattle.cq_catalog.specs.declared.info.Place.TheVariants.{Local}
@@ -21,6 +21,7 @@ use Rattle.cq_planning.specs.Database.{shape_in, Narrows, IsLarge}
 use Rattle.cq_planning.specs.Reaching.{IsTouchedBy}
 use Rattle.cq_planning.specs.Simple.{GivesSimply}
 use Rattle.cq_planning.specs.Touched.{touched}
+use Rattle.cq_planning_laws.specs.Laid.{IsLaid}
 
 -- the bits of a table's columns
 abbrev pub column_bits : Contents → ℕ → List ℕ
@@ -31,9 +32,16 @@ column_bits c table = map bits_of_kind (shape_in c table).kinds
 abbrev pub IsSafeStatement : Query → Tables → Type 0
 IsSafeStatement q db = AreSafeSteps db (no_results q) (steps_of q) × (has_large_step db (no_results q) (steps_of q) ≡ false → IsSafeQuery q db (results_of q db))
 
--- a query that is safe over all rows within their columns' widths, and for which the groups that it doesn't touch don't matter
+-- all rows are within their columns' widths
+abbrev pub AreWithin : Contents → Tables → Type 0
+AreWithin c db = (t : ℕ) → AllWithin (column_bits c t) (table_rows db t)
+
+-- a query that is safe over all rows within their columns' widths, without CTEs and IN subqueries also over the rows of its FROM from several
+-- databases; for which the groups that it doesn't touch don't matter; and whose tables have as many columns in its FROM as in the catalogue
 pub record IsReadable (c : Contents) (q : Query) : Type 0 where
-  pub safe : (db : Tables) → ((t : ℕ) → AllWithin (column_bits c t) (table_rows db t)) → IsSafeStatement q db
+  pub safe : (db : Tables) → AreWithin c db → IsSafeStatement q db
+  pub together : steps_of q ≡ [] → (dbs : List Tables) → IsSafeTogether (AreWithin c) q [] dbs
+  pub laid : (widths : ℕ → ℕ) × IsLaid c widths q
   pub narrows : (rows : List Row) → Narrows c (touched c (statement.Select q)) (λ db. Answers q db rows)
   pub large : GivesSimply c q → Narrows c (touched c (statement.Select q)) (IsLarge q)
 

@@ -1,8 +1,8 @@
 -- Queries that the binder lets through are safe, and their rows are within the widths of their outputs.
-use Rattle.std.proofs.Common.{◌≡◌, ℕ, zero, suc, pos, ◌+◌, ◌^◌, ◌≤◌, ◌<◌, Bool, true, false, cond, List, [], ◌∷◌, ◌++◌, map, length, take, drop, replicate, refl, sym, ap, subst, ◌∙◌, arith, max}
-use Rattle.std.specs.Prelude.{filter, fold, ⊤, All, ◌||◌, nat_lt}
+use Rattle.std.proofs.Common.{◌≡◌, ℕ, zero, suc, ◌+◌, ◌^◌, ◌≤◌, ◌<◌, Bool, true, false, cond, List, [], ◌∷◌, ◌++◌, map, length, take, replicate, refl, sym, ap, subst, arith}
+use Rattle.std.specs.Prelude.{filter, fold, ⊤, All, ◌||◌}
 use Rattle.std.specs.Ordering.{is_lt}
-use Rattle.std.specs.List.{AllByRecursion, list_any}
+use Rattle.std.specs.List.{AllByRecursion, flat_map, list_any}
 use Rattle.std.proofs.lemmas.List.Elements.{All-from_recursion}
 use Rattle.cq_value.specs.Order.{value_cmp}
 use Rattle.cq_value.specs.Tables.{Pair}
@@ -20,17 +20,18 @@ use Rattle.cq_tree.specs.declared.write.ShardOp.{ShardOp}
 use Rattle.cq_tree.specs.declared.write.ShardOp.TheVariants.{Insert, Update, Remove}
 use Rattle.cq_meaning.specs.declared.Group.{Group}
 use Rattle.cq_meaning.specs.declared.Columns.{Columns}
-use Rattle.cq_meaning.specs.Values.{Row, Results, Tables, table_rows, result_at}
+use Rattle.cq_meaning.specs.Values.{Row, Results, Tables}
 use Rattle.cq_meaning.specs.Expressions.{value_of, keeps, items_of}
 use Rattle.cq_meaning.specs.Joins.{product, left_join}
-use Rattle.cq_meaning.specs.Groups.{distinct, distinct_if, group_with, groups_by, groups_of, is_known, known_values, sum_of, lesser_of, greater_of, least, greatest, aggregate, group_row}
+use Rattle.cq_meaning.specs.Groups.{distinct, distinct_if, group_with, groups_of, is_known, known_values, sum_of, lesser_of, greater_of, aggregate, group_row}
 use Rattle.cq_meaning.specs.Sorting.{keys_cmp, sorted}
 use Rattle.cq_meaning.specs.Queries.{item_rows, outputs_of, columns_in, joins, from_rows, meaning}
 use Rattle.cq_meaning.specs.Limits.{is_large_group, has_large_group, is_large_from, is_large}
-use Rattle.cq_meaning.specs.Safety.{Fits, IsSafe, IsSafeCondition, AreSafeOver, IsSafeAggregate, AreSafeGroups, AreSafeItems, IsSafeOn, IsSafeFrom, IsSafeQuery}
-use Rattle.cq_meaning.specs.Widths.{bits, bits_of_aggregate, group_bits, input_bits, table_bits, from_bits, output_bits, IsBelow, IsBound, IsBoundCondition, IsBoundAggregate, AreBoundItems, IsBoundFrom, IsBoundQuery, IsBoundWrite, Within, AllWithin, Holds}
+use Rattle.cq_meaning.specs.Safety.{IsSafe, IsSafeCondition, AreSafeOver, IsSafeAggregate, AreSafeGroups, AreSafeItems, IsSafeOn, IsSafeFrom, IsSafeQuery}
+use Rattle.cq_meaning.specs.Widths.{bits, bits_of_aggregate, group_bits, input_bits, from_bits, output_bits, IsBelow, IsBound, IsBoundCondition, IsBoundAggregate, AreBoundItems, IsBoundFrom, IsBoundQuery, IsBoundWrite, Within, AllWithin, Holds}
 use Rattle.cq_meaning.specs.Effects.{IsSafeWrite}
-use Rattle.cq_meaning_laws.proofs.WidthLaws.{below, safe, safe_condition, sum_below, fits_value, wider, same_length}
+use Rattle.cq_meaning_laws.specs.WholeRules.{IsSafeTogether}
+use Rattle.cq_meaning_laws.proofs.WidthLaws.{below, safe, safe_condition, sum_below, fits_value, same_length}
 use Rattle.cq_meaning_laws.proofs.WithinLaws.{all_filter, all_append, all_take, all_map, all_both, all_distinct, all_distinct_if, all_sorted, all_of, within_append, within_nulls, within_product, within_left, within_cut}
 
 pub either : (a b : Bool) → (a || b) ≡ false → (a ≡ false) × (b ≡ false)
@@ -299,6 +300,24 @@ module _ (cs : Columns) (db : Tables) (results : Results) (holds : Holds cs db r
       λ small. safe_items results (from_bits cs from) filter_ grouped keys aggs having items (from_rows from 0 db results)
           (subst (λ n. AreBoundItems (from_bits cs from) n filter_ grouped keys aggs having items) (sym holds.counted) h.1) (from_fits [] 0 from h.0 small),
     )
+
+-- so is what follows FROM over the rows of several databases
+
+pub safe_together : (cs : Columns) (q : Query) (results : Results) (dbs : List Tables) → IsBoundQuery cs q → length results ≡ length cs.results → IsSafeTogether (λ db. Holds cs db results) q results dbs
+safe_together cs (Query' ts ctes ss subs from filter_ grouped keys aggs having items shown distinct order limit offset names) results dbs h counted = λ each.
+    safe_items results (from_bits cs from) filter_ grouped keys aggs having items (flat_map (λ db. from_rows from 0 db results) dbs)
+    (subst (λ n. AreBoundItems (from_bits cs from) n filter_ grouped keys aggs having items) (sym counted) h.1) (all_fit dbs each)
+  where
+    all_fit : (ds : List Tables) → AllByRecursion (λ db. Holds cs db results × (is_large_from from db results ≡ false)) ds → AllWithin (from_bits cs from) (flat_map (λ db. from_rows from 0 db results) ds)
+    all_fit [] e = tt
+    all_fit (d ∷ ds) e = all_append (Within (from_bits cs from)) (from_rows from 0 d results) (flat_map (λ db. from_rows from 0 db results) ds) (from_fits cs d results e.0.0 [] 0 from h.0 e.0.1) (all_fit ds e.1)
+
+pub together_weaker : (P Q : Tables → Type 0) → ((db : Tables) → Q db → P db) → (q : Query) (results : Results) (dbs : List Tables) → IsSafeTogether P q results dbs → IsSafeTogether Q q results dbs
+together_weaker P Q f (Query' ts ctes ss subs from filter_ grouped keys aggs having items shown distinct order limit offset names) results dbs h = λ each. h (all_weaker dbs each)
+  where
+    all_weaker : (ds : List Tables) → AllByRecursion (λ db. Q db × (is_large_from from db results ≡ false)) ds → AllByRecursion (λ db. P db × (is_large_from from db results ≡ false)) ds
+    all_weaker [] e = tt
+    all_weaker (d ∷ ds) e = ((f d e.0.0, e.0.1), all_weaker ds e.1)
 
 -- writes
 

@@ -1,5 +1,5 @@
 -- The steps of a whole statement keep its results within their widths.
-use Rattle.std.proofs.Common.{◌≡◌, ℕ, zero, suc, ◌+◌, List, [], ◌∷◌, ◌++◌, length, replicate, refl, sym, subst, ◌∙◌, false, arith, length-append}
+use Rattle.std.proofs.Common.{◌≡◌, ℕ, zero, suc, ◌+◌, List, [], ◌∷◌, ◌++◌, length, replicate, refl, sym, ap, subst, ◌∙◌, false, arith, length-append}
 use Rattle.std.specs.Prelude.{slice_set, slice_index_or}
 use Rattle.std.specs.List.{AllByRecursion}
 use Rattle.std.proofs.lemmas.List.{length-set, length-replicate}
@@ -11,8 +11,8 @@ use Rattle.cq_meaning.specs.Queries.{meaning}
 use Rattle.cq_meaning.specs.Limits.{is_large}
 use Rattle.cq_meaning.specs.Results.{ins_in, ins_in_from, ins_in_all, ins_in_ctes, count_of, with_ins, with_ins_from, with_ins_all, with_ctes, results_of}
 use Rattle.cq_meaning.specs.Widths.{AllWithin, Holds}
-use Rattle.cq_meaning_laws.specs.WholeRules.{Step, steps_in, steps_in_from, steps_in_all, steps_in_ctes, steps_of, no_results, with_step, with_steps, has_large_step, AreSafeSteps, IsBoundStep, AreTablesWithin, ResultsInSteps, StatementsFit}
-use Rattle.cq_meaning_laws.proofs.SafeLaws.{either, safe_query, query_fits}
+use Rattle.cq_meaning_laws.specs.WholeRules.{Step, steps_in, steps_in_from, steps_in_all, steps_in_ctes, steps_of, no_results, with_step, with_steps, has_large_step, AreSafeSteps, IsBoundStep, IsBoundStatement, IsSafeTogether, AreTablesWithin, ResultsInSteps, StatementsFit}
+use Rattle.cq_meaning_laws.proofs.SafeLaws.{either, safe_query, query_fits, safe_together, together_weaker}
 
 -- the results of a statement are those of its steps
 
@@ -166,6 +166,12 @@ module _ (cs : Columns) (db : Tables) where
   pub safe_steps : (rs : Results) (steps : List Step) → Holds cs db rs → AllByRecursion (IsBoundStep cs) steps → AreSafeSteps db rs steps
   safe_steps rs [] h b = tt
   safe_steps rs (s ∷ more) h b = (safe_query cs db rs h s.query b.0.0, λ small. safe_steps (with_step db rs s) more (holds_with_step rs s h b.0 small) b.1)
+
+-- a statement without CTEs and IN subqueries is safe over the rows of several databases
+pub fit_together : (cs : Columns) (q : Query) → IsBoundStatement cs q → steps_of q ≡ [] → (dbs : List Tables) → IsSafeTogether (AreTablesWithin cs) q [] dbs
+fit_together cs q b simple dbs =
+    let none : length cs.results ≡ 0 = b.2 ∙ ap length simple in
+    together_weaker (λ db. Holds cs db []) (AreTablesWithin cs) (λ db tables. holds_at_first cs db tables 0 none) q [] dbs (safe_together cs q [] dbs b.0 (sym none))
 
 pub statements_fit : StatementsFit
 statements_fit cs db q tables b =

@@ -1,14 +1,13 @@
 -- Rows within widths: what lists of rows are made of them.
-use Rattle.std.proofs.Common.{◌≡◌, ℕ, zero, suc, ◌<◌, Bool, true, false, cond, List, [], ◌∷◌, ◌++◌, map, length, take, drop, refl, ap, subst}
-use Rattle.std.specs.Prelude.{filter, replicate, ⊤, Option, None, Some}
+use Rattle.std.proofs.Common.{ℕ, zero, suc, Bool, true, false, cond, List, [], ◌∷◌, ◌++◌, map, length, take, drop}
+use Rattle.std.specs.Prelude.{filter, replicate, Option, None, Some}
 use Rattle.std.specs.List.{AllByRecursion}
-use Rattle.cq_value.specs.declared.value.Value.{Value}
 use Rattle.cq_value.specs.declared.value.Value.TheVariants.{Null}
 use Rattle.cq_meaning.specs.Values.{Row}
 use Rattle.cq_meaning.specs.Joins.{product, or_else, left_join}
 use Rattle.cq_meaning.specs.Groups.{differs, distinct, distinct_if}
 use Rattle.cq_meaning.specs.Sorting.{placed, sorted_by, limited, cut}
-use Rattle.cq_meaning.specs.Widths.{IsBelow, Within, AllWithin}
+use Rattle.cq_meaning.specs.Widths.{Within, AllWithin}
 
 -- what all elements have, the elements of these lists have
 

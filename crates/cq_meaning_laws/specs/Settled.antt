@@ -1,5 +1,5 @@
 -- Queries whose rows don't hang on an order that is left open.
-use Rattle.std.specs.Prelude.{◌≡◌, ℕ, ◌<◌, List, [], ◌∷◌, map, Option, None, ⊤, ◌⊎◌}
+use Rattle.std.specs.Prelude.{◌≡◌, ℕ, ◌<◌, List, map, Option, None, ⊤, ◌⊎◌}
 use Rattle.cq_tree.specs.declared.query.Key.{Key}
 use Rattle.cq_meaning.specs.Lists.{Has}
 use Rattle.cq_tree.specs.declared.query.FromTree.{FromTree, Table, Sub', Result, Cross', Inner', Left', more_of-FromTree, end_of-FromTree}

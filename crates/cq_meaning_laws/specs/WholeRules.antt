@@ -1,14 +1,14 @@
 -- A whole statement: the steps by which its results are computed, what the binder lets through, and what that makes sure of.
 use Rattle.std.specs.Prelude.{◌≡◌, ℕ, ◌+◌, List, [], ◌∷◌, ◌++◌, length, replicate, slice_set, slice_index_or, Bool, false, ◌||◌, ⊤}
-use Rattle.std.specs.List.{AllByRecursion}
+use Rattle.std.specs.List.{AllByRecursion, flat_map}
 use Rattle.cq_tree.specs.declared.query.FromTree.{FromTree, Table, Sub', Result, Cross', Inner', Left', more_of-FromTree, end_of-FromTree}
 use Rattle.cq_tree.specs.declared.query.Query.{Query, Query', Row_of-Query, end_of-Query, more_of-Query}
 use Rattle.cq_meaning.specs.declared.Columns.{Columns}
 use Rattle.cq_meaning.specs.Values.{Results, Tables, table_rows}
-use Rattle.cq_meaning.specs.Queries.{meaning}
-use Rattle.cq_meaning.specs.Limits.{is_large}
+use Rattle.cq_meaning.specs.Queries.{from_rows, meaning}
+use Rattle.cq_meaning.specs.Limits.{is_large, is_large_from}
 use Rattle.cq_meaning.specs.Results.{ins_in, ins_in_from, ins_in_ctes, count_of, results_of, mean}
-use Rattle.cq_meaning.specs.Safety.{IsSafeQuery}
+use Rattle.cq_meaning.specs.Safety.{AreSafeItems, IsSafeQuery}
 use Rattle.cq_meaning.specs.Widths.{table_bits, output_bits, IsBoundQuery, AllWithin, Holds}
 
 -- a CTE or an IN subquery, with the number of its result
@@ -76,6 +76,12 @@ IsBoundStep cs s = IsBoundQuery cs s.query × (slice_index_or cs.results s.numbe
 -- the binder lets a statement's query and all its steps through, and gives widths to no other results
 abbrev pub IsBoundStatement : Columns → Query → Type 0
 IsBoundStatement cs q = IsBoundQuery cs q × AllByRecursion (IsBoundStep cs) (steps_of q) × (length cs.results ≡ length (steps_of q))
+
+-- what follows FROM is safe over the rows of the FROMs of several databases, put together, where each database is such, and no subquery of the FROM has a
+-- group that is too large over one
+abbrev pub IsSafeTogether : (Tables → Type 0) → Query → Results → List Tables → Type 0
+IsSafeTogether P (Query' cs ctes ss subs from filter_ grouped keys aggs having items shown distinct order limit offset names) results dbs =
+    AllByRecursion (λ db. P db × (is_large_from from db results ≡ false)) dbs → AreSafeItems filter_ grouped keys aggs having items results (flat_map (λ db. from_rows from 0 db results) dbs)
 
 -- the rows of tables are within their columns' widths
 abbrev pub AreTablesWithin : Columns → Tables → Type 0

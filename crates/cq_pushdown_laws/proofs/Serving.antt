@@ -131,7 +131,7 @@ serving kind c (Query' cs ctes ss subs from filter_ grouped keys aggs having ite
     (ascending_distinct 0 groups ascending, all_fit c held groups can only_here from 0 both.0 laid.0, placed c held groups can only_here filter_ from both.0 laid.0 both.1, serves)
 
 pub pushdown_serves : PushdownServes
-pushdown_serves c q held groups w laid pushed can ascending some only_here =
+pushdown_serves c q held groups laid pushed can ascending some only_here =
     let parts : List (List Row) = map (λ i. from_rows (from_of q) 0 (task_tables c held i) []) groups in
     serving (combine_by 2 ((out-Query q).grouped || (out-Query q).distinct)) c q held groups laid pushed can ascending only_here
     (grouped_serves q parts (some_parts (λ i. from_rows (from_of q) 0 (task_tables c held i) []) groups some))
@@ -161,7 +161,7 @@ parts_apart c (Query' cs ctes ss subs from filter_ grouped keys aggs having item
         grouped keys aggs having items shown distinct (ap (λ xs. shares_rows (first_column xs) q) (sym e) ∙ apart)
 
 pub parts_serve : PartsServe
-parts_serve c q held groups w laid pushed can ascending some only_here = serving (combine_by 2 (shares_rows at q)) c q held groups laid pushed can ascending only_here (elim (two_ways (shares_rows at q)) [
+parts_serve c q held groups laid pushed can ascending some only_here = serving (combine_by 2 (shares_rows at q)) c q held groups laid pushed can ascending only_here (elim (two_ways (shares_rows at q)) [
   | inl y ↦ rw y (shares_serve at q y parts (some_parts (λ i. from_rows (from_of q) 0 (task_tables c held i) []) groups some))
   | inr f ↦ rw f (parts_apart c q held groups laid pushed can ascending only_here f)
 ])

@@ -3,7 +3,6 @@ use Rattle.std.specs.Prelude.{◌≡◌, ◌≤◌, ℕ, List, [], length, Bool,
 use Rattle.cq_tree.specs.declared.query.Query.{Query, out-Query}
 use Rattle.cq_task_laws.specs.Tasks.{TasksServe}
 use Rattle.cq_catalog.specs.Contents.{Contents}
-use Rattle.cq_catalog.specs.Whole.{IsWhole}
 use Rattle.cq_planning.specs.Database.{Held, CanHold, whole}
 use Rattle.cq_planning.specs.Joins.{plain_in}
 use Rattle.cq_planning.specs.Reaching.{IsAscendingFrom}
@@ -14,7 +13,7 @@ use Rattle.cq_pushdown_laws.specs.Tables.{task_tables, HoldsOnly, side_of}
 
 -- the tasks of a query that is pushed serve for it, where this says whether they may share groups or output rows
 abbrev pub ServesBy : (Contents → Query → Bool) → Type 0
-ServesBy shares = (c : Contents) (q : Query) (held : Held) (groups : List ℕ) → IsWhole c → IsLaid c (λ i. 0) q → is_pushed c q ≡ true →
+ServesBy shares = (c : Contents) (q : Query) (held : Held) (groups : List ℕ) → IsLaid c (λ i. 0) q → is_pushed c q ≡ true →
     ((g : ℕ) → CanHold c g (held g)) → IsAscendingFrom 0 groups → 1 ≤ length groups → HoldsOnly c held groups →
     TasksServe (side_of c) (combine_by 2 (shares c q)) q (whole c held) (task_tables c held) [] groups
 

@@ -9,3 +9,4 @@ pub mod LargeLaws
 pub mod SafeMerge
 pub mod TaskLaws
 pub mod OneTable
+pub mod BlockTasks

@@ -1,14 +1,16 @@
 -- The rows of the tasks of a block.
-use Rattle.std.specs.Prelude.{◌≡◌, ℕ, List, [], ◌∷◌, map, Bool}
+use Rattle.std.specs.Prelude.{List, ◌++◌, map, Bool}
 use Rattle.std.specs.List.{list_any}
 use Rattle.cq_tree.specs.declared.plan.Combine.{Combine}
-use Rattle.cq_tree.specs.declared.query.FromTree.{Table}
-use Rattle.cq_tree.specs.declared.query.Query.{Query, out-Query}
+use Rattle.cq_tree.specs.declared.query.Query.{Query}
 use Rattle.cq_meaning.specs.Values.{Row, Results, Tables}
 use Rattle.cq_meaning.specs.Limits.{is_large}
 use Rattle.cq_meaning.specs.Queries.{meaning}
 use Rattle.cq_task_laws.specs.Partial.{partial}
-use Rattle.cq_task_laws.specs.Merging.{joined}
+
+-- what each task reads: the tables beside all, and its own
+abbrev pub reads_by : Tables → List Tables → List Tables
+reads_by beside parts = map (λ own. beside ++ own) parts
 
 -- what each task gives, over the tables that it reads
 abbrev pub task_rows : Combine → Query → Results → List Tables → List (List Row)
@@ -17,15 +19,3 @@ task_rows kind q results dbs = map (λ db. meaning (partial kind q) db results) 
 -- whether a task has a group that is too large
 abbrev pub has_large_task : Combine → Query → Results → List Tables → Bool
 has_large_task kind q results dbs = list_any (λ db. is_large (partial kind q) db results) dbs
-
--- the FROM of a query is a table
-abbrev pub IsOver : ℕ → Query → Type 0
-IsOver table q = (columns : ℕ) × ((out-Query q).from ≡ Table table columns)
-
--- a table alone with these rows
-abbrev pub alone : ℕ → List Row → Tables
-alone table rows = (table, rows) ∷ []
-
--- the whole table, of its parts
-abbrev pub whole_of : ℕ → List (List Row) → Tables
-whole_of table parts = alone table (joined parts)

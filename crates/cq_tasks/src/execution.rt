@@ -1,16 +1,12 @@
-ghost use Rattle.std.specs.Prelude.{◌≡◌, ◌⊎◌, ◌≤◌, ◌^◌, [], length, map, true, false, All, IfOk, IfErr, MatchResult};
+ghost use Rattle.std.specs.Prelude.{◌≡◌, ◌⊎◌, ◌++◌, map, take, true, false, IfOk, IfErr, MatchResult};
 ghost use Rattle.std.specs.List.{list_any, AllByRecursion};
-ghost use Rattle.cq_tree.specs.declared.plan.Combine.TheVariants as kinds;
 ghost use Rattle.cq_meaning.specs.Limits.{is_large};
 ghost use Rattle.cq_meaning.specs.Queries.{meaning};
-ghost use Rattle.cq_meaning.specs.Results.{results_of, Answers};
 ghost use Rattle.cq_meaning.specs.Safety.{IsSafeQuery};
-ghost use Rattle.cq_meaning_laws.specs.WholeRules.{steps_of};
 ghost use Rattle.cq_task_laws.specs.Partial.{partial as partial_of};
 ghost use Rattle.cq_task_laws.specs.Merging.{GathersTo, has_large_together};
 ghost use Rattle.cq_task_laws.specs.Counting.{CanMerge};
-ghost use Rattle.cq_task_laws.specs.Gathering.{IsNonEmpty, Serves};
-ghost use Rattle.cq_tasks.specs.Execution.{task_rows, has_large_task, IsOver, alone as table_alone, whole_of};
+ghost use Rattle.cq_tasks.specs.Execution.{reads_by, task_rows, has_large_task};
 
 use cq_combine::{RowsList, combine, partial};
 use cq_queries::{Tables, run_query};
@@ -18,8 +14,8 @@ use cq_tree::{Combine, Query, QueryError};
 use cq_value::{Items, NoMemory, Results, Rows};
 use std::alloc::Global;
 
-/// What each task reads.
-type Reads = Items<Tables>;
+/// What each task reads of its own.
+pub type Parts = Items<Tables>;
 
 fn memory<T: Drop>(r: Result<T, NoMemory>) -> Result<T, QueryError>
     ensures { MatchResult result (λ x. r ≡ Ok x) (λ e. e ≡ QueryError.Memory) }
@@ -30,26 +26,70 @@ fn memory<T: Drop>(r: Result<T, NoMemory>) -> Result<T, QueryError>
     }
 }
 
-/// The rows of each task, over what it reads.
-fn run_tasks(
-    alloc: Global,
-    task: &Query,
-    reads: &[Tables],
-    results: &Results,
-) -> Result<RowsList, QueryError>
-    requires { All (λ db. IsSafeQuery task.now db results.now) reads.now }
-    ensures ok { IfOk result (λ all. (all ≡ map (λ db. meaning task.now db results.now) reads.now) × (list_any (λ db. is_large task.now db results.now) reads.now ≡ false)) }
-    ensures err { IfErr result (λ e. e ≡ QueryError.Rows → list_any (λ db. is_large task.now db results.now) reads.now ≡ true) }
+/// Tables, and more behind them.
+fn joined(tables: Tables, more: Tables) -> Result<Tables, NoMemory>
+    ensures { IfOk result (λ all. all ≡ tables ++ more) }
 {
-    let mut all = RowsList::new(alloc);
-    for tables in reads {
-        let rows = run_query(alloc, task, tables, results)?;
-        memory(all.put(rows))?;
+    let mut all = tables;
+    for table in more.into_vec() {
+        all.put(table)?;
     }
     Ok(all)
 }
 
-/// The rows of a block, made of those of its tasks, each of which computes its part of the block over what it reads.
+/// The first so many tables.
+fn first_ones(tables: Tables, count: u64) -> Tables
+    ensures { result ≡ take count tables }
+{
+    let mut all = tables.into_vec();
+    all.truncate(count as usize);
+    Tables::from_vec(all)
+}
+
+/// The rows of a task over the tables beside it and its own, and those beside it for the next task.
+fn run_task(
+    alloc: Global,
+    task: &Query,
+    beside: Tables,
+    own: Tables,
+    results: &Results,
+) -> Result<(Rows, Tables), QueryError>
+    requires { IsSafeQuery task.now (beside ++ own) results.now }
+    ensures rows { IfOk result (λ made. made.0 ≡ meaning task.now (beside ++ own) results.now) }
+    ensures fits { IfOk result (λ made. is_large task.now (beside ++ own) results.now ≡ false) }
+    ensures again { IfOk result (λ made. made.1 ≡ beside) }
+    ensures err { IfErr result (λ e. e ≡ QueryError.Rows → is_large task.now (beside ++ own) results.now ≡ true) }
+{
+    let count = beside.len();
+    let tables = memory(joined(beside, own))?;
+    let rows = run_query(alloc, task, &tables, results)?;
+    Ok((rows, first_ones(tables, count)))
+}
+
+/// The rows of each task, over the tables beside it and its own.
+fn run_tasks(
+    alloc: Global,
+    task: &Query,
+    beside: Tables,
+    parts: Parts,
+    results: &Results,
+) -> Result<RowsList, QueryError>
+    requires { AllByRecursion (λ db. IsSafeQuery task.now db results.now) (reads_by beside parts) }
+    ensures ok { IfOk result (λ all. (all ≡ map (λ db. meaning task.now db results.now) (reads_by beside parts)) × (list_any (λ db. is_large task.now db results.now) (reads_by beside parts) ≡ false)) }
+    ensures err { IfErr result (λ e. e ≡ QueryError.Rows → list_any (λ db. is_large task.now db results.now) (reads_by beside parts) ≡ true) }
+{
+    let mut all = RowsList::new(alloc);
+    let mut tables = beside;
+    for own in parts.into_vec() {
+        let (rows, again) = run_task(alloc, task, tables, own, results)?;
+        memory(all.put(rows))?;
+        tables = again;
+    }
+    Ok(all)
+}
+
+/// The rows of a block, made of those of its tasks, each of which computes its part of the block over its own tables and those beside all. The tasks
+/// run one after the other, and each one's tables are let go before the next begins.
 ///
 /// Conditions: the tasks and the coordinator have their columns, and numbers fit 128 bits. Errors: `Rows` exactly where a group of a task, or
 /// of all tasks together, has more than 2^31 rows; want of memory (Citus, "Query Processing").
@@ -57,65 +97,18 @@ pub fn run_by_tasks(
     alloc: Global,
     query: &Query,
     kind: Combine,
-    reads: &[Tables],
+    beside: Tables,
+    parts: Parts,
     results: &Results,
 ) -> Result<Rows, QueryError>
-    requires tasks { All (λ db. IsSafeQuery (partial_of kind query.now) db results.now) reads.now }
-    requires merge { has_large_task kind query.now results.now reads.now ≡ false → CanMerge kind query.now results.now (task_rows kind query.now results.now reads.now) }
-    ensures gathers { IfOk result (λ rows. GathersTo kind query.now results.now (task_rows kind query.now results.now reads.now) rows) }
-    ensures fits { IfOk result (λ rows. (has_large_task kind query.now results.now reads.now ≡ false) × (has_large_together kind query.now results.now (task_rows kind query.now results.now reads.now) ≡ false)) }
-    ensures err { IfErr result (λ e. e ≡ QueryError.Rows → (has_large_task kind query.now results.now reads.now ≡ true) ⊎ (has_large_together kind query.now results.now (task_rows kind query.now results.now reads.now) ≡ true)) }
+    requires tasks { AllByRecursion (λ db. IsSafeQuery (partial_of kind query.now) db results.now) (reads_by beside parts) }
+    requires merge { has_large_task kind query.now results.now (reads_by beside parts) ≡ false → CanMerge kind query.now results.now (task_rows kind query.now results.now (reads_by beside parts)) }
+    ensures gathers { IfOk result (λ rows. GathersTo kind query.now results.now (task_rows kind query.now results.now (reads_by beside parts)) rows) }
+    ensures fits { IfOk result (λ rows. (has_large_task kind query.now results.now (reads_by beside parts) ≡ false) × (has_large_together kind query.now results.now (task_rows kind query.now results.now (reads_by beside parts)) ≡ false)) }
+    ensures err { IfErr result (λ e. e ≡ QueryError.Rows → (has_large_task kind query.now results.now (reads_by beside parts) ≡ true) ⊎ (has_large_together kind query.now results.now (task_rows kind query.now results.now (reads_by beside parts)) ≡ true)) }
 {
     let task = memory(partial(alloc, query, kind))?;
-    let parts = run_tasks(alloc, &task, reads, results);
+    let rows = run_tasks(alloc, &task, beside, parts, results);
     drop(task);
-    combine(alloc, query, kind, parts?, results)
-}
-
-/// A table alone with these rows.
-fn alone(alloc: Global, table: u32, rows: Rows) -> Result<Tables, NoMemory>
-    ensures { IfOk result (λ tables. tables ≡ table_alone table rows) }
-{
-    let mut tables = Tables::new(alloc);
-    tables.put((table, rows))?;
-    Ok(tables)
-}
-
-/// What the tasks read, each a part of a table.
-fn reads_of(alloc: Global, table: u32, parts: RowsList) -> Result<Reads, NoMemory>
-    ensures { IfOk result (λ reads. reads ≡ map (table_alone table) parts) }
-{
-    let mut reads = Reads::new(alloc);
-    for rows in parts.into_vec() {
-        reads.put(alone(alloc, table, rows)?)?;
-    }
-    Ok(reads)
-}
-
-/// The rows of a query over one table, computed by a task for each part of the table.
-///
-/// Conditions: the query has no CTE and no subquery; there is a part, and under `Nothing` one; the parts serve for this way of combining; and the
-/// query is safe over each part and over all. Errors: `Rows` only where a group of the query over all parts has more than 2^31 rows; want of
-/// memory (Citus, "Query Processing").
-pub fn run_over_table(
-    alloc: Global,
-    query: &Query,
-    kind: Combine,
-    table: u32,
-    parts: RowsList,
-) -> Result<Rows, QueryError>
-    requires over { IsOver table query.now }
-    requires simple { steps_of query.now ≡ [] }
-    requires some { IsNonEmpty parts }
-    requires few { length parts ≤ 2 ^ 31 }
-    requires only { kind ≡ kinds.Nothing → length parts ≡ 1 }
-    requires serves { Serves kind query.now [] parts }
-    requires each { AllByRecursion (λ part. IsSafeQuery query.now (table_alone table part) []) parts }
-    requires whole { IsSafeQuery query.now (whole_of table parts) [] }
-    ensures answers { IfOk result (λ rows. Answers query.now (whole_of table parts) rows) }
-    ensures err { IfErr result (λ e. e ≡ QueryError.Rows → is_large query.now (whole_of table parts) (results_of query.now (whole_of table parts)) ≡ true) }
-{
-    let reads = memory(reads_of(alloc, table, parts))?;
-    let results = Results::new(alloc);
-    run_by_tasks(alloc, query, kind, reads.as_slice(), &results)
+    combine(alloc, query, kind, rows?, results)
 }

@@ -3,4 +3,4 @@
 
 mod execution;
 
-pub use execution::{run_by_tasks, run_over_table};
+pub use execution::{Parts, run_by_tasks};

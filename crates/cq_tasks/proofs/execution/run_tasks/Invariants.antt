@@ -1,10 +1,12 @@
-use Rattle.std.proofs.Common.{◌≡◌, false, map, take}
+use Rattle.std.proofs.Common.{◌≡◌, false, map}
 use Rattle.std.specs.List.{list_any}
 use Rattle.cq_meaning.specs.Limits.{is_large}
 use Rattle.cq_meaning.specs.Queries.{meaning}
+use Rattle.cq_tasks.specs.Execution.{reads_by}
 use Rattle.cq_tasks.proofs.execution.run_tasks.Given as goal
 
-abbrev pub invariant-loop-tables : goal.invariant-loop-tables
-invariant-loop-tables l =
-    (l.all ≡ map (λ db. meaning l.task db l.results) (take l.tables-index l.reads))
-    × (list_any (λ db. is_large l.task db l.results) (take l.tables-index l.reads) ≡ false)
+abbrev pub invariant-loop-own : goal.invariant-loop-own
+invariant-loop-own l =
+    (l.tables ≡ l.fn.beside)
+    × (l.all ≡ map (λ db. meaning l.task db l.results) (reads_by l.fn.beside l.yielded))
+    × (list_any (λ db. is_large l.task db l.results) (reads_by l.fn.beside l.yielded) ≡ false)

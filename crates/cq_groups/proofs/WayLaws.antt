@@ -1,0 +1,92 @@
+-- A query's way to be computed serves for what its looks read.
+use Rattle.std.proofs.Common.{◌≡◌, ◌<◌, inl, inr, ℕ, true, List, [], ◌∷◌, ◌++◌, map, refl, sym, ◌∙◌, ap, subst, Option, slice_get}
+use Rattle.std.specs.List.{AllByRecursion}
+use Rattle.cq_tree.specs.declared.plan.Combine.{Combine}
+use Rattle.cq_tree.specs.declared.query.Query.{Query}
+use Rattle.cq_tree.specs.declared.statement.Statement.TheVariants as statement
+use Rattle.cq_meaning.specs.Values.{Row, Tables}
+use Rattle.cq_meaning.specs.Widths.{AllWithin, Within}
+use Rattle.cq_tasks.specs.Execution.{reads_by}
+use Rattle.cq_whole.specs.Tables.{tables_of_statement}
+use Rattle.cq_catalog.specs.Contents.{Contents}
+use Rattle.cq_planning.specs.Database.{IsRowOf}
+use Rattle.cq_planning.specs.Touched.{among, touched, touched_by_query}
+use Rattle.cq_pushdown_laws.specs.Pushed.{is_pushed}
+use Rattle.cq_demands.specs.Demands.{has_all, rows_with}
+use Rattle.cq_demands.specs.JoinDemands.{Wants, wants_at, narrow}
+use Rattle.cq_demands.proofs.Narrowed.{narrow_append}
+use Rattle.cq_group.specs.declared.group.GroupState.{GroupState}
+use Rattle.cq_group.specs.Resting.{journals_of}
+use Rattle.cq_history.specs.Computable.{column_bits, IsReadable}
+use Rattle.cq_history.specs.Journals.{journal_in}
+use Rattle.cq_history.specs.Legality.{IsLegal}
+use Rattle.cq_history.specs.Looks.{has_shard}
+use Rattle.cq_history.specs.Refusals.{is_alone}
+use Rattle.cq_history.proofs.Lists.{two_ways, all_filtered}
+use Rattle.cq_history.proofs.Sums.{among_here, among_more}
+use Rattle.cq_groups.specs.Reads.{Look, captured_of, captured_by, AreShaped}
+use Rattle.cq_groups.specs.Looking.{looks_of, looks_by, tables_there, merged}
+use Rattle.cq_groups.specs.Tasks.{own_of, beside_of, count_tasks, are_several, kind_by, way_by, CanServe, WayServes}
+use Rattle.cq_groups.proofs.GatherLaws.{seen_of, rows_at, look_rows}
+use Rattle.cq_groups.proofs.LookLaws.{in_order_ascends, in_order_below, has_shapes, rows_placed, rows_within}
+use Rattle.cq_groups.proofs.ServeLaws.{tasks_serve}
+use Rattle.cq_groups.proofs.TaskReads.{all_seen}
+
+module _ {X : Type 0} (c : Contents) (groups : List (GroupState X)) {nodes : ℕ} (shaped : AreShaped c nodes groups) (legal : (g : ℕ) → IsLegal c g (journal_in (journals_of groups) g)) (wants : Wants) (q : Query) where
+  abbrev tables : List ℕ
+  tables = tables_of_statement q
+
+  abbrev gs : List ℕ
+  gs = touched c (statement.Select q)
+
+  -- what is read of a table in a group
+  abbrev rows : ℕ → ℕ → List Row
+  rows g t = rows_with (wants_at wants t) (rows_at c groups g t)
+
+  abbrev seen : Tables
+  seen = narrow wants (captured_by groups (looks_of c q))
+
+  placed : (g t : ℕ) → has_shard c g t ≡ true → AllByRecursion (IsRowOf c g t) (rows g t)
+  placed g t s = all_filtered (IsRowOf c g t) (has_all (wants_at wants t)) (rows_at c groups g t) (rows_placed c groups shaped tables legal g t s)
+
+  within : (g t : ℕ) → has_shard c g t ≡ true → AllWithin (column_bits c t) (rows g t)
+  within g t s = all_filtered (Within (column_bits c t)) (has_all (wants_at wants t)) (rows_at c groups g t) (rows_within c groups shaped tables legal g t s)
+
+  seen_is : seen ≡ all_seen c tables rows gs
+  seen_is = by_groups gs (in_order_below c (touched_by_query c q))
+    where
+      narrowed_look : (g : ℕ) (us : List ℕ) → narrow wants (seen_of c g (rows_at c groups g) 0 us) ≡ map (λ u. (u, rows g u)) us
+      narrowed_look g [] = refl
+      narrowed_look g (u ∷ us) = ap (λ (v : Tables). (u, rows g u) ∷ v) (narrowed_look g us)
+
+      by_groups : (hs : List ℕ) → ((h : ℕ) → among h hs ≡ true → h < c.groups) → narrow wants (captured_by groups (looks_by c tables hs)) ≡ all_seen c tables rows hs
+      by_groups [] few = refl
+      by_groups (h ∷ hs) few =
+          let there : List ℕ = tables_there c h tables in
+          let first : narrow wants (captured_of (slice_get groups h) there) ≡ map (λ u. (u, rows h u)) there =
+          ap (narrow wants) (look_rows c groups h there (has_shapes c groups shaped tables h (few h (among_here h hs)))) ∙ narrowed_look h there in
+          let rest : narrow wants (captured_by groups (looks_by c tables hs)) ≡ all_seen c tables rows hs = by_groups hs (λ k m. few k (among_more k h hs m)) in
+          narrow_append wants (captured_of (slice_get groups h) there) (captured_by groups (looks_by c tables hs)) ∙ (λ i. first i ++ rest i)
+
+  serves : IsReadable c q → is_alone q ≡ true → are_several (count_tasks c (looks_of c q)) ≡ true → is_pushed c q ≡ true →
+      CanServe (kind_by c q) q (reads_by (beside_of c (looks_of c q) seen) (own_of c (looks_of c q) seen)) (merged seen)
+  serves readable alone several pushed =
+      subst (λ (v : Tables). CanServe (kind_by c q) q (reads_by (beside_of c (looks_of c q) v) (own_of c (looks_of c q) v)) (merged v)) (sym seen_is)
+      (tasks_serve c q rows placed within gs (in_order_ascends c (touched_by_query c q)) readable alone several pushed)
+
+  by_tests : IsReadable c q → WayServes (way_by c q (looks_of c q)) c q (looks_of c q) seen (merged seen)
+  by_tests readable = elim (two_ways (is_alone q)) [
+    | inr n ↦ rw n tt
+    | inl alone ↦ elim (two_ways (are_several (count_tasks c (looks_of c q)))) [
+      | inr n ↦ rw (alone, n) tt
+      | inl several ↦ elim (two_ways (is_pushed c q)) [
+        | inr n ↦ rw (alone, several, n) tt
+        | inl pushed ↦ rw (alone, several, pushed) (serves readable alone several pushed)
+      ]
+    ]
+  ]
+
+  pub way_serves : IsReadable c q → (looks : List Look) → looks ≡ looks_of c q → (way : Option Combine) → way ≡ way_by c q looks → WayServes way c q looks (narrow wants (captured_by groups looks)) (merged (narrow wants (captured_by groups looks)))
+  way_serves readable looks planned way is =
+      subst (λ (ls : List Look). WayServes way c q ls (narrow wants (captured_by groups ls)) (merged (narrow wants (captured_by groups ls)))) (sym planned)
+      (subst (λ w. WayServes w c q (looks_of c q) seen (merged seen)) (sym (is ∙ ap (way_by c q) planned)) (by_tests readable))

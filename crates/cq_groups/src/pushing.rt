@@ -1,0 +1,171 @@
+ghost use Rattle.std.specs.Prelude.{◌≡◌, ◌&&◌, not, IfOk};
+ghost use Rattle.std.specs.List.{list_any};
+ghost use Rattle.cq_tree.specs.declared.query.Query.{out-Query};
+ghost use Rattle.cq_planning.specs.Classes.{first_of_class};
+ghost use Rattle.cq_planning.specs.Conjuncts.{conjuncts_of, equalities};
+ghost use Rattle.cq_planning.specs.Relations.{distributions, is_plain as is_plain_by_rule, is_distributed as is_distributed_by_rule, is_left_in_block};
+ghost use Rattle.cq_shape.specs.Labels.{label};
+ghost use Rattle.cq_outline.specs.Tasking.{first_column as first_column_by_rule};
+ghost use Rattle.cq_pushdown_laws.specs.Pushed.{is_table as is_table_by_rule, joins_tables as joins_tables_by_rule, strays as strays_by_rule, are_pushed as are_pushed_by_rule};
+ghost use Rattle.cq_groups.specs.Tasks.{are_several as are_several_by_rule, count_tasks as count_tasks_by_rule, pushed_by, way_by};
+
+use crate::alone::is_alone;
+use crate::captures::is_of_task;
+use crate::reads::Look;
+use cq_catalog::Catalog;
+use cq_explain::{combine_by, shares_rows};
+use cq_relations::{
+    Block, Distribution, Relation, are_one_component, colocated, has_loose, plain, put_relations,
+    stays,
+};
+use cq_shape::labels_in;
+use cq_tree::{Combine, FromTree, Query};
+use cq_value::{Items, NoMemory};
+use std::alloc::Global;
+
+/// Whether these are at least two, and so few that tasks can be made of them.
+fn are_several(count: u64) -> bool
+    ensures { result ≡ are_several_by_rule count }
+{
+    2 <= count && count <= 2147483648
+}
+
+/// How many looks are at distributed tables.
+fn count_tasks(catalog: &Catalog, looks: &[Look]) -> u64
+    ensures { result ≡ count_tasks_by_rule catalog.now looks.now }
+{
+    looks
+        .iter()
+        .filter(|look| is_of_task(catalog, look))
+        .count() as u64
+}
+
+fn is_table(from: &FromTree) -> bool
+    ensures { result ≡ is_table_by_rule from.now }
+{
+    matches!(from, FromTree::Table(..))
+}
+
+/// Whether joins join tables alone, with one table on the right side of each LEFT JOIN.
+fn joins_tables(from: &FromTree) -> bool
+    ensures { result ≡ joins_tables_by_rule from.now }
+{
+    match from {
+        FromTree::Table(..) => true,
+        FromTree::Sub(_) | FromTree::Result(..) => false,
+        FromTree::Cross(a, b) => joins_tables(a.get()) && joins_tables(b.get()),
+        FromTree::Inner(a, b, _) => joins_tables(a.get()) && joins_tables(b.get()),
+        FromTree::Left(a, b, _) => joins_tables(a.get()) && is_table(b.get()),
+    }
+}
+
+/// Whether a distributed relation is planned by itself.
+fn is_apart(relations: &[Relation], relation: &Relation) -> bool
+    ensures { result ≡ (is_distributed_by_rule relation.now && not (is_left_in_block relations.now relation.now)) }
+{
+    relation.is_distributed() && !stays(relations, relation)
+}
+
+fn has_one_apart(relations: &[Relation]) -> bool
+    ensures { result ≡ list_any (λ r. is_distributed_by_rule r && not (is_left_in_block relations.now r)) relations.now }
+{
+    relations
+        .iter()
+        .any(|relation| is_apart(relations, relation))
+}
+
+/// Whether a relation is planned by itself, or its LEFT JOIN isn't co-located.
+#[tactic(auto, using(crate::proofs::PushLaws::stray_apart, crate::proofs::PushLaws::stray_loose))]
+fn has_stray(alloc: Global, block: Block<'_>) -> Result<bool, NoMemory>
+    requires { block.plain.now ≡ distributions is_plain_by_rule block.relations.now }
+    ensures { IfOk result (λ b. b ≡ list_any (strays_by_rule (label block.entry.labels.now) block.entry.relations.now) block.entry.relations.now) }
+{
+    if has_one_apart(block.relations) {
+        return Ok(true);
+    }
+    let good = colocated(alloc, block)?;
+    Ok(has_loose(block, good.as_slice()))
+}
+
+/// Whether pushdown makes tasks of a block.
+fn are_pushed(alloc: Global, block: Block<'_>) -> Result<bool, NoMemory>
+    requires { block.plain.now ≡ distributions is_plain_by_rule block.relations.now }
+    ensures { IfOk result (λ b. b ≡ are_pushed_by_rule (label block.entry.labels.now) block.entry.relations.now block.entry.plain.now) }
+{
+    let [first, others @ ..] = block.plain else {
+        return Ok(false);
+    };
+    if are_one_component(block.labels, *first, others) {
+        Ok(!has_stray(alloc, block)?)
+    } else {
+        Ok(false)
+    }
+}
+
+/// Whether pushdown makes tasks of a query of these relations.
+fn takes(
+    alloc: Global,
+    query: &Query,
+    relations: &[Relation],
+    plain_ones: &[Distribution],
+) -> Result<bool, NoMemory>
+    requires { plain_ones.now ≡ distributions is_plain_by_rule relations.now }
+    ensures { IfOk result (λ b. b ≡ are_pushed_by_rule (first_of_class (equalities (conjuncts_of (out-Query query.now).filter (out-Query query.now).from))) relations.now plain_ones.now) }
+{
+    let labels = labels_in(alloc, &query.from, &query.filter)?;
+    are_pushed(
+        alloc,
+        Block {
+            labels: labels.as_slice(),
+            relations,
+            plain: plain_ones,
+        },
+    )
+}
+
+fn first_column(plain_ones: &[Distribution]) -> u64
+    ensures { result ≡ first_column_by_rule plain_ones.now }
+{
+    match plain_ones {
+        [first, ..] => first.column,
+        [] => 0,
+    }
+}
+
+/// How the rows of several tasks become those of a query over tables alone, where pushdown makes tasks of it.
+#[tactic(auto, using(crate::proofs::PushLaws::not_joined, crate::proofs::PushLaws::not_taken, crate::proofs::PushLaws::taken))]
+fn pushed_kind(alloc: Global, catalog: &Catalog, query: &Query) -> Result<Option<Combine>, NoMemory>
+    ensures { IfOk result (λ kind. kind ≡ pushed_by catalog.now query.now) }
+{
+    if !joins_tables(&query.from) {
+        return Ok(None);
+    }
+    let mut relations = Items::new(alloc);
+    put_relations(alloc, catalog, &mut relations, &query.from, 0, None)?;
+    let plain_ones = plain(alloc, relations.as_slice())?;
+    if !takes(alloc, query, relations.as_slice(), plain_ones.as_slice())? {
+        return Ok(None);
+    }
+    let shares = shares_rows(alloc, query, first_column(plain_ones.as_slice()))?;
+    Ok(Some(combine_by(2, shares)))
+}
+
+/// How tasks' rows become those of a query, where tasks compute it by its looks: it has neither CTEs nor IN subqueries, distributed tables are
+/// read in several groups, and pushdown makes tasks of it.
+pub fn way_of(
+    alloc: Global,
+    catalog: &Catalog,
+    query: &Query,
+    looks: &[Look],
+) -> Result<Option<Combine>, NoMemory>
+    ensures { IfOk result (λ way. way ≡ way_by catalog.now query.now looks.now) }
+{
+    if !is_alone(query) {
+        return Ok(None);
+    }
+    if are_several(count_tasks(catalog, looks)) {
+        pushed_kind(alloc, catalog, query)
+    } else {
+        Ok(None)
+    }
+}
