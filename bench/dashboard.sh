@@ -34,7 +34,7 @@ repeat() {
 repeat 40 'SELECT count(*), sum(ms), max(ms) FROM events' >"$work/aggregates"
 repeat 30 'SELECT count(*), max(s.n), sum(s.total) FROM (SELECT page, count(*) AS n, sum(ms) AS total FROM events GROUP BY page) s' >"$work/groups"
 repeat 30 'SELECT e.ms, e.id, c.name FROM events e JOIN customers c ON e.customer = c.id WHERE e.id <= 20000 ORDER BY e.ms DESC, e.id LIMIT 1' >"$work/joins"
-repeat 30 'SELECT id, ms FROM events ORDER BY ms DESC, id LIMIT 1' >"$work/greatest"
+repeat 100 'SELECT id, ms FROM events ORDER BY ms DESC, id LIMIT 1' >"$work/greatest"
 
 prepare
 compare 'INSERTs of 1,000 rows' "$work/nothing" "$work/inserts"
