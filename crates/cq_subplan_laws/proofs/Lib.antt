@@ -1,0 +1,4 @@
+pub mod Settling
+pub mod Orders
+pub mod LargeAgain
+pub mod Fitting

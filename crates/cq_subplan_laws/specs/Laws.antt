@@ -1,0 +1,31 @@
+-- The laws on subplans.
+use Rattle.std.specs.Prelude.{◌≡◌, List, true, false, slice_set}
+use Rattle.cq_tree.specs.declared.query.Query.{Query}
+use Rattle.cq_meaning.specs.declared.Columns.{Columns}
+use Rattle.cq_meaning.specs.Values.{Row, Results, Tables}
+use Rattle.cq_meaning.specs.Queries.{AnswersWith}
+use Rattle.cq_meaning.specs.Results.{results_of, Answers}
+use Rattle.cq_meaning.specs.Limits.{is_large}
+use Rattle.cq_meaning.specs.Widths.{Holds}
+use Rattle.cq_meaning_laws.specs.Settled.{IsSettled, AllSettled}
+use Rattle.cq_meaning_laws.specs.WholeRules.{Step, steps_of, no_results, has_large_step, IsBoundStep}
+use Rattle.cq_subplan_laws.specs.Subplans.{AreAnswered, HasLarge}
+
+-- where no subquery is cut without an order over all its outputs, an answer over the results of subplans is one of the statement
+abbrev pub SubplansAnswer : Type 0
+SubplansAnswer = (q : Query) (db : Tables) (results : Results) (rows : List Row) → AllSettled q → AreAnswered db (no_results q) (steps_of q) results →
+    AnswersWith q db results rows → Answers q db rows
+
+-- a group that is too large over these results is too large for the statement
+abbrev pub SubplansLarge : Type 0
+SubplansLarge = (q : Query) (db : Tables) (results : Results) → AllSettled q → AreAnswered db (no_results q) (steps_of q) results →
+    is_large q db results ≡ true → is_large q db (results_of q db) ≡ true
+
+-- so is one of a subplan
+abbrev pub StepsLarge : Type 0
+StepsLarge = (q : Query) (db : Tables) → AllSettled q → HasLarge db (no_results q) (steps_of q) → has_large_step db (no_results q) (steps_of q) ≡ true
+
+-- the result of a subplan is within its widths, where the order of its rows isn't left open
+abbrev pub SubplansFit : Type 0
+SubplansFit = (cs : Columns) (db : Tables) (results : Results) (s : Step) (rows : List Row) → Holds cs db results → IsBoundStep cs s → IsSettled s.query → is_large s.query db results ≡ false →
+    AnswersWith s.query db results rows → Holds cs db (slice_set results s.number rows)

@@ -1,0 +1,2 @@
+pub mod Subplans
+pub mod Laws
