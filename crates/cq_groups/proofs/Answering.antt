@@ -48,7 +48,7 @@ use Rattle.cq_groups.specs.Answers.{HasShards, parts_by, answer_by}
 use Rattle.cq_groups.proofs.Entering.{long, journal_at}
 use Rattle.cq_groups.proofs.Failing.{fault_is_placed, named}
 use Rattle.cq_groups.proofs.Touching.{part_at, parts_at, parts_are, each_at, sum_at, entered_at, stop_is, ready_below}
-use Rattle.cq_groups.proofs.Judging.{its_not_local, is_writing, table_part}
+use Rattle.cq_groups.proofs.Judging.{is_writing, table_part}
 
 module _ {X : Type 0} (c : Contents) (op : ShardOp) (old : List (GroupState X)) (shards : HasShards c old (table_of op)) where
   -- ---- a group, and its journal
@@ -100,7 +100,7 @@ module _ {X : Type 0} (run : Run) (e : Environment) (who : Who) (op : ShardOp) (
   groups = touched e.catalog (statement.Write op)
 
   has : (g : ℕ) → among g groups ≡ true → HasShard (colocation_at e.catalog (table_of op)) (place_at e.catalog (table_of op)) g
-  has g m = (writable.touched (its_not_local e.catalog op runs)).own g m
+  has g m = writable.touched.own g m
 
   same_count : length (journals_of new) ≡ length (journals_of old)
   same_count = long new ∙ count ∙ sym (long old)

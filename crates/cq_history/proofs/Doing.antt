@@ -45,7 +45,7 @@ use Rattle.cq_history.specs.Laws.{IsFitting, IsWriting, reply_over as reply_over
 use Rattle.cq_history.proofs.Lists.{two_ways, all_weaker}
 use Rattle.cq_history.proofs.Sums.{among_here, among_only}
 use Rattle.cq_history.proofs.Replies.{reply_by_rows, reply_counted}
-use Rattle.cq_history.proofs.Writes.{parts_are_made, part_is_refused}
+use Rattle.cq_history.proofs.Writes.{not_local, parts_are_made, part_is_refused}
 
 -- ---- the part of a write is legal in its group
 
@@ -114,6 +114,7 @@ made_does rules run e who d seen op counts w parts made =
         sum_by counts touched,
         inl refl,
         record {
+          shared = not_local c touched op (place_at c (table_of op)) w.touched.reaches;
           counts = counts;
           sum = refl;
           entries = enters_each d seen touched kind made;
