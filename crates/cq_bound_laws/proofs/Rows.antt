@@ -8,8 +8,7 @@ use Rattle.cq_value.specs.declared.schema.Kind.{Kind}
 use Rattle.cq_value.specs.declared.schema.Kind.TheVariants as kind
 use Rattle.cq_value.specs.declared.schema.Column as schema
 use Rattle.cq_catalog.specs.declared.info.TableInfo.{TableInfo}
-use Rattle.cq_catalog.specs.declared.info.Place.{Place}
-use Rattle.cq_catalog.specs.declared.info.Place.TheVariants.{Local, Distributed, Reference}
+use Rattle.cq_catalog.specs.declared.info.Place.TheVariants.{Local}
 use Rattle.cq_catalog.specs.Contents.{number_of, is_local, place_in, shape_of}
 use Rattle.cq_grammar.specs.declared.name.Name.{Name}
 use Rattle.cq_grammar.specs.declared.expr.Expr as grammar
@@ -25,6 +24,7 @@ use Rattle.cq_reading.specs.Scopes.{Context}
 use Rattle.cq_reading.specs.Statements as st
 use Rattle.cq_reading_laws.proofs.Standing.{left_true}
 use Rattle.cq_bound_laws.proofs.Yields.{Yields, yields_give, yields_refuse, yields_then, yields_behind, yields_provided, yields_through}
+use Rattle.cq_history.proofs.Tables.{not_local}
 
 -- ---- values of a column's type
 
@@ -131,11 +131,6 @@ rows_fit cx t is rows = yields_through (AllByRecursion (AreOfKinds (kinds_in t.c
 -- it is there, and isn't local
 abbrev pub IsThere : List TableInfo → st.Target → Type 0
 IsThere tables p = (slice_get tables p.0 ≡ Some p.1) × (p.1.place ≢ Local)
-
-not_local : (p : Place) → not (is_local p) ≡ true → p ≢ Local
-not_local Local h e = absurd (cc h)
-not_local (Distributed at colocation first_shard) h e = cc e
-not_local (Reference group shard) h e = cc e
 
 abbrev pub IsShared : List TableInfo → ℕ → Type 0
 IsShared tables table = place_in (slice_get tables table) ≢ Local

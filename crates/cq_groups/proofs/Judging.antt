@@ -35,6 +35,7 @@ use Rattle.cq_history.specs.Legality.{LeavesColumn, IsLegalKind, IsLegal, IsKeye
 use Rattle.cq_history.specs.Computable.{column_bits, IsWritable}
 use Rattle.cq_history.specs.Laws.{IsFitting, IsWriting}
 use Rattle.cq_history.proofs.Lists.{all_weaker}
+use Rattle.cq_history.proofs.Doing.{table_of_part}
 use Rattle.cq_group.specs.declared.group.GroupState.{GroupState}
 use Rattle.cq_group.specs.Groups.{HasTable, entries_of, shapes}
 use Rattle.cq_group.specs.Calls.{CanCompute}
@@ -114,11 +115,6 @@ module _ (c : Contents) (group : ℕ) where
 
 -- ---- what a group can take
 
-pub table_part : (c : Contents) (op : ShardOp) (g : ℕ) → table_of (part c op g) ≡ table_of op
-table_part c (Insert table rows) g = refl
-table_part c (Update table filter_ sets) g = refl
-table_part c (Remove table filter_) g = refl
-
 module _ {X : Type 0} (c : Contents) (groups : List (GroupState X)) (legal : (g : ℕ) → IsLegal c g (journal_in (journals_of groups) g)) where
   its_pairs : (table place : ℕ) → (t : IsTableIn c groups table place) → AllByRecursion (λ (p : Pair). Within (column_bits c table) p.1) (replay table (shapes t.group table) (entries_of t.group)).pairs
   its_pairs table place t =
@@ -136,4 +132,4 @@ module _ {X : Type 0} (c : Contents) (groups : List (GroupState X)) (legal : (g 
   pub can_take : (op : ShardOp) → IsWritable c op → HasShards c groups (table_of op) → (place : ℕ) → among place (touched c (statement.Write op)) ≡ true → CanTake groups (part_at c op place)
   can_take op writable shards place m =
       let t = shards place (writable.touched.own place m) in
-      record { group = t.group; there = t.there; holds = (subst (λ n. HasTable t.group n) (sym (table_part c op place)) t.has, computes op place writable t) }
+      record { group = t.group; there = t.there; holds = (subst (λ n. HasTable t.group n) (sym (table_of_part c op place)) t.has, computes op place writable t) }

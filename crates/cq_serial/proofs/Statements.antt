@@ -10,7 +10,6 @@ use Rattle.cq_tree.specs.declared.journal.Who.{Who}
 use Rattle.cq_tree.specs.declared.journal.EntryKind.{EntryKind}
 use Rattle.cq_tree.specs.declared.journal.EntryKind.TheVariants.{Write}
 use Rattle.cq_tree.specs.declared.write.ShardOp.{ShardOp}
-use Rattle.cq_tree.specs.declared.write.ShardOp.TheVariants.{Insert, Update, Remove}
 use Rattle.cq_tree.specs.declared.write.Reply.{Reply}
 use Rattle.cq_tree.specs.declared.write.Reply.TheVariants.{Count, Duplicate, OutOfRange}
 use Rattle.cq_tree.specs.declared.statement.Statement.{Statement}
@@ -41,7 +40,7 @@ use Rattle.cq_history.specs.Legality.{IsLegal, IsKeyedBy, IsKeyed}
 use Rattle.cq_history.specs.Refusals.{rules, refusal_in}
 use Rattle.cq_history.specs.Standing.{View, in_journals, counted, IsMadeIn, IsRefusedIn, Yields, Runs, RunsUnless, StandsIn}
 use Rattle.cq_history.specs.Laws.{held_after}
-use Rattle.cq_history.proofs.Effects.{parts_have_effect}
+use Rattle.cq_history.proofs.Effects.{parts_have_effect, effect_of_counted}
 use Rattle.cq_history.proofs.Entries.{steps_kinds, with_list}
 use Rattle.cq_history.proofs.Later.{continues_same, can_hold_before}
 use Rattle.cq_history.proofs.Lists.{two_ways}
@@ -50,7 +49,9 @@ use Rattle.cq_history.proofs.Replies.{reply_by_rows, reply_counted}
 use Rattle.cq_serial.specs.Serial.{Keeps, IsWritten, IsSerialAnswer}
 use Rattle.cq_serial.proofs.Places.{numbered_who, IsRising, IsSerialEntry, upto_before}
 use Rattle.cq_serial.proofs.Quiet.{IsQuiet, AreQuiet, enters_none, quiet_runs}
-use Rattle.cq_serial.proofs.Contents.{kept, places, IsUnwritten, same_rows_before, held_before, held_is, rows_are, quiet_keeps, write_keeps, write_replies, effect_of_counted, refused_leaves, whole_alike}
+use Rattle.cq_serial.proofs.Contents.{kept, places, IsUnwritten, same_rows_before, held_before, held_is, rows_are, quiet_keeps, write_keeps, write_replies, refused_leaves}
+use Rattle.cq_history.proofs.Doing.{table_of_part}
+use Rattle.cq_history.proofs.Joined.{whole_alike}
 
 -- ---- refusals by planning
 
@@ -77,11 +78,6 @@ module _ (c : Contents) (db later : Tables) (keeps : Keeps db later) where
   refused_keeps s f (answer.Table names rows) p y = absurd (cc y)
   refused_keeps s f (answer.Failed fault.Memory) p y = failed_keeps s fault.Memory tt
   refused_keeps s f (answer.Failed x) p y = failed_keeps s x (subst IsCommon (sym (let same : x ≡ f = cc in same)) p)
-
-table_of_part : (c : Contents) (op : ShardOp) (g : ℕ) → table_of (part c op g) ≡ table_of op
-table_of_part c (Insert table rows) g = refl
-table_of_part c (Update table f sets) g = refl
-table_of_part c (Remove table f) g = refl
 
 -- ---- one statement
 
