@@ -85,7 +85,7 @@ module _ (tables : List TableInfo) where
   IsChangeOf i op = table_of op ≡ i
 
   known_change : (i : ℕ) → IsShared tables i → (op : ShardOp) → IsChangeOf i op → Yields K (give (statement.Write op))
-  unfolding Known, IsChangeOf
+  unfolding Known IsChangeOf
   known_change i h (Insert table rows) is = absurd is
   known_change i h (Update table filter sets) is = yields_give K (statement.Write (Update table filter sets)) (subst (IsShared tables) (sym is) h)
   known_change i h (Remove table filter) is = yields_give K (statement.Write (Remove table filter)) (subst (IsShared tables) (sym is) h)
