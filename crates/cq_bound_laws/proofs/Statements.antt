@@ -118,23 +118,23 @@ module _ (tables : List TableInfo) where
       yields_provided K (nat_lt (length tables) 64) (error.Limit limited.Tables 64) (give (statement.CreateTable name.text cs places)) (λ few. known_table name.text cs places))))
 
   updates : (table : Name) (sets : List SetClause) (filter : Option grammar_expr.Expr) → Yields K (st.update tables table sets filter)
+  unfolding IsChangeOf
   updates table sets filter =
       yields_then (IsThere tables) K (st.target_of tables table) _ (target_at_there tables table (number_of tables table.text)) (λ p there.
       yields_then (IsChangeOf p.0) K (st.update_of (st.among tables []) p.0 p.1 sets filter) (λ op. give (statement.Write op)) (op_of p.0 p.1) (known_change p.0 (shared tables p there)))
     where
       op_of : (i : ℕ) (t : TableInfo) → Yields (IsChangeOf i) (st.update_of (st.among tables []) i t sets filter)
-      unfolding IsChangeOf
       op_of i t =
           let cx = st.write_context (st.among tables []) (table_sources t.name t) in
           yields_behind (IsChangeOf i) (through (st.with_set cx t) sets []) _ (λ bound. yields_behind (IsChangeOf i) (st.filter_in cx filter) _ (λ c. yields_give (IsChangeOf i) (Update i c bound) refl))
 
   deletions : (table : Name) (filter : Option grammar_expr.Expr) → Yields K (st.deletion tables table filter)
+  unfolding IsChangeOf
   deletions table filter =
       yields_then (IsThere tables) K (st.target_of tables table) _ (target_at_there tables table (number_of tables table.text)) (λ p there.
       yields_then (IsChangeOf p.0) K (st.deletion_of (st.among tables []) p.0 p.1 filter) (λ op. give (statement.Write op)) (op_of p.0 p.1) (known_change p.0 (shared tables p there)))
     where
       op_of : (i : ℕ) (t : TableInfo) → Yields (IsChangeOf i) (st.deletion_of (st.among tables []) i t filter)
-      unfolding IsChangeOf
       op_of i t = yields_behind (IsChangeOf i) (st.filter_in (st.write_context (st.among tables []) (table_sources t.name t)) filter) _ (λ c. yields_give (IsChangeOf i) (Remove i c) refl)
 
   copies : (table : Name) (columns : List Name) (opts : List CopyOption) → Yields K (st.copying tables table columns opts)
