@@ -36,6 +36,7 @@ DELETE FROM t WHERE k = 3;";
 const FIRST_SHARD: u64 = 102008;
 
 const GROUPS: u32 = 2;
+
 const TABLES: u32 = 2;
 
 /// How many stores a node has.
