@@ -31,13 +31,14 @@ pub struct MoveReport {
 
 impl MoveReport {
     /// Puts the numbers into a row, from this column on. Takes no memory.
-    pub fn put_into(self, row: &mut Row, first: u64)
+    pub fn put_into(self, row: &mut Row, first: u32)
         requires { first + 3 ≤ length row.old }
         ensures { row.new ≡ with_report row.old first self }
     {
-        row.set(first, Value::Int(i128::from(self.copied)));
-        row.set(first + 1, Value::Int(i128::from(self.caught)));
-        row.set(first + 2, Value::Int(i128::from(self.last)));
+        let place = u64::from(first);
+        row.set(place, Value::Int(i128::from(self.copied)));
+        row.set(place + 1, Value::Int(i128::from(self.caught)));
+        row.set(place + 2, Value::Int(i128::from(self.last)));
     }
 }
 
