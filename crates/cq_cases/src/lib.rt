@@ -1,5 +1,5 @@
 //! What no script through the program shows: journals and what stores hold at the end; sources, sinks and stores that fail; the engine's
-//! joins, subqueries and writes; the printer. All is tests; the scripts are in `tests/sql`.
+//! joins, subqueries and writes; the printer; each call of a store that fails under moves. All is tests; the scripts are in `tests/sql`.
 #![tactic(auto)]
 
 mod checked;
@@ -7,6 +7,8 @@ mod checked;
 mod engine;
 #[cfg(test)]
 mod faults;
+#[cfg(test)]
+mod moves;
 #[cfg(test)]
 mod printing;
 #[cfg(test)]

@@ -18,7 +18,7 @@ mod tasks;
 mod wanting;
 mod writes;
 
-pub use error::WriteError;
+pub use error::{WriteError, fault_of};
 pub use gathering::gather;
 pub use laws::fault_laws;
 pub use looks::{has_shard, looks_at};

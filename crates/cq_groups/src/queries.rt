@@ -13,10 +13,11 @@ ghost use Rattle.cq_history.specs.Refusals.{rules, refusal_in};
 ghost use Rattle.cq_history.specs.Log.{IsAnswered};
 ghost use Rattle.cq_demands.specs.JoinDemands.{narrow};
 ghost use Rattle.cq_group.specs.Resting.{journals_of, AreResting, GoOn, HasFailed};
-ghost use Rattle.cq_groups.specs.Reads.{captured_by, groups_in, CanLook, AreShaped, IsComputable, Computes, IsComputed, fault_by};
+ghost use Rattle.cq_groups.specs.Reads.{captured_by, groups_in, CanLook, AreShaped, IsComputable, Computes, IsComputed};
 ghost use Rattle.cq_groups.specs.Looking.{merged, look_at, wanted_of, looks_of, environment_at};
 ghost use Rattle.cq_groups.specs.Tasks.{answer_by, WayServes};
 
+use crate::error::fault_of;
 use crate::looks::looks_at;
 use crate::near::near_node;
 use crate::pushing::way_of;
@@ -27,7 +28,7 @@ use crate::wanting::wants_of;
 use cq_answer::{Answer, Fault, What};
 use cq_catalog::Catalog;
 use cq_demands::{Wants, wanted_by};
-use cq_group::{GroupError, GroupState, Tables};
+use cq_group::{GroupState, Tables};
 use cq_plan::touched_by_query;
 use cq_store::Store;
 use cq_tree::{Combine, Query, QueryError, Who};
@@ -84,26 +85,6 @@ fn compute_seen(
     ensures { Computes query.now (merged seen) names result }
 {
     answer_with(names, run_seen(alloc, catalog, query, way, looks, seen))
-}
-
-/// The fault of an error in a read.
-fn fault_of(error: GroupError) -> Fault
-    ensures { result ≡ fault_by error }
-{
-    match error {
-        GroupError::Worker {
-            node,
-            shard,
-            before,
-            after,
-        } => Fault::Worker {
-            node,
-            shard,
-            before,
-            after,
-        },
-        GroupError::Memory => Fault::Memory,
-    }
 }
 
 /// The answer of a query by its looks and what it wants of its tables, each of which is a Read in its group's journal then.

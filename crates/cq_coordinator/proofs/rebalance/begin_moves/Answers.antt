@@ -3,8 +3,8 @@ use Rattle.cq_answer.specs.declared.fault.Fault.TheVariants as fault
 use Rattle.cq_history.specs.Rebalances.{read_for}
 use Rattle.cq_cluster.proofs.GroupLaws.{rests, sound_after, stores_after}
 use Rattle.cq_coordinator.proofs.QueryAnswers.{are_shaped}
-use Rattle.cq_coordinator.proofs.RebalancingAnswers.{memory_stops, read_accounts, read_blamed, read_still}
-use Rattle.cq_coordinator.proofs.rebalancing.begin_moves.Goals as goal
+use Rattle.cq_coordinator.proofs.RebalanceAnswers.{memory_stops, read_accounts, read_blamed, read_still}
+use Rattle.cq_coordinator.proofs.rebalance.begin_moves.Goals as goal
 
 pub plan_moves-planned-requires-clause-resting : goal.plan_moves-planned-requires-clause-resting
 plan_moves-planned-requires-clause-resting g c =
