@@ -22,10 +22,10 @@ use cq_bind_walk::expr;
 use cq_catalog::{Catalog, TableInfo};
 use cq_grammar::{Expr as Written, Name, RowValues};
 use cq_meaning_laws::width_laws;
-use cq_queries::eval;
+use cq_queries::{Lookups, eval};
 use cq_reading::{BindError, Bound, Found, Scope, World};
 use cq_tree::{Expr, ShardOp, Statement};
-use cq_value::{Items, NoMemory, Positions, Results, Row, Rows, Value};
+use cq_value::{Items, NoMemory, Positions, Row, Rows, Value};
 use cq_widths::bits_of;
 use std::alloc::Global;
 
@@ -36,7 +36,7 @@ fn value_of(alloc: Global, e: &Expr) -> Result<Value, NoMemory>
     match bits_of(e, &[], 0) {
         Some(_) => {
             width_laws();
-            eval(alloc, e, &Row::new(alloc), &Results::new(alloc))
+            eval(alloc, e, &Row::new(alloc), &Lookups::new(alloc))
         }
         None => Err(NoMemory),
     }

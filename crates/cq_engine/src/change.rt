@@ -3,9 +3,9 @@ ghost use Rattle.cq_meaning.specs.Effects.{is_kept, updates, fit_kinds, puts, dr
 ghost use Rattle.cq_meaning.specs.Safety.{IsSafe, IsSafeCondition};
 
 use crate::update::{fits_kinds, update_row};
-use cq_queries::test;
+use cq_queries::{Lookups, test};
 use cq_tree::{Cond, Set};
-use cq_value::{Change, Changes, Kind, NoMemory, Results, Row, Truth};
+use cq_value::{Change, Changes, Kind, NoMemory, Row, Truth};
 use std::alloc::Global;
 
 /// One Add for each row, under the ids from `next` on.
@@ -23,7 +23,7 @@ pub fn adds_of(alloc: Global, next: u64, rows: &[Row]) -> Result<Changes, NoMemo
 }
 
 /// Whether the filter is true of a row.
-fn keeps(filter: &Cond, pair: &(u64, Row), none: &Results) -> bool
+fn keeps(filter: &Cond, pair: &(u64, Row), none: &Lookups<'_>) -> bool
     requires none { none.now ≡ [] }
     requires safe { IsSafeCondition filter.now pair.now.1 [] }
     ensures { result ≡ is_kept filter.now pair.now }
@@ -36,7 +36,7 @@ pub fn drops_of(alloc: Global, filter: &Cond, pairs: &[(u64, Row)]) -> Result<Ch
     requires { All (λ p. IsSafeCondition filter.now p.1 []) pairs.now }
     ensures { IfOk result (λ changes. changes ≡ drops filter.now pairs.now) }
 {
-    let none = Results::new(alloc);
+    let none = Lookups::new(alloc);
     let mut changes = Changes::new(alloc);
     for pair in pairs {
         if keeps(filter, pair, &none) {
@@ -59,7 +59,7 @@ pub fn puts_of(
     requires within { All (λ p. All (λ s. s.column < length p.1) sets.now) pairs.now }
     ensures { IfOk result (λ made. MatchOption made (fit_kinds kinds.now (updates filter.now sets.now pairs.now) ≡ false) (λ changes. (changes ≡ puts filter.now sets.now pairs.now) × (fit_kinds kinds.now (updates filter.now sets.now pairs.now) ≡ true))) }
 {
-    let none = Results::new(alloc);
+    let none = Lookups::new(alloc);
     let mut changes = Changes::new(alloc);
     for pair in pairs {
         if keeps(filter, pair, &none) {

@@ -2,9 +2,9 @@ ghost use Rattle.std.specs.Prelude.{◌≡◌, ◌<◌, [], length, IfOk, All};
 ghost use Rattle.cq_meaning.specs.Effects.{updated, fits_kind, fits_kinds as row_fits};
 ghost use Rattle.cq_meaning.specs.Safety.{IsSafe};
 
-use cq_queries::eval;
+use cq_queries::{Lookups, eval};
 use cq_tree::Set;
-use cq_value::{Kind, NoMemory, Results, Row, Value};
+use cq_value::{Kind, NoMemory, Row, Value};
 use std::alloc::Global;
 
 fn fits(kind: Kind, v: &Value) -> bool
@@ -42,7 +42,7 @@ pub fn update_row(alloc: Global, sets: &[Set], row: &Row) -> Result<Row, NoMemor
     requires within { All (λ s. s.column < length row.now) sets.now }
     ensures { IfOk result (λ new. new ≡ updated sets.now row.now) }
 {
-    let none = Results::new(alloc);
+    let none = Lookups::new(alloc);
     let mut new = row.copy(alloc)?;
     for s in sets {
         let v = eval(alloc, &s.value, row, &none)?;

@@ -5,3 +5,4 @@ pub mod PruneLaws
 pub mod StepLaws
 pub mod TieLaws
 pub mod TreeRows
+pub mod MemberLaws

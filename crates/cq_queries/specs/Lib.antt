@@ -3,3 +3,4 @@ pub mod Operands
 pub mod Pruned
 pub mod Ties
 pub mod TreeLists
+pub mod Members

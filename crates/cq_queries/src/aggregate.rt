@@ -3,16 +3,17 @@ ghost use Rattle.cq_meaning.specs.Groups.{known_values, added, sum_of, greatest,
 ghost use Rattle.cq_meaning.specs.Safety.{Fits, IsSafe, IsSafeAggregate};
 ghost use Rattle.cq_queries.specs.Operands.{owned};
 
+use crate::members::Lookups;
 use crate::expression::look;
 use crate::operand::{self, Operand};
 use cq_meaning::Group;
 use cq_tree::{Agg, Expr};
-use cq_value::{NoMemory, Results, Row, Rows, Truth, Value};
+use cq_value::{NoMemory, Row, Rows, Truth, Value};
 use std::alloc::Global;
 use std::cmp::Ordering;
 
 /// How many values of an expression aren't NULL.
-fn count(e: &Expr, rows: &[Row], results: &Results) -> u64
+fn count(e: &Expr, rows: &[Row], results: &Lookups<'_>) -> u64
     requires { All (λ row. IsSafe e.now row results.now) rows.now }
     ensures { result ≡ length (known_values e.now results.now rows.now) }
 {
@@ -39,7 +40,7 @@ fn add_known<'a>(sum: Operand<'a>, v: Operand<'a>) -> Operand<'a>
 }
 
 /// The sum of the values that aren't NULL.
-fn sum<'a>(e: &'a Expr, rows: &'a [Row], results: &Results) -> Operand<'a>
+fn sum<'a>(e: &'a Expr, rows: &'a [Row], results: &Lookups<'_>) -> Operand<'a>
     requires safe { All (λ row. IsSafe e.now row results.now) rows.now }
     requires fits { (n : ℕ) → Fits (sum_of (known_values e.now results.now (take_first n rows.now))) }
     ensures { owned result ≡ sum_of (known_values e.now results.now rows.now) }
@@ -70,7 +71,7 @@ fn greater<'a>(best: Operand<'a>, v: Operand<'a>) -> Operand<'a>
 }
 
 /// The greatest of the values that aren't NULL.
-fn max<'a>(e: &'a Expr, rows: &'a [Row], results: &Results) -> Operand<'a>
+fn max<'a>(e: &'a Expr, rows: &'a [Row], results: &Lookups<'_>) -> Operand<'a>
     requires { All (λ row. IsSafe e.now row results.now) rows.now }
     ensures { owned result ≡ greatest (known_values e.now results.now rows.now) }
 {
@@ -100,7 +101,7 @@ fn lesser<'a>(best: Operand<'a>, v: Operand<'a>) -> Operand<'a>
 }
 
 /// The least of the values that aren't NULL.
-fn min<'a>(e: &'a Expr, rows: &'a [Row], results: &Results) -> Operand<'a>
+fn min<'a>(e: &'a Expr, rows: &'a [Row], results: &Lookups<'_>) -> Operand<'a>
     requires { All (λ row. IsSafe e.now row results.now) rows.now }
     ensures { owned result ≡ the_least (known_values e.now results.now rows.now) }
 {
@@ -111,7 +112,7 @@ fn min<'a>(e: &'a Expr, rows: &'a [Row], results: &Results) -> Operand<'a>
     least
 }
 
-fn aggregate_of(alloc: Global, a: &Agg, rows: &[Row], results: &Results) -> Result<Value, NoMemory>
+fn aggregate_of(alloc: Global, a: &Agg, rows: &[Row], results: &Lookups<'_>) -> Result<Value, NoMemory>
     requires { IsSafeAggregate results.now rows.now a.now }
     ensures { IfOk result (λ v. v ≡ aggregate results.now rows.now a.now) }
 {
@@ -125,7 +126,7 @@ fn aggregate_of(alloc: Global, a: &Agg, rows: &[Row], results: &Results) -> Resu
 }
 
 /// A group's keys and then its aggregates.
-fn row_of_group(alloc: Global, aggs: &[Agg], g: &Group, results: &Results) -> Result<Row, NoMemory>
+fn row_of_group(alloc: Global, aggs: &[Agg], g: &Group, results: &Lookups<'_>) -> Result<Row, NoMemory>
     requires { All (IsSafeAggregate results.now g.now.rows) aggs.now }
     ensures { IfOk result (λ row. row ≡ group_row aggs.now results.now g.now) }
 {
@@ -141,7 +142,7 @@ pub fn rows_of_groups(
     alloc: Global,
     aggs: &[Agg],
     groups: &[Group],
-    results: &Results,
+    results: &Lookups<'_>,
 ) -> Result<Rows, NoMemory>
     requires { All (λ g. All (IsSafeAggregate results.now g.rows) aggs.now) groups.now }
     ensures { IfOk result (λ all. all ≡ map (group_row aggs.now results.now) groups.now) }

@@ -1,15 +1,15 @@
 ghost use Rattle.std.specs.Prelude.{◌≡◌, ◌<◌, length, IfOk, All, option_map};
 ghost use Rattle.cq_meaning.specs.Values.{column};
-ghost use Rattle.cq_meaning.specs.Logic.{among};
 ghost use Rattle.cq_meaning.specs.Expressions.{value_of, truth_of};
 ghost use Rattle.cq_meaning.specs.Safety.{IsSafe, IsSafeCondition, IsSafeArm};
 ghost use Rattle.cq_queries.specs.Operands.{owned};
 ghost use Rattle.cq_queries.specs.TreeLists.{arm_value_in, first_known_in};
 
+use crate::members::Lookups;
 use crate::logic;
 use crate::operand::{self, Operand};
-use cq_tree::{Arm, Cond, Expr, Op};
-use cq_value::{NoMemory, Results, Row, Rows, Truth, Value};
+use cq_tree::{Arm, Cond, Expr};
+use cq_value::{NoMemory, Row, Truth, Value};
 use std::alloc::Global;
 
 fn column_of<'a>(row: &'a Row, at: u32) -> Operand<'a>
@@ -29,21 +29,9 @@ pub fn cell<'a>(row: &'a Row, at: u32) -> Operand<'a>
     }
 }
 
-/// `IN`, over rows of one column.
-fn is_among(v: Operand<'_>, rows: &Rows) -> Truth
-    ensures { result ≡ among (owned v.entry) rows.now }
-{
-    let mut found = Truth::No;
-    for row in rows.as_slice() {
-        let order = operand::compare(v, cell(row, 0));
-        found = logic::either(found, logic::holds(Op::Eq, order));
-    }
-    found
-}
-
 /// The value of an expression over a row, with borrowed texts.
 #[cycle(eval)]
-pub fn look<'a>(e: &'a Expr, row: &'a Row, results: &Results) -> Operand<'a>
+pub fn look<'a>(e: &'a Expr, row: &'a Row, results: &Lookups<'_>) -> Operand<'a>
     requires { IsSafe e.now row.now results.now }
     ensures { owned result ≡ value_of e.now row.now results.now }
 {
@@ -72,7 +60,7 @@ pub fn look<'a>(e: &'a Expr, row: &'a Row, results: &Results) -> Operand<'a>
 
 /// The value of the first arm whose condition is true.
 #[cycle(eval)]
-fn look_arms<'a>(arms: &'a [Arm], row: &'a Row, results: &Results) -> Option<Operand<'a>>
+fn look_arms<'a>(arms: &'a [Arm], row: &'a Row, results: &Lookups<'_>) -> Option<Operand<'a>>
     requires { All (IsSafeArm row.now results.now) arms.now }
     ensures { option_map owned result ≡ arm_value_in arms.now row.now results.now }
 {
@@ -86,7 +74,7 @@ fn look_arms<'a>(arms: &'a [Arm], row: &'a Row, results: &Results) -> Option<Ope
 
 /// The first value that isn't NULL.
 #[cycle(eval)]
-fn look_first<'a>(es: &'a [Expr], row: &'a Row, results: &Results) -> Operand<'a>
+fn look_first<'a>(es: &'a [Expr], row: &'a Row, results: &Lookups<'_>) -> Operand<'a>
     requires { All (λ e. IsSafe e row.now results.now) es.now }
     ensures { owned result ≡ first_known_in es.now row.now results.now }
 {
@@ -104,7 +92,7 @@ fn look_first<'a>(es: &'a [Expr], row: &'a Row, results: &Results) -> Operand<'a
 /// Conditions: the columns are in the row, the results in the list, and values fit 128 bits, as the widths of the binder make
 /// sure.
 #[cycle(eval)]
-pub fn test(c: &Cond, row: &Row, results: &Results) -> Truth
+pub fn test(c: &Cond, row: &Row, results: &Lookups<'_>) -> Truth
     requires { IsSafeCondition c.now row.now results.now }
     ensures { result ≡ truth_of c.now row.now results.now }
 {
@@ -114,7 +102,7 @@ pub fn test(c: &Cond, row: &Row, results: &Results) -> Truth
             operand::compare(look(a, row, results), look(b, row, results)),
         ),
         Cond::IsNull(e) => operand::test_null(look(e, row, results)),
-        Cond::InResult(e, i) => is_among(look(e, row, results), &results.as_slice()[*i as usize]),
+        Cond::InResult(e, i) => results.as_slice()[*i as usize].find(look(e, row, results)),
         Cond::And(a, b) => logic::both(test(a.get(), row, results), test(b.get(), row, results)),
         Cond::Or(a, b) => logic::either(test(a.get(), row, results), test(b.get(), row, results)),
         Cond::Not(a) => logic::negated(test(a.get(), row, results)),
@@ -125,7 +113,7 @@ pub fn test(c: &Cond, row: &Row, results: &Results) -> Truth
 /// The value of an expression over a row.
 ///
 /// Conditions: as `test` has them. Errors: want of memory.
-pub fn eval(alloc: Global, e: &Expr, row: &Row, results: &Results) -> Result<Value, NoMemory>
+pub fn eval(alloc: Global, e: &Expr, row: &Row, results: &Lookups<'_>) -> Result<Value, NoMemory>
     requires { IsSafe e.now row.now results.now }
     ensures { IfOk result (λ v. v ≡ value_of e.now row.now results.now) }
 {

@@ -3,11 +3,12 @@ ghost use Rattle.cq_meaning.specs.Expressions.{items_of};
 ghost use Rattle.cq_meaning.specs.Groups.{groups_by, groups_of};
 ghost use Rattle.cq_meaning.specs.Safety.{AreSafeOver};
 
+use crate::members::Lookups;
 use crate::select::values;
 use cq_keys::{Grouping, push_group};
 use cq_meaning::Group;
 use cq_tree::Expr;
-use cq_value::{NoMemory, Results, Row, Rows};
+use cq_value::{NoMemory, Row, Rows};
 use std::alloc::Global;
 
 /// The rows by the values of expressions, in the order of their first rows.
@@ -15,7 +16,7 @@ fn group_rows(
     alloc: Global,
     es: &[Expr],
     rows: Rows,
-    results: &Results,
+    results: &Lookups<'_>,
 ) -> Result<Vec<Group>, NoMemory>
     requires { AreSafeOver es.now results.now rows }
     ensures { IfOk result (λ groups. groups.items ≡ groups_by (items_of es.now results.now) rows) }
@@ -33,7 +34,7 @@ pub fn groups_for(
     alloc: Global,
     es: &[Expr],
     rows: Rows,
-    results: &Results,
+    results: &Lookups<'_>,
 ) -> Result<Vec<Group>, NoMemory>
     requires { AreSafeOver es.now results.now rows }
     ensures { IfOk result (λ groups. groups.items ≡ groups_of es.now results.now rows) }

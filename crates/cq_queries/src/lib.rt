@@ -7,6 +7,7 @@ mod expression;
 mod group;
 mod join;
 mod logic;
+mod members;
 mod nulls;
 mod operand;
 mod query;
@@ -16,4 +17,5 @@ mod sorting;
 mod ties;
 
 pub use expression::{eval, test};
+pub use members::{Listed, Lookups};
 pub use query::{Tables, run_query};

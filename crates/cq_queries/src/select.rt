@@ -2,14 +2,15 @@ ghost use Rattle.std.specs.Prelude.{◌≡◌, IfOk, All, filter, map};
 ghost use Rattle.cq_meaning.specs.Expressions.{keeps, items_of};
 ghost use Rattle.cq_meaning.specs.Safety.{IsSafe, IsSafeCondition, AreSafeOver};
 
+use crate::members::Lookups;
 use crate::expression::{eval, test};
 use crate::logic::is_true;
 use cq_tree::{Cond, Expr};
-use cq_value::{NoMemory, Results, Row, Rows};
+use cq_value::{NoMemory, Row, Rows};
 use std::alloc::Global;
 
 /// The rows of which a condition is true.
-pub fn select(alloc: Global, c: &Cond, rows: Rows, results: &Results) -> Result<Rows, NoMemory>
+pub fn select(alloc: Global, c: &Cond, rows: Rows, results: &Lookups<'_>) -> Result<Rows, NoMemory>
     requires { All (λ row. IsSafeCondition c.now row results.now) rows }
     ensures { IfOk result (λ kept. kept ≡ filter (keeps c.now results.now) rows) }
 {
@@ -23,7 +24,7 @@ pub fn select(alloc: Global, c: &Cond, rows: Rows, results: &Results) -> Result<
 }
 
 /// The values of expressions over a row.
-pub fn values(alloc: Global, es: &[Expr], row: &Row, results: &Results) -> Result<Row, NoMemory>
+pub fn values(alloc: Global, es: &[Expr], row: &Row, results: &Lookups<'_>) -> Result<Row, NoMemory>
     requires { All (λ e. IsSafe e row.now results.now) es.now }
     ensures { IfOk result (λ values. values ≡ items_of es.now results.now row.now) }
 {
@@ -39,7 +40,7 @@ pub fn values_of_all(
     alloc: Global,
     es: &[Expr],
     rows: &[Row],
-    results: &Results,
+    results: &Lookups<'_>,
 ) -> Result<Rows, NoMemory>
     requires { AreSafeOver es.now results.now rows.now }
     ensures { IfOk result (λ all. all ≡ map (items_of es.now results.now) rows.now) }
