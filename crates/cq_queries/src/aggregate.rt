@@ -3,8 +3,8 @@ ghost use Rattle.cq_meaning.specs.Groups.{known_values, added, sum_of, greatest,
 ghost use Rattle.cq_meaning.specs.Safety.{Fits, IsSafe, IsSafeAggregate};
 ghost use Rattle.cq_queries.specs.Operands.{owned};
 
-use crate::members::Lookups;
 use crate::expression::look;
+use crate::members::Lookups;
 use crate::operand::{self, Operand};
 use cq_meaning::Group;
 use cq_tree::{Agg, Expr};
@@ -112,7 +112,12 @@ fn min<'a>(e: &'a Expr, rows: &'a [Row], results: &Lookups<'_>) -> Operand<'a>
     least
 }
 
-fn aggregate_of(alloc: Global, a: &Agg, rows: &[Row], results: &Lookups<'_>) -> Result<Value, NoMemory>
+fn aggregate_of(
+    alloc: Global,
+    a: &Agg,
+    rows: &[Row],
+    results: &Lookups<'_>,
+) -> Result<Value, NoMemory>
     requires { IsSafeAggregate results.now rows.now a.now }
     ensures { IfOk result (λ v. v ≡ aggregate results.now rows.now a.now) }
 {
@@ -126,7 +131,12 @@ fn aggregate_of(alloc: Global, a: &Agg, rows: &[Row], results: &Lookups<'_>) -> 
 }
 
 /// A group's keys and then its aggregates.
-fn row_of_group(alloc: Global, aggs: &[Agg], g: &Group, results: &Lookups<'_>) -> Result<Row, NoMemory>
+fn row_of_group(
+    alloc: Global,
+    aggs: &[Agg],
+    g: &Group,
+    results: &Lookups<'_>,
+) -> Result<Row, NoMemory>
     requires { All (IsSafeAggregate results.now g.now.rows) aggs.now }
     ensures { IfOk result (λ row. row ≡ group_row aggs.now results.now g.now) }
 {

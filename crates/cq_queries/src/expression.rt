@@ -5,8 +5,8 @@ ghost use Rattle.cq_meaning.specs.Safety.{IsSafe, IsSafeCondition, IsSafeArm};
 ghost use Rattle.cq_queries.specs.Operands.{owned};
 ghost use Rattle.cq_queries.specs.TreeLists.{arm_value_in, first_known_in};
 
-use crate::members::Lookups;
 use crate::logic;
+use crate::members::Lookups;
 use crate::operand::{self, Operand};
 use cq_tree::{Arm, Cond, Expr};
 use cq_value::{NoMemory, Row, Truth, Value};

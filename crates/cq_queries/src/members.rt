@@ -99,7 +99,10 @@ impl Members {
         ensures { IsPermutation values result }
     {
         let values = in_order(values);
-        let (are_numbers, are_texts) = (are_numbers(values.as_slice()), are_texts(values.as_slice()));
+        let (are_numbers, are_texts) = (
+            are_numbers(values.as_slice()),
+            are_texts(values.as_slice()),
+        );
         Members {
             values,
             are_numbers,

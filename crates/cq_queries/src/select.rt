@@ -2,9 +2,9 @@ ghost use Rattle.std.specs.Prelude.{◌≡◌, IfOk, All, filter, map};
 ghost use Rattle.cq_meaning.specs.Expressions.{keeps, items_of};
 ghost use Rattle.cq_meaning.specs.Safety.{IsSafe, IsSafeCondition, AreSafeOver};
 
-use crate::members::Lookups;
 use crate::expression::{eval, test};
 use crate::logic::is_true;
+use crate::members::Lookups;
 use cq_tree::{Cond, Expr};
 use cq_value::{NoMemory, Row, Rows};
 use std::alloc::Global;
