@@ -1,6 +1,6 @@
 -- Elements of lists.
-use Rattle.std.proofs.Common.{◌≡◌, ℕ, ◌+◌, ◌<◌, suc, zero, get_or, ◌≤◌, inl, inr, Bool, true, false, List, [], ◌∷◌, ◌++◌, filter_map, length, Option, None, Some, refl, sym, ◌∙◌, ap, subst, arith}
-use Rattle.std.specs.Prelude.{◌&&◌, position, nat_eq}
+use Rattle.std.proofs.Common.{◌≡◌, ℕ, ◌+◌, ◌<◌, suc, zero, get_or, ◌≤◌, inl, inr, Bool, true, List, [], ◌∷◌, filter_map, length, Option, None, Some, refl, sym, ◌∙◌, ap, subst, arith}
+use Rattle.std.specs.Prelude.{position}
 use Rattle.std.specs.List.{list_any, list_all, cons_option, range_with_len, AllByRecursion}
 use Rattle.std.proofs.lemmas.Bool.Decides.{eqb_tells}
 use Rattle.std.proofs.lemmas.List.Quantifiers.{position-Some}
@@ -22,23 +22,27 @@ any_at p (y ∷ xs) h = elim (two_ways (p y)) [
   | inr f ↦ (let more : list_any p xs ≡ true = rw f at h in let u : (x : _) × Has xs x × (p x ≡ true) = any_at p xs more in (u.0, inr u.1, u.2))
 ]
 
+pub each_has : {X : Type 0} (P : X → Type 0) (xs : List X) → ((x : X) → Has xs x → P x) → AllByRecursion P xs
+each_has P [] h = tt
+each_has P (x ∷ xs) h = (h x (inl refl), each_has P xs (λ y k. h y (inr k)))
+
 -- what a function gives of some element
 pub given : {X Y : Type 0} (f : X → Option Y) (xs : List X) (y : Y) → Has (filter_map f xs) y → (x : X) × Has xs x × (f x ≡ Some y)
 given f [] y h = absurd h
-given f (x ∷ xs) y h = of_first (f x) refl h
+given f (x ∷ xs) y h = of_first (f x) refl (λ k. given f xs y k) h
   where
-    of_first : (o : Option _) → f x ≡ o → Has (cons_option o (filter_map f xs)) y → (z : _) × Has (x ∷ xs) z × (f z ≡ Some y)
-    of_first None e h = let u : (z : _) × Has xs z × (f z ≡ Some y) = given f xs y h in (u.0, inr u.1, u.2)
-    of_first (Some z) e (inl same) = (x, inl refl, e ∙ ap Some same)
-    of_first (Some z) e (inr h) = let u : (w : _) × Has xs w × (f w ≡ Some y) = given f xs y h in (u.0, inr u.1, u.2)
+    of_first : (o : Option _) → f x ≡ o → (Has (filter_map f xs) y → (z : _) × Has xs z × (f z ≡ Some y)) → Has (cons_option o (filter_map f xs)) y → (z : _) × Has (x ∷ xs) z × (f z ≡ Some y)
+    of_first None e more h = let u = more h in (u.0, inr u.1, u.2)
+    of_first (Some z) e more (inl same) = (x, inl refl, e ∙ ap Some same)
+    of_first (Some z) e more (inr h) = let u = more h in (u.0, inr u.1, u.2)
 
 -- ---- numbers
 
-length_numbers : (start n : ℕ) → length (numbers start n) ≡ n
+pub length_numbers : (start n : ℕ) → length (numbers start n) ≡ n
 length_numbers start zero = refl
 length_numbers start (suc n) = ap suc (length_numbers (start + 1) n)
 
-number_at : (start n i : ℕ) → i < n → get_or (numbers start n) i 0 ≡ start + i
+pub number_at : (start n i : ℕ) → i < n → get_or (numbers start n) i 0 ≡ start + i
 number_at start zero i h = absurd (omega (arith, h))
 number_at start (suc n) zero h = omega arith
 number_at start (suc n) (suc i) h = number_at (start + 1) n i (omega (arith, h)) ∙ omega arith

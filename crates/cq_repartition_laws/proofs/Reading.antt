@@ -1,6 +1,6 @@
 -- What the task of a bucket reads of a relation are the relation's rows that stand there.
-use Rattle.std.proofs.Common.{◌≡◌, ℕ, ℤ, ◌+◌, ◌<◌, inl, inr, Bool, true, false, List, [], ◌∷◌, ◌++◌, filter, option_map, length, Option, None, Some, refl, sym, ◌∙◌, ap, subst, arith}
-use Rattle.std.specs.Prelude.{not, ◌&&◌, ◌||◌, nat_eq, is_none, if◌then◌else◌}
+use Rattle.std.proofs.Common.{◌≡◌, ℕ, ℤ, ◌+◌, ◌<◌, inl, inr, true, false, List, [], ◌∷◌, ◌++◌, filter, option_map, length, Option, None, Some, refl, sym, ◌∙◌, ap, subst, arith}
+use Rattle.std.specs.Prelude.{not, ◌||◌, nat_eq, is_none, if◌then◌else◌}
 use Rattle.std.specs.List.{cons_option, range_with_len, AllByRecursion}
 use Rattle.std.specs.List.Sorted.{IsPermutation}
 use Rattle.std.proofs.lemmas.List.Sorted.{IsPermutation-refl}
@@ -18,7 +18,7 @@ use Rattle.cq_task_laws.proofs.SafeMerge.{at_has}
 use Rattle.cq_demands.specs.declared.joins.Leaf.{Leaf}
 use Rattle.cq_demands.specs.JoinDemands.{is_plain, leaves_from, AreWide}
 use Rattle.cq_demands.proofs.Joined.{Facts, from_facts}
-use Rattle.cq_planning_laws.proofs.Lists.{two_ways, all_left, all_right, all_append}
+use Rattle.cq_planning_laws.proofs.Lists.{two_ways, all_left, all_right, all_append, all_filtered}
 use Rattle.cq_planning_laws.proofs.Rows.{and_true}
 use Rattle.cq_repart.specs.Buckets.{bucket, key_token, is_in_range}
 use Rattle.cq_repart.specs.Splits.{key_of, beside_in, own_in}
@@ -99,6 +99,14 @@ module _ (keys : List Key) (ends : List ℤ) where
     spread_by None rows below = sym (filter_all (λ x. true) rows (λ x h. refl))
     spread_by (Some k) rows below =
         filter_same (λ row. is_in_range ends i (key_token k row)) (λ row. nat_eq (place_by ends (key_token k row)) i) rows (λ row h. in_bucket (key_token k row) below)
+
+    -- what is true of a table's rows is true of those that are read of it
+    pub bucket_rows : (P : Row → Type 0) (db : Tables) (t : ℕ) → AllByRecursion P (table_rows db t) → AllByRecursion P (table_rows (bucket_tables keys ends db i) t)
+    bucket_rows P db t all = subst (AllByRecursion P) (sym (read_by db t (key_of keys t) refl)) (of_key (key_of keys t))
+      where
+        of_key : (o : Option ℕ) → AllByRecursion P (rows_by o (table_rows db t))
+        of_key None = all
+        of_key (Some k) = all_filtered P (λ row. is_in_range ends i (key_token k row)) (table_rows db t) all
 
     pub unsplit_read : (db : Tables) (t : ℕ) → key_of keys t ≡ None → table_rows (bucket_tables keys ends db i) t ≡ table_rows db t
     unsplit_read db t e = read_by db t None e
