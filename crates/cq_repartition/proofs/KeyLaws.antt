@@ -2,6 +2,7 @@
 use Rattle.std.proofs.Common.{◌≡◌, ℕ, ◌+◌, ◌<◌, ◌≤◌, Bool, true, false, cond, List, [], ◌∷◌, length, get_or, Option, None, Some, refl, sym, ◌∙◌, ap, subst, arith}
 use Rattle.std.specs.Prelude.{◌&&◌, nat_eq, nat_lt, position}
 use Rattle.std.specs.List.{list_any, position_or_len}
+use Rattle.std.proofs.lemmas.Bool.{eqb-true}
 use Rattle.std.proofs.lemmas.List.Sums.{position_or_len_is}
 use Rattle.cq_tree.specs.declared.query.Query.{Query, Query', out-Query}
 use Rattle.cq_demands.specs.declared.joins.Leaf.{Leaf}
@@ -14,7 +15,7 @@ use Rattle.cq_planning.specs.Touched.{numbers}
 use Rattle.cq_repart.specs.declared.tables.Key.{Key}
 use Rattle.cq_repartition_laws.specs.Keys.{place_of, keys_among, keys_of, has_equality, has_some}
 use Rattle.cq_repartition_laws.proofs.Lists.{length_numbers, number_at}
-use Rattle.cq_repartition.specs.Repartitions.{keys_if_parted}
+use Rattle.cq_repartition.specs.Parted.{keys_if_parted}
 
 -- ---- the first that passes among numbers
 
@@ -71,7 +72,7 @@ module _ (class : ℕ) (q : Query) (first : ℕ → ℕ) (pairs : List (ℕ × �
 
 none_has : (keys : List Key) → nat_eq (length keys) 0 ≡ true → has_some keys ≡ false
 none_has [] e = refl
-none_has (k ∷ keys) e = cc
+none_has (k ∷ keys) e = let bad : length (k ∷ keys) ≡ 0 = eqb-true (length (k ∷ keys)) 0 e in absurd (omega (arith, bad))
 
 some_has : (keys : List Key) → nat_eq (length keys) 0 ≡ false → has_some keys ≡ true
 some_has [] e = cc

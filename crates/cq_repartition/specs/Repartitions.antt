@@ -1,5 +1,5 @@
 -- How the tasks of a repartition compute a query over buckets.
-use Rattle.std.specs.Prelude.{ℕ, ◌&&◌, if◌then◌else◌, Bool, nat_le, Option, None, Some, option_map, List}
+use Rattle.std.specs.Prelude.{ℕ, ◌&&◌, if◌then◌else◌, Bool, nat_le, Option, None, Some, option_map}
 use Rattle.cq_tree.specs.declared.plan.Planner.{Planner}
 use Rattle.cq_tree.specs.declared.plan.Planner.TheVariants.{FastPath, Router, Pushdown, Repartition as Parting, Coordinator}
 use Rattle.cq_tree.specs.declared.query.Query.{Query}
@@ -7,17 +7,12 @@ use Rattle.cq_catalog.specs.Contents.{Contents}
 use Rattle.cq_outline.specs.declared.joining.Joined.{Joined}
 use Rattle.cq_outline.specs.Joining.{joined_in}
 use Rattle.cq_outline.specs.Tasking.{planner_of, shares_rows, combine_by}
-use Rattle.cq_repart.specs.declared.tables.Key.{Key}
-use Rattle.cq_repartition_laws.specs.Keys.{keys_of, is_parted}
+use Rattle.cq_repartition.specs.Parted.{keys_if_parted}
 use Rattle.cq_repartition.specs.declared.repartition.Repartition.{Repartition}
 
 -- whether these are several buckets, and no more than a table can have shards
 abbrev pub are_buckets : ℕ → Bool
 are_buckets count = nat_le 2 count && nat_le count 128
-
--- the keys of a query's tables, where tasks can compute it by the class
-abbrev pub keys_if_parted : ℕ → Query → Option (List Key)
-keys_if_parted class q = if is_parted class q then Some (keys_of class q) else None
 
 -- by a join of its components: the tables are split by the class of its last step, into as many buckets as that has ranges
 abbrev pub repartition_over : Query → Joined → Option Repartition

@@ -4,7 +4,7 @@ ghost use Rattle.cq_tree.specs.declared.query.Query.{out-Query};
 ghost use Rattle.cq_planning.specs.Components.{is_one_class as is_one_class_by_rule};
 ghost use Rattle.cq_shape.specs.Labels.{label};
 ghost use Rattle.cq_repartition_laws.specs.Keys.{is_number, place_of as place_by_rule, key_at as key_at_by_rule, is_of_each as is_of_each_by_rule, keys_among as keys_among_by_rule};
-ghost use Rattle.cq_repartition.specs.Repartitions.{keys_if_parted};
+ghost use Rattle.cq_repartition.specs.Parted.{keys_if_parted};
 
 use cq_demands::{Leaf, is_plain, leaves_of};
 use cq_relations::{is_one_class, plus};
