@@ -71,14 +71,14 @@ plain_small (Left' p (more_of-FromTree a end_of-FromTree) q (more_of-FromTree b 
 module _ (side : FromTree → Side) (kind : Combine) (q : Query) (db : Tables) (task : ℕ → Tables) (indices : List ℕ) (serve : TasksServe side kind q db task [] indices) (simple : steps_of q ≡ [])
     (small : (dc : Tables) → is_large_from (from_of q) dc [] ≡ false) (several : kind ≡ Nothing → ⊥) (some : IsNonEmpty (map task indices)) (few : length (map task indices) ≤ 2 ^ 31)
     (safe : AllByRecursion (λ dc. IsSafeQuery q dc []) (map task indices)) (together : IsSafeOver q [] (joined (map (part_of q [] small kind) (map task indices)))) where
-  abbrev whole : List Row
-  whole = from_rows (from_of q) 0 db []
+  abbrev from_whole : List Row
+  from_whole = from_rows (from_of q) 0 db []
 
   parts_are : map (λ i. from_rows (from_of q) 0 (task i) []) indices ≡ map (part_of q [] small kind) (map task indices)
   parts_are = sym (map_map (part_of q [] small kind) task indices)
 
-  cut : Reordered (kept_of q [] whole) (flat_map (kept_of q []) (map (part_of q [] small kind) (map task indices)))
-  cut = subst (λ ps. Reordered (kept_of q [] whole) (flat_map (kept_of q []) ps)) parts_are (served_cut side kind q db task [] indices serve)
+  cut : Reordered (kept_of q [] from_whole) (flat_map (kept_of q []) (map (part_of q [] small kind) (map task indices)))
+  cut = subst (λ ps. Reordered (kept_of q [] from_whole) (flat_map (kept_of q []) ps)) parts_are (served_cut side kind q db task [] indices serve)
 
   serves : Serves kind q [] (map (part_of q [] small kind) (map task indices))
   serves = subst (Serves kind q []) parts_are (served_parts side kind q db task [] indices serve)
@@ -88,9 +88,9 @@ module _ (side : FromTree → Side) (kind : Combine) (q : Query) (db : Tables) (
     safe = tasks_safe q [] small kind (map task indices) safe;
     merge = tasks_merge q [] small kind (map task indices) (λ e. absurd (several e)) some few together;
     answers = λ made gathers.
-        let answer : AnswersWith q db [] made = answers_over q db [] made (tasks_gather q [] small kind (map task indices) whole cut made serves gathers) in
+        let answer : AnswersWith q db [] made = answers_over q db [] made (tasks_gather q [] small kind (map task indices) from_whole cut made serves gathers) in
         subst (λ rs. AnswersWith q db rs made) (sym (no_results_of q db simple)) answer;
-    large = λ h. ap (is_large q db) (no_results_of q db simple) ∙ large_over q db [] (small db) ∙ tasks_large q [] small kind (map task indices) whole cut some few h;
+    large = λ h. ap (is_large q db) (no_results_of q db simple) ∙ large_over q db [] (small db) ∙ tasks_large q [] small kind (map task indices) from_whole cut some few h;
   }
 
 -- ---- a repartition

@@ -12,6 +12,9 @@ use cq_tree::{Combine, Planner, Query};
 use cq_value::NoMemory;
 use std::alloc::Global;
 
+/// The most buckets: as many as a table can have shards.
+const MOST_BUCKETS: u32 = 128;
+
 /// How tasks compute a query over buckets: by which columns its tables are split, into how many buckets, and how the tasks' rows become the
 /// query's.
 #[derive(Drop)]
@@ -25,7 +28,7 @@ pub struct Repartition {
 fn are_buckets(count: u32) -> bool
     ensures { result ≡ are_buckets_by_rule count }
 {
-    2 <= count && count <= 128
+    2 <= count && count <= MOST_BUCKETS
 }
 
 /// How tasks compute a query whose components are joined so.
