@@ -94,10 +94,10 @@ module _ (c : Contents) (widths : ℕ → ℕ) where
 
 -- ---- a query without CTEs and IN subqueries
 
-no_results_of : (q : Query) (db : Tables) → steps_of q ≡ [] → results_of q db ≡ []
+pub no_results_of : (q : Query) (db : Tables) → steps_of q ≡ [] → results_of q db ≡ []
 no_results_of q db e = results_in_steps db q ∙ (ap (with_steps db (no_results q)) e ∙ ap (λ (steps : List Step). replicate (length steps) []) e)
 
-safe_alone : (q : Query) (db : Tables) → steps_of q ≡ [] → IsComputable q db → IsSafeQuery q db []
+pub safe_alone : (q : Query) (db : Tables) → steps_of q ≡ [] → IsComputable q db → IsSafeQuery q db []
 safe_alone q db simple h =
     subst (λ rs. IsSafeQuery q db rs) (no_results_of q db simple) (h.1 (ap (λ (steps : List Step). has_large_step db (no_results q) steps) simple))
 
@@ -113,7 +113,7 @@ task_tables_in kind q = in_from (partial kind q) ∙ ap tables_from (partial_fro
     in_from : (q : Query) → tables_in q ≡ tables_from (from_of q)
     in_from (Query' cs ctes ss subs from filter_ grouped keys aggs having items shown distinct order limit offset names) = refl
 
-over_together : (P : Tables → Type 0) (q : Query) (dbs : List Tables) → IsSafeTogether P q [] dbs → AllByRecursion (λ db. P db × (is_large_from (from_of q) db [] ≡ false)) dbs → IsSafeOver q [] (flat_map (λ db. from_rows (from_of q) 0 db []) dbs)
+pub over_together : (P : Tables → Type 0) (q : Query) (dbs : List Tables) → IsSafeTogether P q [] dbs → AllByRecursion (λ db. P db × (is_large_from (from_of q) db [] ≡ false)) dbs → IsSafeOver q [] (flat_map (λ db. from_rows (from_of q) 0 db []) dbs)
 over_together P (Query' cs ctes ss subs from filter_ grouped keys aggs having items shown distinct order limit offset names) dbs h each = h each
 
 -- ---- lists of tables
@@ -122,11 +122,11 @@ any_same : (p : Tables → Bool) (f g : ℕ → Tables) (ks : List ℕ) → ((k 
 any_same p f g [] same = refl
 any_same p f g (k ∷ ks) same = let first : p (f k) ≡ p (g k) = same k (inl refl) in let rest : list_any p (map f ks) ≡ list_any p (map g ks) = any_same p f g ks (λ j h. same j (inr h)) in λ i. first i || rest i
 
-all_of : (P : Tables → Type 0) (f : ℕ → Tables) → ((k : ℕ) → P (f k)) → (ks : List ℕ) → AllByRecursion P (map f ks)
+pub all_of : (P : Tables → Type 0) (f : ℕ → Tables) → ((k : ℕ) → P (f k)) → (ks : List ℕ) → AllByRecursion P (map f ks)
 all_of P f h [] = tt
 all_of P f h (k ∷ ks) = (h k, all_of P f h ks)
 
-some_of : (f : ℕ → Tables) (ks : List ℕ) → 2 ≤ length ks → IsNonEmpty (map f ks)
+pub some_of : (f : ℕ → Tables) (ks : List ℕ) → 2 ≤ length ks → IsNonEmpty (map f ks)
 some_of f [] l = absurd (omega (arith, l))
 some_of f (k ∷ ks) l = tt
 

@@ -16,6 +16,7 @@ mod shard;
 mod staging;
 mod tasks;
 mod wanting;
+mod ways;
 mod writes;
 
 pub use error::{WriteError, fault_of};

@@ -7,7 +7,7 @@ ghost use Rattle.cq_planning.specs.Relations.{distributions, is_plain as is_plai
 ghost use Rattle.cq_shape.specs.Labels.{label};
 ghost use Rattle.cq_outline.specs.Tasking.{first_column as first_column_by_rule};
 ghost use Rattle.cq_pushdown_laws.specs.Pushed.{is_table as is_table_by_rule, joins_tables as joins_tables_by_rule, strays as strays_by_rule, are_pushed as are_pushed_by_rule};
-ghost use Rattle.cq_groups.specs.Tasks.{are_several as are_several_by_rule, count_tasks as count_tasks_by_rule, pushed_by, way_by};
+ghost use Rattle.cq_groups.specs.Tasks.{are_several as are_several_by_rule, count_tasks as count_tasks_by_rule, pushed_by, pushed_way as pushed_way_by_rule};
 
 use crate::alone::is_alone;
 use crate::captures::is_of_task;
@@ -152,13 +152,13 @@ fn pushed_kind(alloc: Global, catalog: &Catalog, query: &Query) -> Result<Option
 
 /// How tasks' rows become those of a query, where tasks compute it by its looks: it has neither CTEs nor IN subqueries, distributed tables are
 /// read in several groups, and pushdown makes tasks of it.
-pub fn way_of(
+pub fn pushed_way(
     alloc: Global,
     catalog: &Catalog,
     query: &Query,
     looks: &[Look],
 ) -> Result<Option<Combine>, NoMemory>
-    ensures { IfOk result (λ way. way ≡ way_by catalog.now query.now looks.now) }
+    ensures { IfOk result (λ way. way ≡ pushed_way_by_rule catalog.now query.now looks.now) }
 {
     if !is_alone(query) {
         return Ok(None);

@@ -20,18 +20,18 @@ ghost use Rattle.cq_groups.specs.Tasks.{answer_by, WayServes};
 use crate::error::fault_of;
 use crate::looks::looks_at;
 use crate::near::near_node;
-use crate::pushing::way_of;
 use crate::reads::{Look, Looks, pick_group, read_groups};
 use crate::shard::{Shard, shard_alone};
 use crate::tasks::run_seen;
 use crate::wanting::wants_of;
+use crate::ways::{Way, way_of};
 use cq_answer::{Answer, Fault, What};
 use cq_catalog::Catalog;
 use cq_demands::{Wants, wanted_by};
 use cq_group::{GroupState, Tables};
 use cq_plan::touched_by_query;
 use cq_store::Store;
-use cq_tree::{Combine, Query, QueryError, Who};
+use cq_tree::{Query, QueryError, Who};
 use cq_value::{Names, NoMemory, Rows};
 use cq_whole::{run_statement, tables_of};
 use std::alloc::Global;
@@ -70,12 +70,12 @@ fn compute(alloc: Global, query: &Query, names: Names, tables: &Tables) -> Answe
     answer_with(names, run_statement(alloc, query, tables))
 }
 
-/// The answer of a query over what its looks read, by tasks whose rows are combined in this way or over all of it.
+/// The answer of a query over what its looks read, computed in this way.
 fn compute_seen(
     alloc: Global,
     catalog: &Catalog,
     query: &Query,
-    way: Option<Combine>,
+    way: Way,
     names: Names,
     looks: &[Look],
     seen: Tables,
@@ -95,7 +95,7 @@ fn look_and_compute<S: Store>(
     near: u32,
     catalog: &Catalog,
     query: &Query,
-    way: Option<Combine>,
+    way: Way,
     looks: &[Look],
     wants: &Wants,
 ) -> Answer

@@ -156,7 +156,7 @@ parts_apart c (Query' cs ctes ss subs from filter_ grouped keys aggs having item
     by_list [] e p = cc
     by_list (d ∷ ds) e p =
         apart_serve d.column (home_in c d.colocation) filter_ from (λ i. from_rows from 0 (task_tables c held i) []) groups (ascending_distinct 0 groups ascending)
-        (task_home c held groups can only_here filter_ from both.0 laid.0 d ds e)
+        (λ i m row h kept. task_home c held groups can only_here filter_ from both.0 laid.0 d ds e i m row h)
         (λ i m row h kept x same. one_value c held groups can only_here filter_ from both.0 laid.0 row (task_row c held groups can only_here filter_ from both.0 laid.0 i m row h).0 kept x d.column same)
         grouped keys aggs having items shown distinct (ap (λ xs. shares_rows (first_column xs) q) (sym e) ∙ apart)
 

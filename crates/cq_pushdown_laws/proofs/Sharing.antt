@@ -140,14 +140,14 @@ module _ (at : ℕ) (group : Value → ℕ) (filter_ : Cond) (from : FromTree) w
   abbrev IsOne : Row → Type 0
   IsOne row = IsOneValued [] firsts at row
 
-  module _ (part : ℕ → List Row) (groups : List ℕ) (differ : AreDistinct groups) (homed : (i : ℕ) → Has groups i → (row : Row) → Has (part i) row → group (column row at) ≡ i)
+  module _ (part : ℕ → List Row) (groups : List ℕ) (differ : AreDistinct groups) (homed : (i : ℕ) → Has groups i → (row : Row) → Has (part i) row → keeps filter_ [] row ≡ true → group (column row at) ≡ i)
       (one : (i : ℕ) → Has groups i → (row : Row) → Has (part i) row → keeps filter_ [] row ≡ true → IsOne row) where
     -- what is made of the parts shares no key, where the key of each thing tells the group of a kept row that it is made of
     share_none : (make : List Row → List Row) (key : Row → Row) (tells : Row → ℕ) →
         ((p : List Row) (x : Row) → Has (make p) x → (row : Row) × Has p row × (keeps filter_ [] row ≡ true) × (IsOne row → tells (key x) ≡ group (column row at))) → ShareNo key (map make (map part groups))
     share_none make key tells source = subst (ShareNo key) (sym (map_map make part groups)) (share_no key tells (λ i. make (part i)) groups differ (λ i m x h.
         (let u : (row : Row) × Has (part i) row × (keeps filter_ [] row ≡ true) × (IsOne row → tells (key x) ≡ group (column row at)) = source (part i) x h in
-        u.3 (one i m u.0 u.1 u.2) ∙ homed i m u.0 u.1)))
+        u.3 (one i m u.0 u.1 u.2) ∙ homed i m u.0 u.1 u.2)))
 
     -- no two parts share a group
     keys_apart : (keys : List Expr) → list_any (λ e. is_of_class firsts at (column_of e)) keys ≡ true → ShareNo (items_of keys []) (map (filter (keeps filter_ [])) (map part groups))
