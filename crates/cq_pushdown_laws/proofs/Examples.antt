@@ -13,7 +13,7 @@ use Rattle.cq_planning.specs.Conjuncts.{conjuncts_of, equalities}
 use Rattle.cq_planning.specs.Pushable.{relations}
 use Rattle.cq_planning.specs.Relations.{Relation, distributions, is_plain}
 use Rattle.cq_planning_laws.proofs.Examples.{equal, both, inner, left}
-use Rattle.cq_pushdown_laws.specs.Pushed.{joins_tables, are_pushed}
+use Rattle.cq_pushdown_laws.specs.Pushed.{joins_pushed, are_pushed}
 
 abbrev five : Contents
 five = record {
@@ -45,7 +45,7 @@ cross a b = Cross' (shape-the_row-FromTree-1 a) (more_of-FromTree a end_of-FromT
 
 -- whether a query with this FROM and this WHERE is pushed, by its relations
 abbrev pushed_by : List Relation → FromTree → Cond → Bool
-pushed_by rels from filter_ = joins_tables from && are_pushed (first_of_class (equalities (conjuncts_of filter_ from))) rels (distributions is_plain rels)
+pushed_by rels from filter_ = joins_pushed five from && are_pushed (first_of_class (equalities (conjuncts_of filter_ from))) rels (distributions is_plain rels)
 
 abbrev pushed : FromTree → Cond → Bool
 pushed from filter_ = pushed_by (relations five from 0 None) from filter_

@@ -3,6 +3,10 @@ pub mod Choices
 pub mod Standing
 pub mod Colocated
 pub mod Rights
+pub mod Firsts
+pub mod Placing
 pub mod Sharing
+pub mod Subqueries
+pub mod Large
 pub mod Serving
 pub mod Examples
