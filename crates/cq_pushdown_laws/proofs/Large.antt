@@ -61,6 +61,6 @@ module _ (c : Contents) (held : Held) (groups : List ℕ) (differ : AreDistinct 
       let both = and_true (joins_pushed c a) (joins_pushed c b) is in
       either_true (is_large_from a (task_tables c held i) []) (is_large_from b (task_tables c held i) []) (is_large_from a (whole c held) []) (is_large_from b (whole c held) []) (large_from a both.0 laid.0) (large_from b both.1 laid.1) h
   large_from (Left' p (more_of-FromTree a end_of-FromTree) q (more_of-FromTree b end_of-FromTree) on) is laid h =
-      let both = and_true (joins_pushed c a) (is_single b && joins_pushed c b) is in
-      let right = and_true (is_single b) (joins_pushed c b) both.1 in
-      either_true (is_large_from a (task_tables c held i) []) (is_large_from b (task_tables c held i) []) (is_large_from a (whole c held) []) (is_large_from b (whole c held) []) (large_from a both.0 laid.0) (large_from b right.1 laid.1) h
+      let single = and_true (is_single b) (joins_pushed c a && joins_pushed c b) is in
+      let both = and_true (joins_pushed c a) (joins_pushed c b) single.1 in
+      either_true (is_large_from a (task_tables c held i) []) (is_large_from b (task_tables c held i) []) (is_large_from a (whole c held) []) (is_large_from b (whole c held) []) (large_from a both.0 laid.0) (large_from b both.1 laid.1) h

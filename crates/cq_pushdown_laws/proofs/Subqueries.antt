@@ -326,6 +326,6 @@ module _ (c : Contents) (held : Held) (groups : List ℕ) (differ : AreDistinct 
   are_spread (Inner' p (more_of-FromTree a end_of-FromTree) q (more_of-FromTree b end_of-FromTree) on) start is laid =
       let both = and_true (joins_pushed c a) (joins_pushed c b) is in (are_spread a start both.0 laid.0, are_spread b (start + columns_in a) both.1 laid.1)
   are_spread (Left' p (more_of-FromTree a end_of-FromTree) q (more_of-FromTree b end_of-FromTree) on) start is laid =
-      let both = and_true (joins_pushed c a) (is_single b && joins_pushed c b) is in
-      let right = and_true (is_single b) (joins_pushed c b) both.1 in
-      (are_spread a start both.0 laid.0, single_spread b (start + columns_in a) right.0 (are_spread b (start + columns_in a) right.1 laid.1))
+      let single = and_true (is_single b) (joins_pushed c a && joins_pushed c b) is in
+      let both = and_true (joins_pushed c a) (joins_pushed c b) single.1 in
+      (are_spread a start both.0 laid.0, single_spread b (start + columns_in a) single.0 (are_spread b (start + columns_in a) both.1 laid.1))

@@ -35,7 +35,7 @@ abbrev mutual
   joins_pushed c (Result i n) = false
   joins_pushed c (Cross' p (more_of-FromTree a end_of-FromTree) q (more_of-FromTree b end_of-FromTree)) = joins_pushed c a && joins_pushed c b
   joins_pushed c (Inner' p (more_of-FromTree a end_of-FromTree) q (more_of-FromTree b end_of-FromTree) on) = joins_pushed c a && joins_pushed c b
-  joins_pushed c (Left' p (more_of-FromTree a end_of-FromTree) q (more_of-FromTree b end_of-FromTree) on) = joins_pushed c a && (is_single b && joins_pushed c b)
+  joins_pushed c (Left' p (more_of-FromTree a end_of-FromTree) q (more_of-FromTree b end_of-FromTree) on) = is_single b && (joins_pushed c a && joins_pushed c b)
 
   -- a query of which pushdown makes tasks
   pub is_pushed : Contents → Query → Bool
