@@ -16,7 +16,7 @@ use Rattle.cq_planning.specs.Pushable.{pushable, relations}
 use Rattle.cq_planning.specs.Relations.{Distribution, Relation, distributions, is_plain, is_distributed, is_left_in_block}
 use Rattle.cq_planning.specs.Components.{is_loose}
 use Rattle.cq_outline.specs.Tasking.{first_column, shares_rows, combine_by}
-use Rattle.cq_pushdown_laws.specs.Pushed.{is_single, joins_pushed, is_pushed, strays, are_pushed}
+use Rattle.cq_pushdown_laws.specs.Pushed.{is_single, reads_references, is_over_references, joins_pushed, is_pushed, strays, are_pushed}
 use Rattle.cq_groups.specs.Tasks.{kind_by, pushed_by}
 
 -- ---- relations that stray
@@ -39,10 +39,32 @@ pub stray_loose : (first : ℕ → ℕ) (rels : List Relation) (b l : Bool) → 
 stray_loose first rels b l e n is =
     is ∙ sym (any_either (λ (r : Relation). is_distributed r && not (is_left_in_block rels r)) (is_loose first rels) rels ∙ ap (λ v. v || list_any (is_loose first rels) rels) (sym e ∙ n))
 
--- ---- a query that is pushed
+-- ---- queries over reference tables alone
 
 module _ (c : Contents) where
-  pub pushed_sub : (q : Query) → joins_pushed c (Sub q) ≡ (is_pushed c q && is_some (pushable c q))
+  pub references_sub : (q : Query) → reads_references c (Sub q) ≡ is_over_references c q
+  unfolding hidden-the_row-Query-0 hidden
+  references_sub q = refl
+
+  pub references_cross : (a b : FromTree) → reads_references c (Cross a b) ≡ (reads_references c a && reads_references c b)
+  unfolding hidden-the_row-FromTree-1 hidden
+  references_cross a b = refl
+
+  pub references_inner : (a b : FromTree) (on : Cond) → reads_references c (Inner a b on) ≡ (reads_references c a && reads_references c b)
+  unfolding hidden-the_row-FromTree-1 hidden
+  references_inner a b on = refl
+
+  pub references_left : (a b : FromTree) (on : Cond) → reads_references c (Left a b on) ≡ (reads_references c a && reads_references c b)
+  unfolding hidden-the_row-FromTree-1 hidden
+  references_left a b on = refl
+
+  pub references_is : (q : Query) → is_over_references c q ≡ reads_references c (out-Query q).from
+  unfolding out-Query denote.Hole.Carrier.out
+  references_is (Query' cs ctes ss subs from where_ grouped keys aggs having items shown distinct order limit offset names) = refl
+
+  -- ---- a query that is pushed
+
+  pub pushed_sub : (q : Query) → joins_pushed c (Sub q) ≡ cond (is_some (pushable c q)) (is_pushed c q) (is_over_references c q)
   unfolding hidden-the_row-Query-0 hidden
   pushed_sub q = refl
 

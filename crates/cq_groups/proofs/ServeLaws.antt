@@ -1,5 +1,5 @@
 -- The tasks of a query that pushdown takes serve for it, over what its looks read.
-use Rattle.std.proofs.Common.{◌≡◌, ◌≤◌, ◌^◌, inl, inr, ℕ, Bool, true, false, List, [], ◌∷◌, ◌++◌, map, length, replicate, refl, sym, ◌∙◌, ap, subst, arith}
+use Rattle.std.proofs.Common.{◌≡◌, ◌≤◌, ◌^◌, inl, inr, ℕ, Bool, true, false, cond, List, [], ◌∷◌, ◌++◌, map, length, replicate, is_some, refl, sym, ◌∙◌, ap, subst, arith}
 use Rattle.std.specs.Prelude.{◌⊎◌, ◌&&◌, ◌||◌, nat_le}
 use Rattle.std.specs.List.{flat_map, list_any, AllByRecursion}
 use Rattle.std.proofs.lemmas.List.{length-map}
@@ -33,10 +33,11 @@ use Rattle.cq_whole.proofs.TableLaws.{meaning_alike, large_alike, tables_suffice
 use Rattle.cq_catalog.specs.Contents.{Contents}
 use Rattle.cq_planning.specs.Database.{IsRowOf, whole}
 use Rattle.cq_planning.specs.Joins.{plain_in}
+use Rattle.cq_planning.specs.Pushable.{pushable}
 use Rattle.cq_planning.specs.Reaching.{IsAscendingFrom}
 use Rattle.cq_planning_laws.specs.Laid.{IsLaidFrom, IsLaid}
 use Rattle.cq_outline.specs.Tasking.{first_column, shares_rows, combine_by}
-use Rattle.cq_pushdown_laws.specs.Pushed.{is_single, joins_pushed, is_pushed}
+use Rattle.cq_pushdown_laws.specs.Pushed.{is_single, reads_references, joins_pushed, is_pushed}
 use Rattle.cq_pushdown_laws.specs.Tables.{HoldsOnly, task_tables, side_of}
 use Rattle.cq_pushdown_laws.proofs.Spread.{has_among}
 use Rattle.cq_pushdown_laws.proofs.Serving.{large_below, parts_serve}
@@ -63,10 +64,26 @@ and_both false b h = cc
 
 -- reads no result, whose width matters
 module _ (c : Contents) (widths : ℕ → ℕ) where
+  references_laid : (f : FromTree) → reads_references c f ≡ true → IsLaidFrom c widths f → IsLaidFrom c (λ i. 0) f
+  references_laid (Table t n) h l = l
+  references_laid (Sub' p (more_of-Query (Query' cs ctes ss subs from filter_ grouped keys aggs having items shown distinct order limit offset names) end_of-Query)) h l = (references_laid from h l.0, l.1)
+  references_laid (Result i n) h l = cc
+  references_laid (Cross' p (more_of-FromTree a end_of-FromTree) q (more_of-FromTree b end_of-FromTree)) h l =
+      let both = and_both (reads_references c a) (reads_references c b) h in (references_laid a both.0 l.0, references_laid b both.1 l.1)
+  references_laid (Inner' p (more_of-FromTree a end_of-FromTree) q (more_of-FromTree b end_of-FromTree) on) h l =
+      let both = and_both (reads_references c a) (reads_references c b) h in (references_laid a both.0 l.0, references_laid b both.1 l.1)
+  references_laid (Left' p (more_of-FromTree a end_of-FromTree) q (more_of-FromTree b end_of-FromTree) on) h l =
+      let both = and_both (reads_references c a) (reads_references c b) h in (references_laid a both.0 l.0, references_laid b both.1 l.1)
+
   from_laid : (f : FromTree) → joins_pushed c f ≡ true → IsLaidFrom c widths f → IsLaidFrom c (λ i. 0) f
   from_laid (Table t n) h l = l
   from_laid (Sub' p (more_of-Query (Query' cs ctes ss subs from filter_ grouped keys aggs having items shown distinct order limit offset names) end_of-Query)) h l =
-      (from_laid from (and_both (joins_pushed c from) _ (and_both _ _ h).0).0 l.0, l.1)
+      let q : Query = Query' cs ctes ss subs from filter_ grouped keys aggs having items shown distinct order limit offset names in
+      (by_test (is_some (pushable c q)) (is_pushed c q) (reads_references c from) (IsLaidFrom c (λ i. 0) from) (λ pushed. from_laid from (and_both (joins_pushed c from) _ pushed).0 l.0) (λ only. references_laid from only l.0) h, l.1)
+    where
+      by_test : (b x y : Bool) (P : Type 0) → (x ≡ true → P) → (y ≡ true → P) → cond b x y ≡ true → P
+      by_test true x y P f g e = f e
+      by_test false x y P f g e = g e
   from_laid (Result i n) h l = cc
   from_laid (Cross' p (more_of-FromTree a end_of-FromTree) q (more_of-FromTree b end_of-FromTree)) h l =
       let both = and_both (joins_pushed c a) (joins_pushed c b) h in (from_laid a both.0 l.0, from_laid b both.1 l.1)

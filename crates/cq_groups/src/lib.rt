@@ -12,6 +12,7 @@ mod near;
 mod pushing;
 mod queries;
 mod reads;
+mod references;
 mod shard;
 mod staging;
 mod tasks;

@@ -13,6 +13,7 @@ ghost use Rattle.cq_groups.specs.Tasks.{are_several as are_several_by_rule, coun
 use crate::alone::is_alone;
 use crate::captures::is_of_task;
 use crate::reads::Look;
+use crate::references::is_over_references;
 use cq_catalog::Catalog;
 use cq_explain::{combine_by, shares_rows};
 use cq_relations::{
@@ -130,16 +131,21 @@ fn is_single(from: &FromTree) -> bool
     matches!(from, FromTree::Table(..) | FromTree::Sub(_))
 }
 
-/// Whether joins join tables, and subqueries that pushdown computes too and that can be pushed down where they stand, with one of these on the
-/// right side of each LEFT JOIN.
+/// Whether joins join tables and subqueries, with one of these on the right side of each LEFT JOIN. A subquery can be pushed down where it stands,
+/// and pushdown makes tasks of it, too, or it is over reference tables alone.
 #[cycle(pushing)]
 fn joins_pushed(alloc: Global, catalog: &Catalog, from: &FromTree) -> Result<bool, NoMemory>
     ensures { IfOk result (λ b. b ≡ joins_pushed_by_rule catalog.now from.now) }
 {
     match from {
         FromTree::Table(..) => Ok(true),
-        FromTree::Sub(query) => Ok(is_pushed(alloc, catalog, query.get())?
-            && pushable(alloc, catalog, query.get())?.is_some()),
+        FromTree::Sub(query) => {
+            if pushable(alloc, catalog, query.get())?.is_some() {
+                is_pushed(alloc, catalog, query.get())
+            } else {
+                Ok(is_over_references(catalog, query.get()))
+            }
+        }
         FromTree::Result(..) => Ok(false),
         FromTree::Cross(a, b) => {
             Ok(joins_pushed(alloc, catalog, a.get())? && joins_pushed(alloc, catalog, b.get())?)

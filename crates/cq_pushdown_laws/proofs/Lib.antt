@@ -1,4 +1,5 @@
 pub mod Spread
+pub mod References
 pub mod Choices
 pub mod Standing
 pub mod Colocated

@@ -18,7 +18,7 @@ use Rattle.cq_tree.specs.declared.query.Query.{Query, Query'}
 use Rattle.cq_meaning.specs.Expressions.{items_of, keeps}
 use Rattle.cq_meaning.specs.Groups.{distinct_if}
 use Rattle.cq_meaning.specs.Lists.{Has}
-use Rattle.cq_meaning.specs.Queries.{columns_in, from_rows, item_rows}
+use Rattle.cq_meaning.specs.Queries.{columns_in, from_rows, item_rows, meaning, outputs_of}
 use Rattle.cq_meaning.specs.Sorting.{keys_cmp, sorted, cut}
 use Rattle.cq_meaning.specs.Values.{Row, column, table_rows}
 use Rattle.cq_meaning.proofs.Reorder.{Reordered, then, mapped, filtered, permuted}
@@ -29,6 +29,7 @@ use Rattle.cq_task_laws.specs.Cutting.{AreDistinct}
 use Rattle.cq_task_laws.specs.Gathering.{IsNonEmpty, ShareNo}
 use Rattle.cq_task_laws.proofs.CutLaws.{flat_map_none}
 use Rattle.cq_task_laws.proofs.GatherRows.{distinct_if_parts, items_apart}
+use Rattle.cq_task_laws.proofs.SafeMerge.{at_has}
 use Rattle.cq_task_laws.proofs.PartLaws.{flat_map_again, flat_map_filter, flat_map_of_map, map_of_flat_map, mapped_has}
 use Rattle.cq_task_laws.proofs.Opened.{from_of}
 use Rattle.cq_catalog.specs.Contents.{Contents}
@@ -42,11 +43,12 @@ use Rattle.cq_planning.specs.Database.{Held, CanHold, whole}
 use Rattle.cq_planning.specs.Pushable.{Pushable, column_behind, distribution_by, pushable, pushable_by, pushable_over, relations}
 use Rattle.cq_planning.specs.Relations.{Distribution, Relation, distribution_at, distributions, is_left_in_block, is_plain}
 use Rattle.cq_planning.specs.Touched.{among}
-use Rattle.cq_planning_laws.specs.Laid.{IsColumnOf, IsLaidFrom}
-use Rattle.cq_planning_laws.proofs.Lists.{two_ways}
+use Rattle.cq_planning_laws.specs.Laid.{IsColumnOf, IsLaid, IsLaidFrom}
+use Rattle.cq_planning_laws.proofs.RowFacts.{IsWide, mean_wide}
 use Rattle.cq_planning_laws.proofs.Rows.{and_true, same_number}
-use Rattle.cq_pushdown_laws.specs.Pushed.{are_pushed, is_pushed, is_single, joins_pushed, strays}
+use Rattle.cq_pushdown_laws.specs.Pushed.{are_pushed, is_over_references, is_pushed, is_single, joins_pushed, strays}
 use Rattle.cq_pushdown_laws.specs.Tables.{HoldsOnly, home_in, task_tables}
+use Rattle.cq_pushdown_laws.proofs.References.{same_meaning}
 use Rattle.cq_pushdown_laws.proofs.Spread.{has_among, row_among, row_long, spread}
 use Rattle.cq_pushdown_laws.proofs.Choices.{AreSpread, IsAmong, IsColumn, IsSpread, IsSpreadBy}
 use Rattle.cq_pushdown_laws.proofs.Firsts.{first_stays}
@@ -280,9 +282,22 @@ module _ (c : Contents) (held : Held) (groups : List ℕ) (differ : AreDistinct 
     here = row_here t (place_at c t) refl;
   }
 
-  query_spread : (q : Query) (s : _) (start : ℕ) → is_pushed c q ≡ true → is_some (pushable c q) ≡ true → IsLaidFrom c (λ i. 0) (Sub' s (more_of-Query q end_of-Query)) → AreSpread c held groups (from_of q) 0 →
-      IsSpread c held groups (Sub' s (more_of-Query q end_of-Query)) start
-  query_spread (Query' ns ctes nss subs from filter_ grouped keys aggs having items shown distinct order limit offset names) s start pushed some laid are = by_pushable (pushable c q) refl some
+  -- a subquery over reference tables alone
+  references_spread : (q : Query) (s : _) (start : ℕ) → is_over_references c q ≡ true → IsLaid c (λ i. 0) q → IsSpreadBy c held groups None (Sub' s (more_of-Query q end_of-Query)) start
+  references_spread q s start is laid = record {
+    single = refl;
+    column = tt;
+    fits = (
+      λ x h. at_has (IsWide (outputs_of q)) (meaning q (whole c held) []) (mean_wide c (λ i. 0) (whole c held) [] q laid) x h,
+      λ i m. subst (IsPermutation (meaning q (task_tables c held i) [])) (same_meaning c held i q is ∙ sym (filter_all (λ x. true) (meaning q (whole c held) []) (λ x h. refl))) (IsPermutation-refl (meaning q (task_tables c held i) [])),
+    );
+    here = λ x h. tt;
+  }
+
+  pushed_spread : (q : Query) (p : Pushable) → pushable c q ≡ Some p → is_pushed c q ≡ true → IsLaid c (λ i. 0) q → AreSpread c held groups (from_of q) 0 → (s : _) (start : ℕ) →
+      IsSpreadBy c held groups (distribution_by 0 (Some p)) (Sub' s (more_of-Query q end_of-Query)) start
+  pushed_spread (Query' ns ctes nss subs from filter_ grouped keys aggs having items shown distinct order limit offset names) p e pushed laid are s start =
+      by_plain (distributions is_plain rels) refl (and_true (joins_pushed c from) (are_pushed first rels (distributions is_plain rels)) pushed).1
     where
       q : Query
       q = Query' ns ctes nss subs from filter_ grouped keys aggs having items shown distinct order limit offset names
@@ -293,21 +308,22 @@ module _ (c : Contents) (held : Held) (groups : List ℕ) (differ : AreDistinct 
       first : ℕ → ℕ
       first = first_of_class (equalities (conjuncts_of filter_ from))
 
-      by_plain : (p : Pushable) → pushable c q ≡ Some p → (xs : List Distribution) → distributions is_plain rels ≡ xs → are_pushed first rels xs ≡ true →
-          IsSpreadBy c held groups (distribution_by 0 (Some p)) (Sub' s (more_of-Query q end_of-Query)) start
-      by_plain p e [] plain y = cc
-      by_plain p e (d ∷ ds) plain y =
+      by_plain : (xs : List Distribution) → distributions is_plain rels ≡ xs → are_pushed first rels xs ≡ true → IsSpreadBy c held groups (distribution_by 0 (Some p)) (Sub' s (more_of-Query q end_of-Query)) start
+      by_plain [] plain y = cc
+      by_plain (d ∷ ds) plain y =
           let stay = none_strays (strays first rels) rels (and_true (list_all (is_one_component first d) ds) (not (list_any (strays first rels) rels)) y).1 in
           let begins : (more : List Distribution) × (distributions (is_left_in_block rels) rels ≡ d ∷ more) = first_stays c held groups first from are stay d ds plain in
           sub_spread filter_ grouped keys aggs having items shown distinct order limit offset c held groups differ from are p d ds plain y
           (pushes first rels (distributions (is_left_in_block rels) rels) (distributions is_plain rels) grouped keys (take shown items) limit offset p e d begins.0 begins.1)
           laid.1 s ns ctes nss subs names start
 
-      by_pushable : (o : Option Pushable) → pushable c q ≡ o → is_some o ≡ true → IsSpread c held groups (Sub' s (more_of-Query q end_of-Query)) start
-      by_pushable None e y = cc
-      by_pushable (Some p) e y =
-          subst (λ z. IsSpreadBy c held groups (distribution_by 0 z) (Sub' s (more_of-Query q end_of-Query)) start) (sym e)
-          (by_plain p e (distributions is_plain rels) refl (and_true (joins_pushed c from) (are_pushed first rels (distributions is_plain rels)) pushed).1)
+  query_spread : (q : Query) (s : _) (start : ℕ) → cond (is_some (pushable c q)) (is_pushed c q) (is_over_references c q) ≡ true → IsLaid c (λ i. 0) q → (is_pushed c q ≡ true → AreSpread c held groups (from_of q) 0) →
+      IsSpread c held groups (Sub' s (more_of-Query q end_of-Query)) start
+  query_spread q s start is laid are = by_pushable (pushable c q) refl is
+    where
+      by_pushable : (o : Option Pushable) → pushable c q ≡ o → cond (is_some o) (is_pushed c q) (is_over_references c q) ≡ true → IsSpread c held groups (Sub' s (more_of-Query q end_of-Query)) start
+      by_pushable None e y = subst (λ o. IsSpreadBy c held groups (distribution_by 0 o) (Sub' s (more_of-Query q end_of-Query)) start) (sym e) (references_spread q s start y laid)
+      by_pushable (Some p) e y = subst (λ o. IsSpreadBy c held groups (distribution_by 0 o) (Sub' s (more_of-Query q end_of-Query)) start) (sym e) (pushed_spread q p e y laid (are y) s start)
 
   single_spread : (f : FromTree) (start : ℕ) → is_single f ≡ true → AreSpread c held groups f start → IsSpread c held groups f start
   single_spread (Table t n) start is are = are
@@ -318,8 +334,7 @@ module _ (c : Contents) (held : Held) (groups : List ℕ) (differ : AreDistinct 
   are_spread (Table t n) start is laid = table_spread t n start laid
   are_spread (Sub' s (more_of-Query (Query' ns ctes nss subs from filter_ grouped keys aggs having items shown distinct order limit offset names) end_of-Query)) start is laid =
       let q : Query = Query' ns ctes nss subs from filter_ grouped keys aggs having items shown distinct order limit offset names in
-      let both = and_true (is_pushed c q) (is_some (pushable c q)) is in
-      query_spread q s start both.0 both.1 laid (are_spread from 0 (and_true (joins_pushed c from) _ both.0).0 laid.0)
+      query_spread q s start is laid (λ pushed. are_spread from 0 (and_true (joins_pushed c from) _ pushed).0 laid.0)
   are_spread (Result i n) start is laid = cc
   are_spread (Cross' p (more_of-FromTree a end_of-FromTree) q (more_of-FromTree b end_of-FromTree)) start is laid =
       let both = and_true (joins_pushed c a) (joins_pushed c b) is in (are_spread a start both.0 laid.0, are_spread b (start + columns_in a) both.1 laid.1)
