@@ -153,9 +153,13 @@ fn joins_pushed(alloc: Global, catalog: &Catalog, from: &FromTree) -> Result<boo
         FromTree::Inner(a, b, _) => {
             Ok(joins_pushed(alloc, catalog, a.get())? && joins_pushed(alloc, catalog, b.get())?)
         }
-        FromTree::Left(a, b, _) => Ok(is_single(b.get())
-            && joins_pushed(alloc, catalog, a.get())?
-            && joins_pushed(alloc, catalog, b.get())?),
+        FromTree::Left(a, b, _) => {
+            if is_single(b.get()) {
+                Ok(joins_pushed(alloc, catalog, a.get())? && joins_pushed(alloc, catalog, b.get())?)
+            } else {
+                Ok(false)
+            }
+        }
     }
 }
 
