@@ -116,7 +116,11 @@ fn first_column(plain_ones: &[Distribution]) -> u64
 }
 
 /// The relations of a query's FROM.
-fn relations_of(alloc: Global, catalog: &Catalog, query: &Query) -> Result<Items<Relation>, NoMemory>
+fn relations_of(
+    alloc: Global,
+    catalog: &Catalog,
+    query: &Query,
+) -> Result<Items<Relation>, NoMemory>
     ensures { IfOk result (λ relations. relations ≡ relations_by_rule catalog.now (out-Query query.now).from 0 None) }
 {
     let mut relations = Items::new(alloc);

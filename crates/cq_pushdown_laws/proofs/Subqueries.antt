@@ -249,8 +249,8 @@ module _ (filter_ : Cond) (grouped : Bool) (keys : List Expr) (aggs : List Agg) 
       column = let l = inside.0 in omega (arith, l);
       fits = (
         λ x h. (let u : (y : Row) × Has (full all) y × (take shown y ≡ x) = shown_part by.unlimited by.from_start all x h in
-        let wide : length u.0 ≡ length items = full_wide all u.0 u.1 in
-        ap length (sym u.2) ∙ length-take-le shown u.0 (omega (arith, long, wide))),
+            let wide : length u.0 ≡ length items = full_wide all u.0 u.1 in
+            ap length (sym u.2) ∙ length-take-le shown u.0 (omega (arith, long, wide))),
         λ i m. permuted (back (subst (λ us. Reordered (filter (λ x. nat_eq (home x) i) (made all)) us) (one_of home (λ j. made (part j)) groups differ home_is i m) (filtered (λ x. nat_eq (home x) i) together))),
       );
       here = λ x h.
