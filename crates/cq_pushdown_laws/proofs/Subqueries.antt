@@ -202,8 +202,8 @@ module _ (filter_ : Cond) (grouped : Bool) (keys : List Expr) (aggs : List Agg) 
 
     -- ---- what the tasks give together
 
-    at_home : (i : ℕ) → Has groups i → (row : Row) → Has (part i) row → home_in c d.colocation (column row d.column) ≡ i
-    at_home i m row h = task_home c held groups filter_ from are d ds plain i m row h
+    at_home : (i : ℕ) → Has groups i → (row : Row) → Has (part i) row → keeps filter_ [] row ≡ true → home_in c d.colocation (column row d.column) ≡ i
+    at_home i m row h kept = task_home c held groups filter_ from are d ds plain i m row h
 
     one : (i : ℕ) → Has groups i → (row : Row) → Has (part i) row → keeps filter_ [] row ≡ true → IsOne filter_ from d.column row
     one i m row h kept x same = one_value c held groups filter_ from are row (task_row c held groups filter_ from are i m row h).0 kept x d.column same
