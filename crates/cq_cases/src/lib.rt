@@ -1,4 +1,4 @@
-//! What no script through the program shows: journals and what stores hold at the end; sources, sinks and stores that fail; the engine's
+//! What no script through the program shows: journals and what stores hold at the end; sources, sinks and stores that fail; each call of a source and of a sink that fails; the engine's
 //! joins, subqueries and writes; the printer; each call of a store that fails under moves. All is tests; the scripts are in `tests/sql`.
 #![tactic(auto)]
 
@@ -13,6 +13,8 @@ mod moves;
 mod printing;
 #[cfg(test)]
 mod runs;
+#[cfg(test)]
+mod streams;
 #[cfg(test)]
 mod tables;
 #[cfg(test)]
