@@ -414,5 +414,5 @@ module _ {X : Type 0} (state : X → StoreState) (nodes : ℕ) where
                 stores_end c place groups h closed,
               );
             };
-        unused = λ place h. back.unused place (weaker IsUsed (λ (x : X). (state x).node ≢ place + 1) (λ x used e. omega (arith, used.1, e, h)) (all_stores groups) (used_stores c groups closed)) ∙ now.unused place h;
+        unused = λ place h. back.unused place (all_weaker IsUsed (λ (x : X). (state x).node ≢ place + 1) (λ x used e. omega (arith, used.1, e, h)) (all_stores groups) (used_stores c groups closed)) ∙ now.unused place h;
       }
