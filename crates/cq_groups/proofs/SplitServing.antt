@@ -157,8 +157,7 @@ module _ (c : Contents) (q : Query) (db : Tables) (within : AreWithin c db) (rea
     over_buckets =
         let served = can_serve (side_of keys ranges) kind q db task places (law.repartition_serves class q ranges db parted (is_part count (omega (arith, several)) (omega (arith, few))) wide) simple small
         (never_nothing (length ranges) (shares_rows class q) (subst (λ n. 2 ≤ n) (sym as_many) several)) (some_of task places (subst (λ n. 2 ≤ n) (sym (length-range_with_len 0 (length ranges) ∙ as_many)) several))
-        (subst (λ n. n ≤ 2 ^ 31) (sym counted) (omega (arith, few))) each_safe together in
-        (
+        (subst (λ n. n ≤ 2 ^ 31) (sym counted) (omega (arith, few))) each_safe together in (
           omega (arith, several),
           few,
           subst (λ n. CanServe (combine_by n (shares_rows class q)) q (reads_by (beside_in keys db) (parts_in keys ranges db)) db) as_many (subst (λ reads. CanServe kind q reads db) (sym reads_are) served),

@@ -70,12 +70,7 @@ fn is_of_each(labels: &[u32], class: u64, leaves: &[Leaf], key: Key) -> Result<b
 }
 
 /// The tables of a FROM that are split by a class, and by which columns.
-fn keys_among(
-    alloc: Global,
-    labels: &[u32],
-    class: u64,
-    leaves: &[Leaf],
-) -> Result<Keys, NoMemory>
+fn keys_among(alloc: Global, labels: &[u32], class: u64, leaves: &[Leaf]) -> Result<Keys, NoMemory>
     ensures { IfOk result (λ keys. keys ≡ keys_among_by_rule (label labels.now) class leaves.now) }
 {
     let mut keys = Keys::new(alloc);
