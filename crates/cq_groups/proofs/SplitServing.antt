@@ -40,7 +40,8 @@ use Rattle.cq_repartition_laws.specs.Keys.{keys_of, is_parted}
 use Rattle.cq_repartition_laws.specs.Tasks.{bucket_tables, side_of}
 use Rattle.cq_repartition_laws.proofs.Reading.{bucket_rows}
 use Rattle.cq_repartition_laws.proofs.Serving as law
-use Rattle.cq_repartition.specs.Repartitions.{are_buckets, keys_if_parted, repartition_over, over_planner, repartition_by}
+use Rattle.cq_repartition.specs.Repartitions.{are_buckets, repartition_over, over_planner, repartition_by}
+use Rattle.cq_repartition.specs.Parted.{keys_if_parted}
 use Rattle.cq_repartition.specs.declared.repartition.Repartition.{Repartition}
 use Rattle.cq_history.specs.Computable.{column_bits, AreWithin, IsReadable}
 use Rattle.cq_history.specs.Refusals.{is_alone}
@@ -70,27 +71,33 @@ plain_small (Left' p (more_of-FromTree a end_of-FromTree) q (more_of-FromTree b 
 -- tasks that serve for a query without CTEs, subqueries and IN subqueries can be computed and combined
 module _ (side : FromTree → Side) (kind : Combine) (q : Query) (db : Tables) (task : ℕ → Tables) (indices : List ℕ) (serve : TasksServe side kind q db task [] indices) (simple : steps_of q ≡ [])
     (small : (dc : Tables) → is_large_from (from_of q) dc [] ≡ false) (several : kind ≡ Nothing → ⊥) (some : IsNonEmpty (map task indices)) (few : length (map task indices) ≤ 2 ^ 31)
-    (safe : AllByRecursion (λ dc. IsSafeQuery q dc []) (map task indices)) (together : IsSafeOver q [] (joined (map (part_of q [] small kind) (map task indices)))) where
+    (safe : AllByRecursion (λ dc. IsSafeQuery q dc []) (map task indices)) (together : IsSafeOver q [] (joined (map (part_of q [] kind) (map task indices)))) where
   abbrev from_whole : List Row
   from_whole = from_rows (from_of q) 0 db []
 
-  parts_are : map (λ i. from_rows (from_of q) 0 (task i) []) indices ≡ map (part_of q [] small kind) (map task indices)
-  parts_are = sym (map_map (part_of q [] small kind) task indices)
+  parts_are : map (λ i. from_rows (from_of q) 0 (task i) []) indices ≡ map (part_of q [] kind) (map task indices)
+  parts_are = sym (map_map (part_of q [] kind) task indices)
 
-  cut : Reordered (kept_of q [] from_whole) (flat_map (kept_of q []) (map (part_of q [] small kind) (map task indices)))
+  cut : Reordered (kept_of q [] from_whole) (flat_map (kept_of q []) (map (part_of q [] kind) (map task indices)))
   cut = subst (λ ps. Reordered (kept_of q [] from_whole) (flat_map (kept_of q []) ps)) parts_are (served_cut side kind q db task [] indices serve)
 
-  serves : Serves kind q [] (map (part_of q [] small kind) (map task indices))
+  serves : Serves kind q [] (map (part_of q [] kind) (map task indices))
   serves = subst (Serves kind q []) parts_are (served_parts side kind q db task [] indices serve)
+
+  never : (b : Bool) → b ≡ true → b ≡ false → ⊥
+  never b e f = cc
 
   pub can_serve : CanServe kind q (map task indices) db
   can_serve = record {
-    safe = tasks_safe q [] small kind (map task indices) safe;
-    merge = tasks_merge q [] small kind (map task indices) (λ e. absurd (several e)) some few together;
+    safe = tasks_safe q [] kind (map task indices) safe;
+    merge = λ none. tasks_merge q [] kind (map task indices) (λ e. absurd (several e)) some few together none;
     answers = λ made gathers.
-        let answer : AnswersWith q db [] made = answers_over q db [] made (tasks_gather q [] small kind (map task indices) from_whole cut made serves gathers) in
+        let answer : AnswersWith q db [] made = answers_over q db [] made (tasks_gather q [] kind (map task indices) from_whole cut made serves gathers) in
         subst (λ rs. AnswersWith q db rs made) (sym (no_results_of q db simple)) answer;
-    large = λ h. ap (is_large q db) (no_results_of q db simple) ∙ large_over q db [] (small db) ∙ tasks_large q [] small kind (map task indices) from_whole cut some few h;
+    large = λ h. ap (is_large q db) (no_results_of q db simple) ∙ elim (tasks_large q [] kind (map task indices) from_whole cut some few h) [
+      | inl below ↦ absurd (never (is_large_from (from_of q) below.0 []) below.2 (small below.0))
+      | inr own ↦ large_over q db [] ∙ (λ i. small db i || own i)
+    ];
   }
 
 -- ---- a repartition
@@ -146,8 +153,8 @@ module _ (c : Contents) (q : Query) (db : Tables) (within : AreWithin c db) (rea
     abbrev kind : Combine
     kind = combine_by (length ranges) (shares_rows class q)
 
-    together : IsSafeOver q [] (joined (map (part_of q [] small kind) (map task places)))
-    together = subst (IsSafeOver q []) (sym (flat_map_of_map (λ (p : List Row). p) (part_of q [] small kind) (map task places)))
+    together : IsSafeOver q [] (joined (map (part_of q [] kind) (map task places)))
+    together = subst (IsSafeOver q []) (sym (flat_map_of_map (λ (p : List Row). p) (part_of q [] kind) (map task places)))
         (over_together (AreWithin c) q (map task places) (readable.together simple (map task places)) (all_of (λ dc. AreWithin c dc × (is_large_from (from_of q) dc [] ≡ false)) task (λ i. (task_within i, small (task i))) places))
 
     reads_are : reads_by (beside_in keys db) (parts_in keys ranges db) ≡ map task places
