@@ -1,5 +1,5 @@
-//! What no script through the program shows: journals and what stores hold at the end; sources, sinks and stores that fail; each call of a source and of a sink that fails; the engine's
-//! joins, subqueries and writes; the printer; each call of a store that fails under moves. All is tests; the scripts are in `tests/sql`.
+//! What no script through the program shows: journals and what stores hold at the end; sources, sinks and stores that fail; the engine's
+//! joins, subqueries and writes; the printer. All is tests; the scripts are in `tests/sql`.
 #![tactic(auto)]
 
 mod checked;
@@ -8,13 +8,9 @@ mod engine;
 #[cfg(test)]
 mod faults;
 #[cfg(test)]
-mod moves;
-#[cfg(test)]
 mod printing;
 #[cfg(test)]
 mod runs;
-#[cfg(test)]
-mod streams;
 #[cfg(test)]
 mod tables;
 #[cfg(test)]
