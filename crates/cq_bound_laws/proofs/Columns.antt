@@ -1,6 +1,6 @@
 -- Between two statements of a serial script each distribution column is a column of its table.
-use Rattle.std.proofs.Common.{◌≡◌, ◌<◌, zero, suc, ℕ, Bool, true, false, List, [], ◌∷◌, ◌++◌, length, refl, sym, ap, ◌∙◌, subst, arith, Some, None, Option, slice_get, position}
-use Rattle.std.specs.Prelude.{⊤, option_and_then, option_map, unwrap_or, is_none}
+use Rattle.std.proofs.Common.{◌≡◌, ◌<◌, zero, suc, ℕ, Bool, false, List, [], ◌∷◌, ◌++◌, length, refl, sym, ap, ◌∙◌, subst, arith, Some, None, Option, slice_get, position}
+use Rattle.std.specs.Prelude.{option_and_then, unwrap_or, is_none}
 use Rattle.std.proofs.lemmas.List.{length-map}
 use Rattle.std.proofs.lemmas.List.Quantifiers.{position-Some}
 use Rattle.cq_value.specs.declared.schema.Column.{Column}
@@ -9,7 +9,6 @@ use Rattle.cq_value.specs.declared.schema.With.{With}
 use Rattle.cq_catalog.specs.Contents.{Contents, number_of, table_named, place_in, columns_in, key_in, with_place, shape_of}
 use Rattle.cq_catalog.specs.Creation.{refusal_if, with_table}
 use Rattle.cq_catalog.specs.Distribution.{column_named, column_refusal, lacks, target_refusal, room_refusal, local_refusal, decision_of, distribution_refusal, distributed_at, distributed_by, with_reference}
-use Rattle.cq_catalog.specs.Refusals.{first_of}
 use Rattle.cq_catalog.specs.declared.decision.Target.{Target}
 use Rattle.cq_catalog.specs.declared.decision.Target.TheVariants.{Joins, Opens}
 use Rattle.cq_catalog.specs.declared.error.CatalogError.{CatalogError}
@@ -24,16 +23,16 @@ use Rattle.cq_answer.specs.declared.answer.Answer.{Answer}
 use Rattle.cq_answer.specs.declared.answer.Answer.TheVariants as answer
 use Rattle.cq_answer.specs.declared.answer.Tag.{Tag}
 use Rattle.cq_answer.specs.declared.answered.Answered.{Answered}
-use Rattle.cq_answer.specs.declared.fault.Fault.{Fault}
-use Rattle.cq_answer.specs.Faults.{fault_of_catalog}
 use Rattle.cq_planning_laws.specs.Laid.{IsColumnOf}
 use Rattle.cq_journal.specs.Records.{Journal}
 use Rattle.cq_history.specs.Run.{Run, Rules, Environment, first, after, environment_from}
-use Rattle.cq_history.specs.Standing.{View, Yields, Runs, RunsUnless, distribution_fault}
+use Rattle.cq_history.specs.Standing.{Yields, Runs, distribution_fault}
 use Rattle.cq_history.specs.Deeds.{Deed, Does, in_deed}
 use Rattle.cq_history.specs.Log.{who_of, AllDoneFrom}
 use Rattle.cq_history.proofs.Moving.{failed_keeps_catalog}
 use Rattle.cq_bound_laws.specs.Laws.{HasColumns, ColumnsStand}
+use Rattle.cq_history.proofs.Given.{IsGiven, given_yields, given_runs, none_before}
+use Rattle.cq_history.proofs.Tables.{first_none, not_refused}
 
 -- ---- lists of tables
 
@@ -54,14 +53,6 @@ one_placed (t ∷ ts) (suc n) p own h zero = h 0
 one_placed (t ∷ ts) (suc n) p own h (suc i) = one_placed ts n p own (λ j. h (suc j)) i
 
 -- ---- the column by which a table is distributed
-
-first_none : {X : Type 0} (o : Option X) (rest : List (Option X)) → first_of (o ∷ rest) ≡ None → (o ≡ None) × (first_of rest ≡ None)
-first_none None rest h = (refl, h)
-first_none (Some x) rest h = absurd (cc h)
-
-not_refused : (b : Bool) (x : CatalogError) → refusal_if b x ≡ None → b ≡ false
-not_refused true x h = absurd (cc h)
-not_refused false x h = refl
 
 found_below : (columns : List Column) (test : Column → Bool) (o : Option ℕ) → position test columns ≡ o → is_none o ≡ false → unwrap_or o 0 < length columns
 found_below columns test None is h = absurd (cc h)
@@ -100,26 +91,6 @@ module _ (c : Contents) (columns : HasColumns c) where
       subst (λ n. d.column < n) (sym (length-map t.columns (λ (x : Column). x.kind))) (of_table c.tables (number_of c.tables table) column two.0 t is))
 
 -- ---- statements
-
--- an answer that isn't a refusal
-abbrev IsGiven : Answer → Type 0
-IsGiven (answer.Tag t) = ⊤
-IsGiven (answer.Table names rows) = ⊤
-IsGiven (answer.Failed f) = ⊥
-
-given_yields : (o : Option Fault) (done : Answer → Type 0) (a : Answer) → IsGiven a → Yields o done a → o ≡ None
-given_yields None done a g y = refl
-given_yields (Some f) done (answer.Tag t) g y = absurd (cc y)
-given_yields (Some f) done (answer.Table names rows) g y = absurd (cc y)
-given_yields (Some f) done (answer.Failed x) g y = absurd g
-
-given_runs : (o : Option Fault) (touched : List ℕ) (run : Run) (e : Environment) (v : View) (s : Statement) (a : Answer) → IsGiven a → RunsUnless o touched run e v s a → Runs touched run e v s a
-given_runs None touched run e v s a g r = r
-given_runs (Some f) touched run e v s a g r = absurd (cc (given_yields (Some f) (λ b. ⊥) a g r.1))
-
-none_before : (o : Option CatalogError) (more : List (Option Fault)) → first_of (option_map fault_of_catalog o ∷ more) ≡ None → o ≡ None
-none_before None more h = refl
-none_before (Some x) more h = absurd (cc h)
 
 module _ (rules : Rules) (run : Run) (e : Environment) (who : Who) (d : Deed) (columns : HasColumns e.catalog) where
   runs : (s : Statement) (a : Answer) → IsGiven a → Does rules run e who d (Some s) a → Runs (rules.touched e.catalog s) run e (in_deed e.catalog d) s a

@@ -30,7 +30,7 @@ use Rattle.cq_written_laws.proofs.Texts.{text_writes_bound, text_statements_boun
 use Rattle.cq_history.specs.Computable.{column_bits, AreWithin, IsReadable, FitsTable, IsWritable, IsComputable}
 use Rattle.cq_bound_laws.specs.Laws.{UpdatesSetSorts, HasColumns, TextsCompute}
 use Rattle.cq_bound_laws.proofs.Sorts.{typed_sets_sorts}
-use Rattle.cq_bound_laws.proofs.Statements.{rows_of_insertions_fit, settings_fit}
+use Rattle.cq_bound_laws.proofs.Statements.{rows_of_insertions_fit, settings_fit, writes_are_shared}
 use Rattle.cq_bound_laws.proofs.Tables.{bits_from, bits_are, tables_fit, types_from, types_are, tables_typed}
 
 pub updates_set_sorts : UpdatesSetSorts
@@ -77,7 +77,7 @@ module _ (c : Contents) (text : List ℕ) (a : Ast) (whole : IsWhole c) (columns
   writable op is = record {
     fits = fitting op is;
     safe = λ pairs within. safe_write (column_bits c (table_of op)) op pairs (bounded op is) within;
-    touched = writes_touch c op whole;
+    touched = writes_touch c op whole (writes_are_shared c.tables a op is);
   }
 
   -- ---- statements

@@ -1,5 +1,5 @@
 -- The rows of an INSERT that is read fit their table.
-use Rattle.std.proofs.Common.{◌≡◌, ℕ, zero, suc, ◌+◌, true, not, List, [], ◌∷◌, ◌++◌, map, length, replicate, Option, None, Some, refl, sym, subst}
+use Rattle.std.proofs.Common.{◌≡◌, ◌≢◌, ℕ, zero, suc, ◌+◌, true, not, List, [], ◌∷◌, ◌++◌, map, length, replicate, Option, None, Some, refl, sym, ap, ◌∙◌, subst}
 use Rattle.std.specs.Prelude.{⊤, slice_get, slice_set, nat_eq}
 use Rattle.std.specs.List.{AllByRecursion}
 use Rattle.cq_value.specs.declared.value.Value.{Value}
@@ -8,7 +8,8 @@ use Rattle.cq_value.specs.declared.schema.Kind.{Kind}
 use Rattle.cq_value.specs.declared.schema.Kind.TheVariants as kind
 use Rattle.cq_value.specs.declared.schema.Column as schema
 use Rattle.cq_catalog.specs.declared.info.TableInfo.{TableInfo}
-use Rattle.cq_catalog.specs.Contents.{number_of, is_local, shape_of}
+use Rattle.cq_catalog.specs.declared.info.Place.TheVariants.{Local}
+use Rattle.cq_catalog.specs.Contents.{number_of, is_local, place_in, shape_of}
 use Rattle.cq_grammar.specs.declared.name.Name.{Name}
 use Rattle.cq_grammar.specs.declared.expr.Expr as grammar
 use Rattle.cq_grammar.specs.declared.statement.RowValues.{RowValues}
@@ -23,6 +24,7 @@ use Rattle.cq_reading.specs.Scopes.{Context}
 use Rattle.cq_reading.specs.Statements as st
 use Rattle.cq_reading_laws.proofs.Standing.{left_true}
 use Rattle.cq_bound_laws.proofs.Yields.{Yields, yields_give, yields_refuse, yields_then, yields_behind, yields_provided, yields_through}
+use Rattle.cq_history.proofs.Tables.{not_local}
 
 -- ---- values of a column's type
 
@@ -126,12 +128,19 @@ rows_fit cx t is rows = yields_through (AllByRecursion (AreOfKinds (kinds_in t.c
 
 -- ---- the table
 
+-- it is there, and isn't local
 abbrev pub IsThere : List TableInfo → st.Target → Type 0
-IsThere tables p = slice_get tables p.0 ≡ Some p.1
+IsThere tables p = (slice_get tables p.0 ≡ Some p.1) × (p.1.place ≢ Local)
+
+abbrev pub IsShared : List TableInfo → ℕ → Type 0
+IsShared tables table = place_in (slice_get tables table) ≢ Local
+
+pub shared : (tables : List TableInfo) (p : st.Target) → IsThere tables p → IsShared tables p.0
+shared tables p there e = there.1 (sym (ap place_in there.0) ∙ e)
 
 target_in_there : (tables : List TableInfo) (name : Name) (i : ℕ) (t : Option TableInfo) → slice_get tables i ≡ t → Yields (IsThere tables) (st.target_in name i t)
 target_in_there tables name i None is = yields_refuse (IsThere tables) (error.UnknownTable name.text)
-target_in_there tables name i (Some t) is = yields_provided (IsThere tables) (not (is_local t.place)) (error.LocalTable name.at) (give (i, t)) (λ may. yields_give (IsThere tables) (i, t) is)
+target_in_there tables name i (Some t) is = yields_provided (IsThere tables) (not (is_local t.place)) (error.LocalTable name.at) (give (i, t)) (λ may. yields_give (IsThere tables) (i, t) (is, not_local t.place may))
 
 pub target_at_there : (tables : List TableInfo) (name : Name) (i : Option ℕ) → Yields (IsThere tables) (st.target_at tables name i)
 target_at_there tables name None = yields_refuse (IsThere tables) (error.UnknownTable name.text)
@@ -139,9 +148,9 @@ target_at_there tables name (Some i) = target_in_there tables name i (slice_get 
 
 -- the insertion of rows that fit
 pub insertion_fits : (P : Statement → Type 0) (tables : List TableInfo) (table : Name) (columns : List Name) (rows : List RowValues)
-    → ((i : ℕ) (values : List Row) → AllByRecursion (Fits (shape_of (slice_get tables i))) values → P (statement.Write (Insert i values))) → Yields P (st.insertion tables table columns rows)
+    → ((i : ℕ) (values : List Row) → AllByRecursion (Fits (shape_of (slice_get tables i))) values → IsShared tables i → P (statement.Write (Insert i values))) → Yields P (st.insertion tables table columns rows)
 insertion_fits P tables table columns rows k =
     yields_then (IsThere tables) P (st.target_of tables table) _ (target_at_there tables table (number_of tables table.text)) (λ p there.
     yields_behind P (st.columns_of p.1.columns columns) _ (λ is.
     yields_then (AllByRecursion (AreOfKinds (kinds_in p.1.columns))) P (through (st.with_row (st.write_context (st.among tables []) []) p.1 is) rows []) _ (rows_fit (st.write_context (st.among tables []) []) p.1 is rows) (λ values fit.
-    yields_give P (statement.Write (Insert p.0 values)) (k p.0 values (subst (λ t. AllByRecursion (Fits (shape_of t)) values) (sym there) fit)))))
+    yields_give P (statement.Write (Insert p.0 values)) (k p.0 values (subst (λ t. AllByRecursion (Fits (shape_of t)) values) (sym there.0) fit) (shared tables p there)))))

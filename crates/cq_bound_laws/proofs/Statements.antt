@@ -1,5 +1,6 @@
--- What a statement that is read is: an INSERT is one of rows that fit, a COPY is into a table that there is, and a setting has a number that fits.
-use Rattle.std.proofs.Common.{◌≡◌, ℕ, zero, suc, ◌≤◌, ◌<◌, Bool, true, false, not, ◌&&◌, List, [], ◌∷◌, Option, Some, Ok, arith}
+-- What a statement that is read is: a write or a COPY is of a table that isn't local, an INSERT is one of rows that fit, and a setting has a
+-- number that fits.
+use Rattle.std.proofs.Common.{◌≡◌, ℕ, zero, suc, ◌≤◌, ◌<◌, Bool, true, false, not, ◌&&◌, List, [], ◌∷◌, Option, Some, Ok, refl, sym, subst, arith}
 use Rattle.std.specs.Prelude.{⊤, nat_le, nat_lt, length, slice_get, bytes_eq, codes}
 use Rattle.std.specs.List.{AllByRecursion, list_any}
 use Rattle.cq_value.specs.declared.schema.Column as schema
@@ -18,13 +19,12 @@ use Rattle.cq_grammar.specs.declared.statement.Ast.TheVariants as ast
 use Rattle.cq_grammar.specs.declared.statement.Argument.{Argument}
 use Rattle.cq_grammar.specs.declared.statement.SettingValue.{SettingValue}
 use Rattle.cq_grammar.specs.declared.statement.SettingValue.TheVariants as settings
-use Rattle.cq_tree.specs.declared.expression.Cond.{Cond}
 use Rattle.cq_tree.specs.declared.query.Query.{Query}
-use Rattle.cq_tree.specs.declared.write.Set.{Set}
 use Rattle.cq_tree.specs.declared.write.ShardOp.{ShardOp}
 use Rattle.cq_tree.specs.declared.write.ShardOp.TheVariants.{Insert, Update, Remove}
 use Rattle.cq_tree.specs.declared.statement.Statement.{Statement}
 use Rattle.cq_tree.specs.declared.statement.Statement.TheVariants as statement
+use Rattle.cq_meaning.specs.Effects.{table_of}
 use Rattle.cq_journal.specs.Fitting.{Fits}
 use Rattle.cq_reading.specs.declared.error.BindError.TheVariants as error
 use Rattle.cq_reading.specs.declared.error.Limited.TheVariants as limited
@@ -32,15 +32,17 @@ use Rattle.cq_reading.specs.Widths.{is_some}
 use Rattle.cq_reading.specs.Scopes.{table_sources}
 use Rattle.cq_reading.specs.Steps.{give, through}
 use Rattle.cq_reading.specs.Statements as st
-use Rattle.cq_bound_laws.specs.Laws.{CopiesAreThere, RowsFit, SettingsFit}
+use Rattle.cq_bound_laws.specs.Laws.{CopiesAreThere, RowsFit, SettingsFit, WritesAreShared}
 use Rattle.cq_bound_laws.proofs.Yields.{Yields, yields_give, yields_refuse, yields_then, yields_behind, yields_provided, yields_if, yields_outcome}
-use Rattle.cq_bound_laws.proofs.Rows.{IsThere, target_at_there, insertion_fits}
+use Rattle.cq_bound_laws.proofs.Rows.{IsShared, IsThere, shared, target_at_there, insertion_fits}
 
 -- what is known of what a syntax tree is read as
 unfoldable Known : List TableInfo → Statement → Type 0
-Known tables (statement.Write (Insert table rows)) = AllByRecursion (Fits (shape_of (slice_get tables table))) rows
+Known tables (statement.Write (Insert table rows)) = AllByRecursion (Fits (shape_of (slice_get tables table))) rows × IsShared tables table
+Known tables (statement.Write (Update table filter sets)) = IsShared tables table
+Known tables (statement.Write (Remove table filter)) = IsShared tables table
 Known tables (statement.Setting which n) = n ≤ 128
-Known tables (statement.Copy table columns csv header) = table < length tables
+Known tables (statement.Copy table columns csv header) = (table < length tables) × IsShared tables table
 Known tables _ = ⊤
 
 both_true : (a b : Bool) → (a && b) ≡ true → b ≡ true
@@ -73,17 +75,20 @@ module _ (tables : List TableInfo) where
   unfolding Known
   known_explanation q = yields_give K (statement.Explain q) tt
 
-  known_copy : (table : ℕ) (columns : List ℕ) (csv header : Bool) → table < length tables → Yields K (give (statement.Copy table columns csv header))
+  known_copy : (table : ℕ) (columns : List ℕ) (csv header : Bool) → (table < length tables) × IsShared tables table → Yields K (give (statement.Copy table columns csv header))
   unfolding Known
   known_copy table columns csv header h = yields_give K (statement.Copy table columns csv header) h
 
-  known_update : (table : ℕ) (filter : Cond) (sets : List Set) → Yields K (give (statement.Write (Update table filter sets)))
-  unfolding Known
-  known_update table filter sets = yields_give K (statement.Write (Update table filter sets)) tt
+  -- a write of the table of this number that inserts no rows
+  IsChangeOf : ℕ → ShardOp → Type 0
+  IsChangeOf i (Insert table rows) = ⊥
+  IsChangeOf i op = table_of op ≡ i
 
-  known_deletion : (table : ℕ) (filter : Cond) → Yields K (give (statement.Write (Remove table filter)))
-  unfolding Known
-  known_deletion table filter = yields_give K (statement.Write (Remove table filter)) tt
+  known_change : (i : ℕ) → IsShared tables i → (op : ShardOp) → IsChangeOf i op → Yields K (give (statement.Write op))
+  unfolding Known IsChangeOf
+  known_change i h (Insert table rows) is = absurd is
+  known_change i h (Update table filter sets) is = yields_give K (statement.Write (Update table filter sets)) (subst (IsShared tables) (sym is) h)
+  known_change i h (Remove table filter) is = yields_give K (statement.Write (Remove table filter)) (subst (IsShared tables) (sym is) h)
 
   known_distribution : (table column : List ℕ) (count : Option ℕ) (with : With) → Yields K (give (statement.Distribute table column count with))
   unfolding Known
@@ -113,45 +118,29 @@ module _ (tables : List TableInfo) where
       yields_provided K (nat_lt (length tables) 64) (error.Limit limited.Tables 64) (give (statement.CreateTable name.text cs places)) (λ few. known_table name.text cs places))))
 
   updates : (table : Name) (sets : List SetClause) (filter : Option grammar_expr.Expr) → Yields K (st.update tables table sets filter)
+  unfolding IsChangeOf
   updates table sets filter =
-      yields_behind K (st.target_of tables table) _ (λ p.
-      yields_then IsUpdate K (st.update_of (st.among tables []) p.0 p.1 sets filter) (λ op. give (statement.Write op)) (op_of p.0 p.1) of_update)
+      yields_then (IsThere tables) K (st.target_of tables table) _ (target_at_there tables table (number_of tables table.text)) (λ p there.
+      yields_then (IsChangeOf p.0) K (st.update_of (st.among tables []) p.0 p.1 sets filter) (λ op. give (statement.Write op)) (op_of p.0 p.1) (known_change p.0 (shared tables p there)))
     where
-      IsUpdate : ShardOp → Type 0
-      IsUpdate (Insert table rows) = ⊥
-      IsUpdate _ = ⊤
-
-      op_of : (i : ℕ) (t : TableInfo) → Yields IsUpdate (st.update_of (st.among tables []) i t sets filter)
+      op_of : (i : ℕ) (t : TableInfo) → Yields (IsChangeOf i) (st.update_of (st.among tables []) i t sets filter)
       op_of i t =
           let cx = st.write_context (st.among tables []) (table_sources t.name t) in
-          yields_behind IsUpdate (through (st.with_set cx t) sets []) _ (λ bound. yields_behind IsUpdate (st.filter_in cx filter) _ (λ c. yields_give IsUpdate (Update i c bound) tt))
-
-      of_update : (op : ShardOp) → IsUpdate op → Yields K (give (statement.Write op))
-      of_update (Insert table rows) h = absurd h
-      of_update (Update table filter sets) h = known_update table filter sets
-      of_update (Remove table filter) h = known_deletion table filter
+          yields_behind (IsChangeOf i) (through (st.with_set cx t) sets []) _ (λ bound. yields_behind (IsChangeOf i) (st.filter_in cx filter) _ (λ c. yields_give (IsChangeOf i) (Update i c bound) refl))
 
   deletions : (table : Name) (filter : Option grammar_expr.Expr) → Yields K (st.deletion tables table filter)
+  unfolding IsChangeOf
   deletions table filter =
-      yields_behind K (st.target_of tables table) _ (λ p.
-      yields_then IsDeletion K (st.deletion_of (st.among tables []) p.0 p.1 filter) (λ op. give (statement.Write op)) (op_of p.0 p.1) of_deletion)
+      yields_then (IsThere tables) K (st.target_of tables table) _ (target_at_there tables table (number_of tables table.text)) (λ p there.
+      yields_then (IsChangeOf p.0) K (st.deletion_of (st.among tables []) p.0 p.1 filter) (λ op. give (statement.Write op)) (op_of p.0 p.1) (known_change p.0 (shared tables p there)))
     where
-      IsDeletion : ShardOp → Type 0
-      IsDeletion (Insert table rows) = ⊥
-      IsDeletion _ = ⊤
-
-      op_of : (i : ℕ) (t : TableInfo) → Yields IsDeletion (st.deletion_of (st.among tables []) i t filter)
-      op_of i t = yields_behind IsDeletion (st.filter_in (st.write_context (st.among tables []) (table_sources t.name t)) filter) _ (λ c. yields_give IsDeletion (Remove i c) tt)
-
-      of_deletion : (op : ShardOp) → IsDeletion op → Yields K (give (statement.Write op))
-      of_deletion (Insert table rows) h = absurd h
-      of_deletion (Update table filter sets) h = known_update table filter sets
-      of_deletion (Remove table filter) h = known_deletion table filter
+      op_of : (i : ℕ) (t : TableInfo) → Yields (IsChangeOf i) (st.deletion_of (st.among tables []) i t filter)
+      op_of i t = yields_behind (IsChangeOf i) (st.filter_in (st.write_context (st.among tables []) (table_sources t.name t)) filter) _ (λ c. yields_give (IsChangeOf i) (Remove i c) refl)
 
   copies : (table : Name) (columns : List Name) (opts : List CopyOption) → Yields K (st.copying tables table columns opts)
   copies table columns opts =
       yields_then (IsThere tables) K (st.target_of tables table) _ (target_at_there tables table (number_of tables table.text)) (λ p there.
-      yields_behind K (st.columns_of p.1.columns columns) _ (λ is. known_copy p.0 is (list_any st.is_csv opts) (list_any st.is_header opts) (there_below tables p.0 p.1 there)))
+      yields_behind K (st.columns_of p.1.columns columns) _ (λ is. known_copy p.0 is (list_any st.is_csv opts) (list_any st.is_header opts) (there_below tables p.0 p.1 there.0, shared tables p there)))
 
   switches : (which : ℕ) (v : SettingValue) → Yields K (st.switch_setting which v)
   switches which (settings.Number n at) = yields_refuse K _
@@ -197,7 +186,7 @@ module _ (tables : List TableInfo) where
 
   insertions : (table : Name) (columns : List Name) (rows : List RowValues) → Yields K (st.insertion tables table columns rows)
   unfolding Known
-  insertions table columns rows = insertion_fits K tables table columns rows (λ i values h. h)
+  insertions table columns rows = insertion_fits K tables table columns rows (λ i values fit there. (fit, there))
 
   known : (a : Ast) → Yields K (st.statement_of tables a)
   known (ast.Create name columns key at) = creations name columns key
@@ -215,7 +204,13 @@ statement_known tables a s is = yields_outcome (Known tables) (st.statement_of t
 
 pub rows_of_insertions_fit : RowsFit
 unfolding Known
-rows_of_insertions_fit tables a table rows is = statement_known tables a (statement.Write (Insert table rows)) is
+rows_of_insertions_fit tables a table rows is = (statement_known tables a (statement.Write (Insert table rows)) is).0
+
+pub writes_are_shared : WritesAreShared
+unfolding Known
+writes_are_shared tables a (Insert table rows) is = (statement_known tables a (statement.Write (Insert table rows)) is).1
+writes_are_shared tables a (Update table filter sets) is = statement_known tables a (statement.Write (Update table filter sets)) is
+writes_are_shared tables a (Remove table filter) is = statement_known tables a (statement.Write (Remove table filter)) is
 
 pub copies_are_there : CopiesAreThere
 unfolding Known

@@ -1,8 +1,9 @@
 -- What a text that is read makes sure of, so that its statement can be computed and planned.
-use Rattle.std.specs.Prelude.{◌≡◌, ◌≤◌, ◌<◌, ℕ, Bool, List, length, slice_get, Some, Ok}
+use Rattle.std.specs.Prelude.{◌≡◌, ◌≢◌, ◌≤◌, ◌<◌, ℕ, Bool, List, length, slice_get, Some, Ok}
 use Rattle.std.specs.List.{AllByRecursion}
 use Rattle.cq_catalog.specs.declared.info.TableInfo.{TableInfo}
-use Rattle.cq_catalog.specs.Contents.{Contents, shape_of}
+use Rattle.cq_catalog.specs.declared.info.Place.TheVariants.{Local}
+use Rattle.cq_catalog.specs.Contents.{Contents, place_in, shape_of}
 use Rattle.cq_catalog.specs.Placement.{place_at}
 use Rattle.cq_catalog.specs.Whole.{IsWhole}
 use Rattle.cq_grammar.specs.declared.statement.Ast.{Ast}
@@ -29,9 +30,14 @@ abbrev pub RowsFit : Type 0
 RowsFit = (tables : List TableInfo) (a : Ast) (table : ℕ) (rows : List Row) → reading tables a ≡ Ok (statement.Write (Insert table rows)) →
     AllByRecursion (Fits (shape_of (slice_get tables table))) rows
 
--- a COPY names a table that there is
+-- a write is of a table that isn't local
+abbrev pub WritesAreShared : Type 0
+WritesAreShared = (tables : List TableInfo) (a : Ast) (op : ShardOp) → reading tables a ≡ Ok (statement.Write op) → place_in (slice_get tables (table_of op)) ≢ Local
+
+-- a COPY names a table that there is, and that isn't local
 abbrev pub CopiesAreThere : Type 0
-CopiesAreThere = (tables : List TableInfo) (a : Ast) (table : ℕ) (columns : List ℕ) (csv header : Bool) → reading tables a ≡ Ok (statement.Copy table columns csv header) → table < length tables
+CopiesAreThere = (tables : List TableInfo) (a : Ast) (table : ℕ) (columns : List ℕ) (csv header : Bool) → reading tables a ≡ Ok (statement.Copy table columns csv header) →
+    (table < length tables) × (place_in (slice_get tables table) ≢ Local)
 
 -- the rows of a COPY's data fit their table
 abbrev pub CopiesFit : Type 0
@@ -55,9 +61,9 @@ HasColumns c = (table : ℕ) → IsColumnOf (length (shape_in c table).kinds) (p
 abbrev pub TextsCompute : Type 0
 TextsCompute = (c : Contents) (text : List ℕ) (a : Ast) (s : Statement) → IsWhole c → HasColumns c → Spells text a → reading c.tables a ≡ Ok s → IsComputable c s
 
--- so can the INSERT of rows that fit their table
+-- so can the INSERT of rows that fit their table, which isn't local
 abbrev pub InsertsCompute : Type 0
-InsertsCompute = (c : Contents) (table : ℕ) (rows : List Row) → IsWhole c → AllByRecursion (Fits (shape_in c table)) rows → IsComputable c (statement.Write (Insert table rows))
+InsertsCompute = (c : Contents) (table : ℕ) (rows : List Row) → IsWhole c → place_at c table ≢ Local → AllByRecursion (Fits (shape_in c table)) rows → IsComputable c (statement.Write (Insert table rows))
 
 -- between two statements of a serial script each distribution column is a column of its table
 abbrev pub ColumnsStand : Type 0

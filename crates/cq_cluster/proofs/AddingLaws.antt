@@ -1,5 +1,5 @@
 -- A table's shards are added one by one, and taken out again.
-use Rattle.std.proofs.Common.{◌≡◌, ◌≢◌, ◌⊎◌, inl, inr, ℕ, zero, suc, ◌+◌, ◌-◌, ◌<◌, Bool, true, false, cond, ◌&&◌, List, [], ◌∷◌, length, get_or, refl, sym, ap, subst, ◌∙◌, arith, Some, None, Option, slice_get, length-set, append-nil, Result, Ok, Err, OnOk, OnErr}
+use Rattle.std.proofs.Common.{◌≡◌, ◌≢◌, inl, inr, ℕ, zero, suc, ◌+◌, ◌-◌, ◌<◌, Bool, true, false, cond, ◌&&◌, List, [], ◌∷◌, length, get_or, refl, sym, ap, subst, ◌∙◌, arith, Some, None, Option, slice_get, length-set, append-nil, Result, Ok, Err, OnOk, OnErr}
 use Rattle.std.specs.Prelude.{nat_eq, nat_le, nat_lt}
 use Rattle.std.specs.List.{AllByRecursion}
 use Rattle.std.proofs.Math.ListN.{set}
@@ -7,6 +7,7 @@ use Rattle.std.proofs.lemmas.Bool.Decides.{nat_tests, eqb_tells}
 use Rattle.std.proofs.lemmas.Option.{slice_get_read}
 use Rattle.cq_value.specs.declared.schema.Shape.{Shape}
 use Rattle.cq_journal.specs.declared.journal.Journal.{Journal}
+use Rattle.cq_history.proofs.Lists.{two_ways}
 use Rattle.cq_store.specs.Stores.{StoreState}
 use Rattle.cq_store.specs.Workers.{room}
 use Rattle.cq_store.specs.declared.worker.Worker.{Worker}
@@ -21,10 +22,6 @@ use Rattle.cq_cluster.proofs.RoomLaws.{next_on, next_here, next_elsewhere, fewer
 use Rattle.cq_cluster.proofs.GoneLaws.{goes_count, loses_count, goes_on, goes_back, gone_set, held_set}
 
 -- ---- which groups have the table
-
-two_ways : (b : Bool) → (b ≡ true) ⊎ (b ≡ false)
-two_ways true = inl refl
-two_ways false = inr refl
 
 more_here : (first : ℕ) (o : ℕ → Outline) (n : ℕ) → more_at first o (n + 1) (first + n) ≡ o n ∷ []
 more_here first o n =

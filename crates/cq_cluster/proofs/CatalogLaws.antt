@@ -19,6 +19,7 @@ use Rattle.cq_catalog.specs.declared.info.Colocation.{Colocation}
 use Rattle.cq_catalog.specs.declared.info.Place.{Place}
 use Rattle.cq_catalog.specs.declared.info.Place.TheVariants.{Local, Distributed, Reference}
 use Rattle.cq_catalog.specs.declared.info.TableInfo.{TableInfo}
+use Rattle.cq_history.proofs.Lists.{two_ways, all_weaker, all_append}
 use Rattle.cq_store.specs.Stores.{StoreState}
 use Rattle.cq_planning.specs.Database.{shape_in}
 use Rattle.cq_group.specs.declared.group.GroupState.{GroupState}
@@ -50,14 +51,6 @@ still_there xs ys i y s = before_more xs ys i (slice_get_within xs i y s) ∙ s
 pub last_there : {X : Type 0} (xs : List X) (x : X) → slice_get (xs ++ x ∷ []) (length xs) ≡ Some x
 last_there [] x = refl
 last_there (y ∷ xs) x = last_there xs x
-
-pub all_append : {X : Type 0} (P : X → Type 0) (xs ys : List X) → AllByRecursion P xs → AllByRecursion P ys → AllByRecursion P (xs ++ ys)
-all_append P [] ys p q = q
-all_append P (x ∷ xs) ys p q = (p.0, all_append P xs ys p.1 q)
-
-pub all_weaker : {X : Type 0} (P Q : X → Type 0) → ((x : X) → P x → Q x) → (xs : List X) → AllByRecursion P xs → AllByRecursion Q xs
-all_weaker P Q f [] all = tt
-all_weaker P Q f (x ∷ xs) all = (f x all.0, all_weaker P Q f xs all.1)
 
 some_is : {A : Type 0} {a b : A} → Some a ≡ Some b → a ≡ b
 some_is e = cc
@@ -264,10 +257,6 @@ same_shape (t ∷ ts) zero zero p = refl
 same_shape (t ∷ ts) zero (suc i) p = refl
 same_shape (t ∷ ts) (suc n) zero p = refl
 same_shape (t ∷ ts) (suc n) (suc i) p = same_shape ts n i p
-
-two_ways : (b : Bool) → (b ≡ true) ⊎ (b ≡ false)
-two_ways true = inl refl
-two_ways false = inr refl
 
 more_inside : (first : ℕ) (o : ℕ → Outline) (n i : ℕ) → i < n → more_at first o n (first + i) ≡ o i ∷ []
 more_inside first o n i h =

@@ -6,6 +6,7 @@ use Rattle.std.proofs.Math.ListN.{set}
 use Rattle.std.proofs.lemmas.Bool.Decides.{eqb_tells}
 use Rattle.std.proofs.lemmas.List.{map-append}
 use Rattle.cq_journal.specs.declared.journal.Journal.{Journal}
+use Rattle.cq_history.proofs.Lists.{all_weaker}
 use Rattle.cq_store.specs.Stores.{StoreState}
 use Rattle.cq_store.specs.Workers.{room}
 use Rattle.cq_store.specs.declared.worker.Worker.{Worker}
@@ -23,10 +24,6 @@ front P (x ∷ xs) ys all = (all.0, front P xs ys all.1)
 back : {X : Type 0} (P : X → Type 0) (xs ys : List X) → AllByRecursion P (xs ++ ys) → AllByRecursion P ys
 back P [] ys all = all
 back P (x ∷ xs) ys all = back P xs ys all.1
-
-weaker : {X : Type 0} (P Q : X → Type 0) → ((x : X) → P x → Q x) → (xs : List X) → AllByRecursion P xs → AllByRecursion Q xs
-weaker P Q f [] all = tt
-weaker P Q f (x ∷ xs) all = (f x all.0, weaker P Q f xs all.1)
 
 module _ {X : Type 0} (state : X → StoreState) where
   -- ---- the stores of a node
@@ -126,7 +123,7 @@ module _ {X : Type 0} (state : X → StoreState) where
 
   -- the workers that have room for all have it for the first ones
   pub room_front : (xs ys : List X) (workers : List (Worker X)) → HaveRoom state (xs ++ ys) workers → HaveRoom state xs workers
-  room_front xs ys workers all = weaker (HasRoom state (xs ++ ys) workers) (HasRoom state xs workers) fewer xs (front (HasRoom state (xs ++ ys) workers) xs ys all)
+  room_front xs ys workers all = all_weaker (HasRoom state (xs ++ ys) workers) (HasRoom state xs workers) fewer xs (front (HasRoom state (xs ++ ys) workers) xs ys all)
     where
       fewer : (x : X) → HasRoom state (xs ++ ys) workers x → HasRoom state xs workers x
       fewer x h = record {
@@ -139,7 +136,7 @@ module _ {X : Type 0} (state : X → StoreState) where
 
   -- and for the others, once they have the first ones
   pub room_after : (xs ys : List X) (first workers : List (Worker X)) → HaveBack state xs first workers → HaveRoom state (xs ++ ys) first → HaveRoom state ys workers
-  room_after xs ys first workers given all = weaker (HasRoom state (xs ++ ys) first) (HasRoom state ys workers) left ys (back (HasRoom state (xs ++ ys) first) xs ys all)
+  room_after xs ys first workers given all = all_weaker (HasRoom state (xs ++ ys) first) (HasRoom state ys workers) left ys (back (HasRoom state (xs ++ ys) first) xs ys all)
     where
       left : (x : X) → HasRoom state (xs ++ ys) first x → HasRoom state ys workers x
       left x h =

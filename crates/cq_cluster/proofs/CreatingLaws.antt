@@ -1,24 +1,20 @@
 -- A local table more changes no shard group.
-use Rattle.std.proofs.Common.{◌≡◌, ◌⊎◌, inl, inr, ℕ, ◌+◌, ◌<◌, ◌≤◌, Bool, true, false, List, [], ◌∷◌, ◌++◌, length, refl, sym, ap, subst, ◌∙◌, arith, Some, None, Option, slice_get}
-use Rattle.std.specs.Prelude.{option_map, nat_lt, is_some, take}
-use Rattle.std.proofs.lemmas.Bool.Decides.{nat_tests}
+use Rattle.std.proofs.Common.{◌≡◌, ◌⊎◌, inl, inr, ℕ, ◌+◌, ◌<◌, List, [], ◌∷◌, ◌++◌, refl, sym, ap, subst, ◌∙◌, Some, None, Option, slice_get}
+use Rattle.std.specs.Prelude.{option_map}
 use Rattle.cq_value.specs.declared.schema.Column.{Column}
 use Rattle.cq_value.specs.declared.schema.Shape.{Shape}
 use Rattle.cq_answer.specs.declared.answered.Answered.{Answered}
 use Rattle.cq_answer.specs.declared.fault.Fault.{Fault}
 use Rattle.cq_answer.specs.declared.fault.Fault.TheVariants as fault
 use Rattle.cq_answer.specs.Faults.{fault_of_catalog}
-use Rattle.cq_catalog.proofs.WholeLaws.{whole_created}
-use Rattle.cq_catalog.specs.Contents.{Contents, place_in, shape_of, number_of}
-use Rattle.cq_catalog.specs.Creation.{creation_refusal, with_table, refusal_if, repeated_after}
 use Rattle.cq_catalog.specs.Placement.{place_at}
-use Rattle.cq_catalog.specs.Refusals.{first_of, IsCause}
 use Rattle.cq_catalog.specs.Whole.{IsWhole}
 use Rattle.cq_catalog.specs.declared.error.CatalogError.{CatalogError}
-use Rattle.cq_catalog.specs.declared.error.CatalogError.TheVariants.{NameTaken, Limit}
-use Rattle.cq_catalog.specs.declared.error.Limited.TheVariants.{Columns, Tables}
 use Rattle.cq_catalog.specs.declared.info.Place.TheVariants.{Local, Distributed, Reference}
 use Rattle.cq_catalog.specs.declared.info.TableInfo.{TableInfo}
+use Rattle.cq_catalog.specs.Contents.{Contents, place_in, shape_of}
+use Rattle.cq_catalog.specs.Creation.{creation_refusal, with_table}
+use Rattle.cq_catalog.specs.Refusals.{IsCause}
 use Rattle.cq_planning.specs.Database.{shape_in}
 use Rattle.cq_store.specs.Stores.{StoreState}
 use Rattle.cq_group.specs.declared.group.GroupState.{GroupState}
@@ -26,34 +22,12 @@ use Rattle.cq_group.specs.Groups.{Outline, outlines}
 use Rattle.cq_cluster.specs.declared.cluster.Cluster.{Cluster}
 use Rattle.cq_cluster.specs.Accounts.{AreAccounted}
 use Rattle.cq_cluster.specs.Cluster.{IsShardOf, AreGroups, IsSound}
-use Rattle.cq_cluster.proofs.CatalogLaws.{got_more, still_there, all_weaker, covered_again}
+use Rattle.cq_cluster.proofs.CatalogLaws.{got_more, still_there, covered_again}
 use Rattle.cq_cluster.proofs.DistributeLaws.{memory_is}
+use Rattle.cq_history.proofs.Spreading.{whole_more}
+use Rattle.cq_history.proofs.Lists.{all_weaker}
 
 -- ---- what the catalogue doesn't refuse
-
-first_none : {X : Type 0} (o : Option X) (rest : List (Option X)) → first_of (o ∷ rest) ≡ None → (o ≡ None) × (first_of rest ≡ None)
-first_none None rest h = (refl, h)
-first_none (Some x) rest h = cc
-
-refused_not : (b : Bool) (x : CatalogError) → refusal_if b x ≡ None → b ≡ false
-refused_not true x h = cc
-refused_not false x h = refl
-
-whole_more : (c : Contents) (name : List ℕ) (columns : List Column) (key : List ℕ) → IsWhole c → creation_refusal c name columns ≡ None → IsWhole (with_table c name columns key)
-whole_more c name columns key whole h =
-    let taken : Option CatalogError = refusal_if (is_some (number_of c.tables name)) (NameTaken name) in
-    let twice : Option CatalogError = option_map NameTaken (repeated_after [] (take 64 columns)) in
-    let long : Option CatalogError = refusal_if (nat_lt 64 (length columns)) (Limit Columns 64) in
-    let many : Option CatalogError = refusal_if (nat_lt 63 (length c.tables)) (Limit Tables 64) in
-    let one = first_none taken (twice ∷ long ∷ many ∷ []) h in
-    let two = first_none twice (long ∷ many ∷ []) one.1 in
-    let three = first_none long (many ∷ []) two.1 in
-    let four = first_none many [] three.1 in
-    let no_more = refused_not (nat_lt 64 (length columns)) (Limit Columns 64) three.0 in
-    let no_others = refused_not (nat_lt 63 (length c.tables)) (Limit Tables 64) four.0 in
-    let few : length columns ≤ 64 = grind (arith, nat_tests, no_more) in
-    let room : length c.tables < 64 = grind (arith, nat_tests, no_others) in
-    whole_created c name columns key whole few room
 
 -- an error of the catalogue is its cause
 pub creation_cause : (e : CatalogError) (o : Option CatalogError) (f : Fault) → f ≡ fault_of_catalog e → IsCause e o → (f ≡ fault.Memory) ⊎ (option_map fault_of_catalog o ≡ Some f)

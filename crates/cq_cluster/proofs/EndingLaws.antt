@@ -18,13 +18,15 @@ use Rattle.cq_catalog.specs.Placement.{place_at}
 use Rattle.cq_catalog.specs.declared.info.Colocation.{Colocation}
 use Rattle.cq_catalog.specs.declared.info.Place.TheVariants.{Reference}
 use Rattle.cq_planning.specs.Database.{shape_in}
+use Rattle.cq_history.proofs.Lists.{all_weaker, all_append}
+use Rattle.cq_history.specs.Rebalances.{Either}
 use Rattle.cq_store.specs.Stores.{StoreState, IsSpare}
 use Rattle.cq_store.specs.declared.worker.Worker.{Worker}
 use Rattle.cq_group.specs.declared.group.GroupTable.{GroupTable}
 use Rattle.cq_group.specs.declared.group.GroupState.{GroupState}
 use Rattle.cq_group.specs.Groups.{Outline, outline, outlines, shape_at, entries_of, journal_of, stores_of, node_at, copies_of, AreReplicasFrom, IsReplica, IsTableKept, IsTableQuiet, IsKept}
 use Rattle.cq_group.specs.Groups.{AreDistinct as HaveNumbers}
-use Rattle.cq_cluster.specs.Cluster.{Either, IsShardOf, IsGroupOf, IsReferenceGroup, IsCovered, IsReferenced, AreGroups, IsWaiting, held, everywhere, AreWorkers}
+use Rattle.cq_cluster.specs.Cluster.{IsShardOf, IsGroupOf, IsReferenceGroup, IsCovered, IsReferenced, AreGroups, IsWaiting, held, everywhere, AreWorkers}
 use Rattle.cq_cluster.specs.Closing.{all_stores, stores_at, AreKept, HasRoom, HaveRoom, HaveBack}
 use Rattle.cq_group.specs.Resting.{journals_of}
 use Rattle.cq_cluster.specs.Ending.{record_of, IsShard, IsIn, AreDistinct, AreOfGroup, AreOfReference, BeginWith, AreOnNode, IsFinal}
@@ -329,17 +331,9 @@ module _ {X : Type 0} (state : X → StoreState) (nodes : ℕ) where
   pub are_kept : (c : Contents) (groups : List (GroupState X)) → AreGroups state nodes c groups → AreKept state groups
   are_kept c groups all = kept_groups c groups (closed_groups c groups all)
 
-  both_all : {Y : Type 0} (P : Y → Type 0) (xs ys : List Y) → AllByRecursion P xs → AllByRecursion P ys → AllByRecursion P (xs ++ ys)
-  both_all P [] ys p q = q
-  both_all P (x ∷ xs) ys p q = (p.0, both_all P xs ys p.1 q)
-
-  weaker : {Y : Type 0} (P Q : Y → Type 0) → ((y : Y) → P y → Q y) → (ys : List Y) → AllByRecursion P ys → AllByRecursion Q ys
-  weaker P Q f [] all = tt
-  weaker P Q f (y ∷ ys) all = (f y all.0, weaker P Q f ys all.1)
-
   used_stores : (c : Contents) (groups : List (GroupState X)) → AllByRecursion (IsClosed c) groups → AllByRecursion IsUsed (all_stores groups)
   used_stores c [] all = tt
-  used_stores c (g ∷ gs) all = both_all IsUsed (stores_of g) (all_stores gs) all.0.used (used_stores c gs all.1)
+  used_stores c (g ∷ gs) all = all_append IsUsed (stores_of g) (all_stores gs) all.0.used (used_stores c gs all.1)
 
   stores_count : (c : Contents) (place : ℕ) (groups : List (GroupState X)) → place < nodes → AllByRecursion (IsClosed c) groups → length (stores_at state place (all_stores groups)) ≡ held place groups + everywhere groups
   stores_count c place [] h all = refl
@@ -353,7 +347,7 @@ module _ {X : Type 0} (state : X → StoreState) (nodes : ℕ) where
       HaveRoom state (all_stores groups) workers
   have_room c entry retired groups workers enough all now =
       let closed = closed_groups c groups all in
-      weaker IsUsed (HasRoom state (all_stores groups) workers) (welcome closed) (all_stores groups) (used_stores c groups closed)
+      all_weaker IsUsed (HasRoom state (all_stores groups) workers) (welcome closed) (all_stores groups) (used_stores c groups closed)
     where
       welcome : AllByRecursion (IsClosed c) groups → (x : X) → IsUsed x → HasRoom state (all_stores groups) workers x
       welcome closed x used =
@@ -420,5 +414,5 @@ module _ {X : Type 0} (state : X → StoreState) (nodes : ℕ) where
                 stores_end c place groups h closed,
               );
             };
-        unused = λ place h. back.unused place (weaker IsUsed (λ (x : X). (state x).node ≢ place + 1) (λ x used e. omega (arith, used.1, e, h)) (all_stores groups) (used_stores c groups closed)) ∙ now.unused place h;
+        unused = λ place h. back.unused place (all_weaker IsUsed (λ (x : X). (state x).node ≢ place + 1) (λ x used e. omega (arith, used.1, e, h)) (all_stores groups) (used_stores c groups closed)) ∙ now.unused place h;
       }

@@ -1,5 +1,5 @@
 -- The stores that a cluster's groups have on a node are as many as the catalogue says.
-use Rattle.std.proofs.Common.{◌≡◌, ◌≢◌, ◌⊎◌, inl, inr, ℕ, suc, ◌+◌, ◌-◌, ◌<◌, ◌≤◌, Bool, true, false, cond, List, [], ◌∷◌, length, map, refl, sym, ap, subst, ◌∙◌, arith, Some, None, Option, IsSome, slice_get, length-append, eq-eqb}
+use Rattle.std.proofs.Common.{◌≡◌, ◌≢◌, ◌⊎◌, inl, inr, ℕ, suc, ◌+◌, ◌-◌, ◌<◌, ◌≤◌, true, false, cond, List, [], ◌∷◌, length, map, refl, sym, ap, subst, ◌∙◌, arith, Some, None, Option, IsSome, slice_get, length-append, eq-eqb}
 use Rattle.std.specs.Prelude.{nat_eq, nat_le, nat_lt}
 use Rattle.std.specs.List.{AllByRecursion, sum_by, flat_map}
 use Rattle.std.proofs.lemmas.Bool.{ne_eqb}
@@ -17,16 +17,13 @@ use Rattle.cq_catalog.specs.declared.info.TableInfo.{TableInfo}
 use Rattle.cq_planning.specs.Touched.{among, numbers}
 use Rattle.cq_history.specs.Looks.{is_within, has_shard, has_shard_at}
 use Rattle.cq_history.specs.Room.{tables_in, is_on, stores_on}
+use Rattle.cq_history.proofs.Lists.{two_ways}
 use Rattle.cq_store.specs.Stores.{StoreState}
 use Rattle.cq_group.specs.declared.group.GroupTable.{GroupTable}
 use Rattle.cq_group.specs.declared.group.GroupState.{GroupState}
 use Rattle.cq_group.specs.Groups.{Outline, outlines, shape_at, AreDistinct, entries_of, stores_of, copies_of, IsTableKept}
 use Rattle.cq_cluster.specs.Cluster.{IsShardOf, IsCovered, IsReferenced, node_in, node_of_item, held, everywhere, AreGroups}
 use Rattle.cq_cluster.proofs.CountLaws.{AllDiffer, ArePassing, count_of_passing, sum_more}
-
-two_ways : (b : Bool) → (b ≡ true) ⊎ (b ≡ false)
-two_ways true = inl refl
-two_ways false = inr refl
 
 -- ---- the numbers of a group's tables
 

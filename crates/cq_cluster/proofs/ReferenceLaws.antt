@@ -26,6 +26,7 @@ use Rattle.cq_history.specs.Journals.{none}
 use Rattle.cq_history.specs.Laws.{OpensGroups}
 use Rattle.cq_history.specs.Room.{room_fault}
 use Rattle.cq_history.specs.Standing.{reference_fault}
+use Rattle.cq_history.proofs.Lists.{all_weaker}
 use Rattle.cq_journal.specs.Stations.{node_of}
 use Rattle.cq_store.specs.Stores.{StoreState}
 use Rattle.cq_store.specs.declared.worker.Worker.{Worker}
@@ -40,7 +41,7 @@ use Rattle.cq_cluster.specs.References.{lent_at, HaveLent, IsNewReference, IsRef
 use Rattle.cq_cluster.proofs.LendingLaws.{lent_here, lent_none}
 use Rattle.cq_cluster.proofs.GoneLaws.{placed_empty}
 use Rattle.cq_cluster.proofs.AddingLaws.{spent_none, spent_alike}
-use Rattle.cq_cluster.proofs.CatalogLaws.{before_more, last_there, all_weaker, covered_again, reference_still, other_place, own_place, same_shape, placed_group}
+use Rattle.cq_cluster.proofs.CatalogLaws.{before_more, last_there, covered_again, reference_still, other_place, own_place, same_shape, placed_group}
 use Rattle.cq_cluster.proofs.JournalLaws.{AreNew, opened_grow, opens_referenced}
 use Rattle.cq_cluster.proofs.AccountLaws.{AreFrom, put_accounted}
 use Rattle.cq_cluster.proofs.SoundLaws.{keeps_all, have_stores, room_same}

@@ -1,5 +1,5 @@
 -- How many of a table's shards are on a node, one shard after another, and the lowest node with too few stores.
-use Rattle.std.proofs.Common.{◌≡◌, ◌≢◌, ◌⊎◌, inl, inr, ℕ, zero, ◌+◌, ◌-◌, ◌<◌, ◌≤◌, Bool, true, false, cond, List, [], ◌∷◌, ◌++◌, length, filter, suc, Some, None, Option, slice_get, refl, sym, ap, ◌∙◌, arith}
+use Rattle.std.proofs.Common.{◌≡◌, ◌≢◌, inl, inr, ℕ, zero, ◌+◌, ◌-◌, ◌<◌, ◌≤◌, Bool, true, false, cond, List, [], ◌∷◌, ◌++◌, length, filter, suc, Some, None, Option, slice_get, refl, sym, ap, ◌∙◌, arith}
 use Rattle.std.specs.Prelude.{nat_eq}
 use Rattle.std.specs.List.{sum_by}
 use Rattle.std.proofs.lemmas.Bool.{ne_eqb}
@@ -11,15 +11,12 @@ use Rattle.std.proofs.lemmas.Option.{get_or_from_slice_get, slice_get-get_or}
 use Rattle.cq_planning.specs.Touched.{numbers}
 use Rattle.cq_answer.specs.declared.fault.Fault.{Fault}
 use Rattle.cq_catalog.specs.Refusals.{first_of}
+use Rattle.cq_history.proofs.Lists.{two_ways}
 use Rattle.cq_store.specs.declared.worker.Worker.{Worker}
 use Rattle.cq_cluster.specs.Cluster.{stores_in}
 use Rattle.cq_cluster.specs.Steps.{shards_on, short_of, shortage_from}
 use Rattle.cq_cluster.proofs.ListLaws.{got_other}
 use Rattle.cq_cluster.proofs.CountLaws.{length_sum, sum_passing, sum_alike}
-
-two_ways : (b : Bool) → (b ≡ true) ⊎ (b ≡ false)
-two_ways true = inl refl
-two_ways false = inr refl
 
 abbrev one_if : Bool → ℕ
 one_if b = cond b 1 0

@@ -36,11 +36,12 @@ use Rattle.cq_planning.specs.Database.{shape_in}
 use Rattle.cq_history.specs.Deeds.{Grows}
 use Rattle.cq_history.specs.Journals.{none as nothing_made}
 use Rattle.cq_history.specs.Room.{shards_at, free_at, short_at, room_from, room_fault}
+use Rattle.cq_history.specs.Rebalances.{Either}
 use Rattle.cq_cluster.specs.declared.shards.Shards.{Shards}
 use Rattle.cq_group.specs.declared.group.GroupState.{GroupState}
 use Rattle.cq_group.specs.Groups.{IsKept, IsNamed, IsQuiet, Outline, outlines, shape_at, entries_of, journal_of}
 use Rattle.cq_group.specs.Resting.{journals_of}
-use Rattle.cq_cluster.specs.Cluster.{Either, home_of, IsCovered, IsReferenced, IsUsed, IsWaiting, node_in, node_of_item, held, everywhere, AreGroups, AreWorkers, run_of, stores_in}
+use Rattle.cq_cluster.specs.Cluster.{home_of, IsCovered, IsReferenced, IsUsed, IsWaiting, node_in, node_of_item, held, everywhere, AreGroups, AreWorkers, run_of, stores_in}
 use Rattle.cq_cluster.specs.Accounts.{AreAccounted}
 use Rattle.cq_cluster.specs.Steps.{Goes, AreGone, more_at, nothing_more, shards_on, shard_node, AreSpent, HaveStores, AreOpened, IsUnwritten, shard_outline, Adding, short_of, shortage_from, shortage, shards_of, HasOpened, IsBegun, forgotten, CanBegin, IsOpen, IsUndone}
 use Rattle.cq_cluster.proofs.ListLaws.{there, item_at}

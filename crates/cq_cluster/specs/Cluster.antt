@@ -1,5 +1,5 @@
 -- The shard groups of the catalogue over the workers that a run uses, and what the workers' lists still hold.
-use Rattle.std.specs.Prelude.{◌≡◌, ◌+◌, ◌%◌, ◌<◌, ◌≤◌, ◌⊎◌, ℕ, Bool, true, false, List, [], ◌∷◌, length, map, All, Option, Some, None, slice_get, nat_eq, if◌then◌else◌}
+use Rattle.std.specs.Prelude.{◌≡◌, ◌+◌, ◌%◌, ◌<◌, ◌≤◌, ◌⊎◌, ℕ, List, [], ◌∷◌, length, map, All, Option, Some, None, slice_get, nat_eq, if◌then◌else◌}
 use Rattle.std.specs.List.{AllByRecursion}
 use Rattle.cq_catalog.specs.Contents.{Contents}
 use Rattle.cq_catalog.specs.Placement.{place_at}
@@ -20,11 +20,6 @@ use Rattle.cq_group.specs.Groups.{IsKept, IsQuiet, Outline, outlines, HasTable, 
 use Rattle.cq_group.specs.Resting.{journals_of}
 use Rattle.cq_cluster.specs.declared.cluster.Cluster.{Cluster}
 use Rattle.cq_cluster.specs.declared.retired.Retired.{Retired}
-
--- the first fact where the answer is yes, and else the second
-abbrev pub Either : Bool → Type 0 → Type 0 → Type 0
-Either true A B = A
-Either false A B = B
 
 -- ---- shard groups
 

@@ -1,5 +1,5 @@
 -- Why a bound statement doesn't run.
-use Rattle.std.proofs.Common.{◌≡◌, ◌<◌, inl, ℕ, false, List, [], refl, arith, Some, None, Option}
+use Rattle.std.proofs.Common.{◌≡◌, ◌<◌, inl, ℕ, List, [], refl, arith, Some, None, Option}
 use Rattle.cq_tree.specs.declared.journal.Who.{Who}
 use Rattle.cq_tree.specs.declared.statement.Statement.{Statement}
 use Rattle.cq_tree.specs.declared.statement.Statement.TheVariants as statement
@@ -20,23 +20,17 @@ use Rattle.cq_history.specs.Standing.{View, SeesNodes, MovesUnless, IsMovedIn, R
 use Rattle.cq_history.specs.Deeds.{in_deed, deed_over}
 use Rattle.cq_history.specs.Log.{IsAnswered}
 use Rattle.cq_history.specs.Laws.{look_at}
-use Rattle.cq_history.specs.Refusals.{is_built, unless_built, refusal_in, rules}
+use Rattle.cq_history.specs.Refusals.{refusal_in, rules}
 use Rattle.cq_history.proofs.Answering.{sees as looked_in}
 use Rattle.cq_history.proofs.Explaining.{among_numbers}
 use Rattle.cq_cluster.proofs.MovingLawsGroups.{covered_by, group_given}
+use Rattle.cq_coordinator.specs.Coordination.{NeedsNoData}
 use Rattle.cq_coordinator.proofs.DefinitionAnswers.{AreTold, still}
-
-pub not_built : (e : Environment) (s : Statement) → refusal_of e.settings.repartition e.catalog s ≡ None → is_built e.catalog s ≡ false → refusal_in e s ≡ Some fault.NotBuilt
-not_built e s supported built = rw (supported, built) (λ i. Some fault.NotBuilt)
 
 pub unsupported : (e : Environment) (s : Statement) (why : Unsupported) → refusal_of e.settings.repartition e.catalog s ≡ Some why → refusal_in e s ≡ Some (fault.Unsupported why)
 unsupported e s why is = rw is (λ i. Some (fault.Unsupported why))
 
 -- ---- want of memory before a statement runs
-
-always_refused : (o : Option Fault) → unless_built false o ≡ None → ⊥
-always_refused None e = cc
-always_refused (Some f) e = cc
 
 module _ (run : Run) (e : Environment) (who : Who) (journals : List Journal) (nodes : ℕ → ℕ) (told : AreTold e journals nodes) (whole : IsWhole e.catalog) where
   abbrev seen : View
@@ -62,7 +56,7 @@ module _ (run : Run) (e : Environment) (who : Who) (journals : List Journal) (no
         moves = unmoved (move_fault run e.catalog e.retired nodes (moving_of (journal_in journals group)) group from to) group from to;
       }
 
-  stays : SeesNodes e.catalog seen nodes → (s : Statement) → refusal_in e s ≡ None → Stays s
+  stays : SeesNodes e.catalog seen nodes → (s : Statement) → NeedsNoData s → Stays s
   stays sees (statement.CreateTable name columns key) n = (λ g. refl, tt)
   stays sees (statement.Distribute table column count beside) n = (λ g. refl, nodes, sees, tt)
   stays sees (statement.Reference table) n = (λ g. refl, nodes, sees, tt)
@@ -70,19 +64,19 @@ module _ (run : Run) (e : Environment) (who : Who) (journals : List Journal) (no
   stays sees (statement.Select q) n = ([], λ g m. cc, λ g. refl)
   stays sees (statement.Explain q) n = λ g. refl
   stays sees (statement.Write op) n = λ g. refl
-  stays sees (statement.Copy table columns csv header) n = absurd (always_refused None n)
+  stays sees (statement.Copy table columns csv header) n = absurd n
   stays sees (statement.Move shard from to) n = moves sees shard from to (group_of_shard e.catalog shard) refl
   stays sees (statement.Rebalance by_size) n = inl ([], λ g m. cc, λ g. refl)
   stays sees (statement.RebalancePlan by_size) n = ([], λ g m. cc, λ g. refl)
 
-  by_refusal : (o : Option Fault) (s : Statement) → (o ≡ None → Stays s) → RunsUnless o (touched e.catalog s) run e seen s (answer.Failed fault.Memory)
+  by_refusal : (o : Option Fault) (s : Statement) → Stays s → RunsUnless o (touched e.catalog s) run e seen s (answer.Failed fault.Memory)
   by_refusal (Some f) s p = (λ g. refl, tt)
-  by_refusal None s p = p refl
+  by_refusal None s p = p
 
   leaves : (s : Statement) → after e (Some s) (answer.Failed fault.Memory) ≡ e
   leaves (statement.Move shard from to) = refl
   leaves (statement.Rebalance by_size) = refl
   leaves s = refl
 
-  pub no_memory : (s : Statement) → IsAnswered rules run e e who journals journals (Some s) (answer.Failed fault.Memory)
-  no_memory s = still run e who journals nodes told s (answer.Failed fault.Memory) (λ sees. by_refusal (refusal_in e s) s (stays sees s)) (leaves s)
+  pub no_memory : (s : Statement) → NeedsNoData s → IsAnswered rules run e e who journals journals (Some s) (answer.Failed fault.Memory)
+  no_memory s n = still run e who journals nodes told s (answer.Failed fault.Memory) (λ sees. by_refusal (refusal_in e s) s (stays sees s n)) (leaves s)

@@ -1,7 +1,4 @@
-ghost use Rattle.std.specs.Prelude.{◌≡◌, ℕ, not, List, Some, None, [], ◌∷◌, ◌++◌};
-ghost use Rattle.cq_meaning.specs.Effects.{table_of as table_of_op};
-ghost use Rattle.cq_catalog.specs.Contents.{is_local};
-ghost use Rattle.cq_catalog.specs.Placement.{place_at};
+ghost use Rattle.std.specs.Prelude.{◌≡◌, ℕ, List, Some, None, [], ◌∷◌, ◌++◌};
 ghost use Rattle.cq_planning.specs.Refusals.{refusal_of as refusal_by_rule};
 ghost use Rattle.cq_answer.specs.declared.answered.Settings.{Settings};
 ghost use Rattle.cq_history.specs.Computable.{IsComputable};
@@ -13,38 +10,15 @@ ghost use Rattle.cq_store.specs.declared.worker.Worker.{Worker};
 ghost use Rattle.cq_cluster.specs.Cluster.{IsSound, KeepsStores, HasStores, run_of};
 ghost use Rattle.cq_answer.specs.declared.answered.Answered.{Answered};
 ghost use Rattle.cq_cluster.specs.Accounts.{IsNext, AreAccounted, Retires};
-ghost use Rattle.cq_coordinator.specs.Coordination.{environment, journals, IsNoCopy};
+ghost use Rattle.cq_coordinator.specs.Coordination.{environment, journals, IsNoCopy, NeedsNoData};
 
 use crate::coordinator::Coordinator;
 use cq_answer::{Answer, Fault};
-use cq_catalog::{Catalog, Place};
 use cq_group::Gate;
 use cq_refusals::refusal_of;
-use cq_relations::place_of;
 use cq_store::Store;
-use cq_tree::{ShardOp, Statement, Who};
+use cq_tree::{Statement, Who};
 use std::alloc::Global;
-
-/// The table that a write names.
-fn table_of(op: &ShardOp) -> u32
-    ensures { result ≡ table_of_op op.now }
-{
-    match op {
-        ShardOp::Insert { table, .. }
-        | ShardOp::Update { table, .. }
-        | ShardOp::Remove { table, .. } => *table,
-    }
-}
-
-/// Whether a write is to a distributed table or a reference table, which have shards.
-fn has_shards(catalog: &Catalog, op: &ShardOp) -> bool
-    ensures { result ≡ not (is_local (place_at catalog.now (table_of_op op.now))) }
-{
-    match place_of(catalog, table_of(op)) {
-        Place::Local => false,
-        Place::Distributed { .. } | Place::Reference { .. } => true,
-    }
-}
 
 impl<S: Store> Coordinator<S> {
     /// The answer of a statement that planning supports.
@@ -59,6 +33,7 @@ impl<S: Store> Coordinator<S> {
         requires legal { (g : ℕ) → IsLegal self.old.cluster.catalog g (journal_in (journals self.old) g) }
         requires keyed { (table : ℕ) → IsKeyed self.old.cluster.catalog table }
         requires computable { IsComputable self.old.cluster.catalog statement.now }
+        requires no_data { NeedsNoData statement.now }
         requires supported { refusal_by_rule self.old.settings.repartition self.old.cluster.catalog statement.now ≡ None }
         ensures answered { (initial : Settings) (entry : List (Worker S)) → HasStores S.state entry self.old.cluster → IsAnswered rules (run_of self.old.cluster.nodes initial entry) (environment self.old) (environment self.new) who (journals self.old) (journals self.new) (Some statement.now) result }
         ensures tag { IsNoCopy result }
@@ -81,26 +56,20 @@ impl<S: Store> Coordinator<S> {
             Statement::Setting { which, value } => self.set(who, *which, *value),
             Statement::Select(query) => self.select(alloc, who, query),
             Statement::Explain(query) => self.explain(alloc, who, query),
-            Statement::Write(op) => {
-                if has_shards(&self.cluster.catalog, op) {
-                    self.write(alloc, who, op)
-                } else {
-                    Answer::Failed(Fault::NotBuilt)
-                }
-            }
+            Statement::Write(op) => self.write(alloc, who, op),
             Statement::Move { shard, from, to } => {
                 self.move_shard(alloc, gate, who, *shard, *from, *to)
             }
             Statement::RebalancePlan { by_size } => self.plan_rebalance(alloc, who, *by_size),
             Statement::Rebalance { by_size } => self.rebalance(alloc, gate, who, *by_size),
-            Statement::Copy { .. } => Answer::Failed(Fault::NotBuilt),
+            Statement::Copy { .. } => unreachable!(),
         }
     }
 
     /// The answer of a bound statement, which is entered in the journals of the shard groups that it touches.
     ///
-    /// Conditions: the journals are legal, primary keys of distributed tables have the distribution column, and the statement can be
-    /// computed and planned, as the binder makes sure. The answer is what `IsAnswered` says: the statement's meaning over the
+    /// Conditions: the journals are legal, primary keys of distributed tables have the distribution column, the statement can be
+    /// computed and planned, as the binder makes sure, and it is no COPY, whose rows come as an INSERT. The answer is what `IsAnswered` says: the statement's meaning over the
     /// undistributed database, or a refusal with its cause, or want of memory.
     pub fn answer<G: Gate>(
         &mut self,
@@ -113,6 +82,7 @@ impl<S: Store> Coordinator<S> {
         requires legal { (g : ℕ) → IsLegal self.old.cluster.catalog g (journal_in (journals self.old) g) }
         requires keyed { (table : ℕ) → IsKeyed self.old.cluster.catalog table }
         requires computable { IsComputable self.old.cluster.catalog statement.now }
+        requires no_data { NeedsNoData statement.now }
         ensures answered { (initial : Settings) (entry : List (Worker S)) → HasStores S.state entry self.old.cluster → IsAnswered rules (run_of self.old.cluster.nodes initial entry) (environment self.old) (environment self.new) who (journals self.old) (journals self.new) (Some statement.now) result }
         ensures tag { IsNoCopy result }
         ensures sound { IsSound S.state self.new.cluster }

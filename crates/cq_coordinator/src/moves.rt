@@ -8,8 +8,8 @@ ghost use Rattle.cq_history.specs.Standing.{report_names, report_row};
 ghost use Rattle.cq_store.specs.declared.worker.Worker.{Worker};
 ghost use Rattle.cq_cluster.specs.Accounts.{IsNext, AreAccounted, Retires};
 ghost use Rattle.cq_cluster.specs.Cluster.{IsSound, KeepsStores, HasStores, run_of};
+ghost use Rattle.cq_cluster.specs.Planned.{report_of};
 ghost use Rattle.cq_coordinator.specs.Coordination.{environment, journals, IsNoCopy};
-ghost use Rattle.cq_coordinator.specs.Moves.{numbers_of};
 
 use crate::coordinator::Coordinator;
 use cq_answer::{Answer, Fault};
@@ -55,12 +55,10 @@ fn report_table(alloc: Global) -> Result<ReportTable, NoMemory>
 /// Puts the numbers of a report in the place of the zeros. Takes no memory.
 fn fill(rows: &mut Rows, report: MoveReport)
     requires { rows.old ≡ report_row (record { copied = 0; caught = 0; last = 0 }) ∷ [] }
-    ensures { rows.new ≡ report_row (numbers_of report) ∷ [] }
+    ensures { rows.new ≡ report_row (report_of report) ∷ [] }
 {
     if let Some(row) = rows.get_mut(0) {
-        row.set(0, Value::Int(i128::from(report.copied)));
-        row.set(1, Value::Int(i128::from(report.caught)));
-        row.set(2, Value::Int(i128::from(report.last)));
+        report.put_into(row, 0);
     }
 }
 

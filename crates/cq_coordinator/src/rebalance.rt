@@ -1,100 +1,122 @@
-ghost use Rattle.std.specs.Prelude.{◌≡◌, ℕ, List, Some, None, [], ◌∷◌, ◌++◌, map, IfOk};
+ghost use Rattle.std.specs.Prelude.{◌≡◌, ℕ, List, Some, None, [], ◌∷◌, ◌++◌, map, IfErr, IfOk};
 ghost use Rattle.cq_tree.specs.declared.statement.Statement.TheVariants as statement;
 ghost use Rattle.cq_answer.specs.declared.answered.Answered.{Answered};
 ghost use Rattle.cq_answer.specs.declared.answered.Settings.{Settings};
 ghost use Rattle.cq_history.specs.Refusals.{rules, refusal_in};
 ghost use Rattle.cq_history.specs.Log.{IsAnswered};
-ghost use Rattle.cq_history.specs.Rebalances.{plan_names as names_by_rule, plan_row as row_by_rule};
+ghost use Rattle.cq_history.specs.Rebalances.{rebalance_names as names_by_rule};
 ghost use Rattle.cq_store.specs.declared.worker.Worker.{Worker};
+ghost use Rattle.cq_group.specs.Resting.{GoOn};
 ghost use Rattle.cq_cluster.specs.Accounts.{IsNext, AreAccounted, Retires};
-ghost use Rattle.cq_cluster.specs.Cluster.{IsSound, KeepsStores, HasStores, run_of};
+ghost use Rattle.cq_cluster.specs.Cluster.{IsSound, KeepsStores, HasStores, journals as journals_of_cluster, run_of, node_in};
+ghost use Rattle.cq_cluster.specs.Planned.{AccountsFailed, AccountsOn};
+ghost use Rattle.cq_rebalance.specs.Moving.{IsBegun, zero_row};
+ghost use Rattle.cq_rebalance.specs.Planning.{sizes_in, StopsPlan};
 ghost use Rattle.cq_coordinator.specs.Coordination.{environment, journals, IsNoCopy};
-ghost use Rattle.cq_coordinator.specs.Rebalances.{ShowsPlan};
 
 use crate::coordinator::Coordinator;
 use cq_answer::{Answer, Fault};
-use cq_balance::{Move, Moves};
-use cq_rebalance::plan_moves;
+use cq_balance::Moves;
+use cq_cluster::Cluster;
+use cq_group::Gate;
+use cq_rebalance::{make_moves, plan_moves, zero_rows};
 use cq_store::Store;
 use cq_tree::Who;
-use cq_value::{Names, NoMemory, Row, Rows, Text, Value};
+use cq_value::{Names, NoMemory, Rows, Text};
 use std::alloc::Global;
 
-/// The names of the columns of a plan.
-fn plan_names(alloc: Global) -> Result<Names, NoMemory>
+/// The names of the columns of a rebalance's table.
+fn rebalance_names(alloc: Global) -> Result<Names, NoMemory>
     ensures { IfOk result (λ names. names ≡ names_by_rule) }
 {
     let mut names = Names::new(alloc);
     names.put(Text::of_str(alloc, "group")?)?;
     names.put(Text::of_str(alloc, "source")?)?;
     names.put(Text::of_str(alloc, "target")?)?;
-    names.put(Text::of_str(alloc, "size")?)?;
+    names.put(Text::of_str(alloc, "copied")?)?;
+    names.put(Text::of_str(alloc, "caught")?)?;
+    names.put(Text::of_str(alloc, "last")?)?;
     Ok(names)
 }
 
-/// The row of a planned move. A size that a number doesn't hold, 2^127 or more, is want of memory.
-fn plan_row(alloc: Global, next: Move) -> Result<Row, NoMemory>
-    ensures { IfOk result (λ row. row ≡ row_by_rule next) }
+/// Moves that balance the shard groups, and their rows.
+#[derive(Drop)]
+struct Plan {
+    moves: Moves,
+    rows: Rows,
+}
+
+/// The moves that balance a cluster's shard groups, with the rows of their table, which aren't made yet. By size each distributed group
+/// is read, and has one Read in its journal then.
+///
+/// Errors: those of `plan_moves`.
+fn begin_moves<S: Store>(
+    alloc: Global,
+    cluster: &mut Cluster<S>,
+    who: Who,
+    by_size: bool,
+) -> Result<Plan, Fault>
+    requires sound { IsSound S.state cluster.old }
+    ensures sound { IsSound S.state cluster.new }
+    ensures stores { KeepsStores S.state cluster.old cluster.new }
+    ensures catalog { cluster.new.catalog ≡ cluster.old.catalog }
+    ensures retired { cluster.new.retired ≡ cluster.old.retired }
+    ensures goes_on { GoOn S.state cluster.old.groups.items cluster.new.groups.items }
+    ensures begun { IfOk result (λ p. IsBegun S.state who by_size (journals_of_cluster cluster.old) (node_in cluster.old.groups.items) (sizes_in by_size cluster.old.catalog cluster.old.groups.items) cluster.new p.moves) }
+    ensures rows { IfOk result (λ p. p.rows ≡ map zero_row p.moves) }
+    ensures accounted { IfOk result (λ p. AccountsOn S.state who cluster.old cluster.new) }
+    ensures failed { IfErr result (StopsPlan S.state by_size cluster.old.catalog cluster.old.nodes who cluster.old.groups.items cluster.new.groups.items) }
+    ensures blamed { IfErr result (λ f. AccountsFailed S.state who f cluster.old cluster.new) }
 {
-    let Ok(size) = i128::try_from(next.size) else {
-        return Err(NoMemory);
+    let planned = plan_moves(
+        alloc,
+        &cluster.catalog,
+        cluster.nodes,
+        &mut cluster.groups,
+        who,
+        by_size,
+    );
+    let moves = match planned {
+        Ok(moves) => moves,
+        Err(fault) => return Err(fault),
     };
-    let mut row = Row::new(alloc);
-    row.put(Value::Int(i128::from(next.group)))?;
-    row.put(Value::Int(i128::from(next.from)))?;
-    row.put(Value::Int(i128::from(next.to)))?;
-    row.put(Value::Int(size))?;
-    Ok(row)
-}
-
-/// The rows of planned moves.
-fn plan_rows(alloc: Global, moves: &Moves) -> Result<Rows, NoMemory>
-    ensures { IfOk result (λ rows. rows ≡ map row_by_rule moves.now) }
-{
-    let mut rows = Rows::new(alloc);
-    for next in moves.as_slice() {
-        rows.put(plan_row(alloc, *next)?)?;
-    }
-    Ok(rows)
-}
-
-/// The answer that shows a plan under these names, or why there is none.
-fn show_plan(alloc: Global, names: Names, planned: Result<Moves, Fault>) -> Answer
-    requires { names ≡ names_by_rule }
-    ensures { ShowsPlan planned result }
-{
-    match planned {
-        Ok(moves) => match plan_rows(alloc, &moves) {
-            Ok(rows) => Answer::Table { names, rows },
-            Err(NoMemory) => Answer::Failed(Fault::Memory),
-        },
-        Err(fault) => Answer::Failed(fault),
+    match zero_rows(alloc, moves.as_slice()) {
+        Ok(rows) => Ok(Plan { moves, rows }),
+        Err(NoMemory) => Err(Fault::Memory),
     }
 }
 
 impl<S: Store> Coordinator<S> {
-    /// The answer of a `get_rebalance_table_shards_plan`: the moves that a rebalance would make. By size each distributed group is read, and has a Read in its journal.
-    pub fn plan_rebalance(&mut self, alloc: Global, who: Who, by_size: bool) -> Answer
+    /// The answer of a `rebalance_table_shards`: the moves that balance the shard groups, each made, with what it did; or why one
+    /// wasn't made, and none behind it is begun then. The groups' journals have the entries of the moves.
+    pub fn rebalance<G: Gate>(&mut self, alloc: Global, gate: &G, who: Who, by_size: bool) -> Answer
         requires sound { IsSound S.state self.old.cluster }
-        requires runs { refusal_in (environment self.old) (statement.RebalancePlan by_size) ≡ None }
-        ensures answered { (initial : Settings) (entry : List (Worker S)) → HasStores S.state entry self.old.cluster → IsAnswered rules (run_of self.old.cluster.nodes initial entry) (environment self.old) (environment self.new) who (journals self.old) (journals self.new) (Some (statement.RebalancePlan by_size)) result }
+        requires runs { refusal_in (environment self.old) (statement.Rebalance by_size) ≡ None }
+        ensures answered { (initial : Settings) (entry : List (Worker S)) → HasStores S.state entry self.old.cluster → IsAnswered rules (run_of self.old.cluster.nodes initial entry) (environment self.old) (environment self.new) who (journals self.old) (journals self.new) (Some (statement.Rebalance by_size)) result }
         ensures tag { IsNoCopy result }
         ensures sound { IsSound S.state self.new.cluster }
         ensures stores { KeepsStores S.state self.old.cluster self.new.cluster }
         ensures accounted { (answers : List Answered) (a : Answered) → a.answer ≡ result → IsNext who a answers self.old.cluster.groups.items → AreAccounted S.state self.old.cluster.catalog answers self.old.cluster.groups.items → AreAccounted S.state self.new.cluster.catalog (answers ++ a ∷ []) self.new.cluster.groups.items }
         ensures retires { Retires who result self.old.cluster.retired.items self.new.cluster.retired.items }
     {
-        let Ok(names) = plan_names(alloc) else {
+        let Ok(names) = rebalance_names(alloc) else {
             return Answer::Failed(Fault::Memory);
         };
-        let planned = plan_moves(
+        let begun = match begin_moves(alloc, &mut self.cluster, who, by_size) {
+            Ok(begun) => begun,
+            Err(fault) => return Answer::Failed(fault),
+        };
+        let Plan { moves, mut rows } = begun;
+        match make_moves(
             alloc,
-            &self.cluster.catalog,
-            self.cluster.nodes,
-            &mut self.cluster.groups,
+            gate,
+            &mut self.cluster,
             who,
-            by_size,
-        );
-        show_plan(alloc, names, planned)
+            moves.as_slice(),
+            &mut rows,
+        ) {
+            Ok(()) => Answer::Table { names, rows },
+            Err(fault) => Answer::Failed(fault),
+        }
     }
 }

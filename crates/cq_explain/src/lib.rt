@@ -19,6 +19,8 @@ mod shards;
 mod tasking;
 
 pub use explaining::explain;
+pub use joining::parting_of;
 pub use lines::Lines;
+pub use planner::planner_of;
 pub use rows::rows_of;
 pub use tasking::{combine_by, shares_rows};

@@ -24,4 +24,5 @@ pub use incoming::{Incoming, IncomingTable};
 pub use moves::{Exchanged, MoveFailed};
 pub use moving::Moving;
 pub use open::AddRefused;
-pub use start::{MoveRefused, MoveWhy};
+pub use start::{MoveRefused, MoveWhy, why_of};
+pub use table::MOST_IDS;

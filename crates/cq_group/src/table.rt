@@ -23,7 +23,7 @@ use cq_value::{NoMemory, Rows};
 use std::alloc::Global;
 
 /// The most row ids of one table in one shard group.
-const MOST_IDS: u64 = 4_294_967_296;
+pub const MOST_IDS: u64 = 4_294_967_296;
 
 /// How many rows a write inserts.
 fn inserted(op: &ShardOp) -> u64

@@ -1,6 +1,6 @@
 -- What the binder and planning make sure of, over the groups of a write's table.
 use Rattle.std.proofs.Common.{◌≡◌, inl, inr, ℕ, Bool, true, false, cond, List, [], ◌∷◌, refl, sym, subst, Option, Some, None}
-use Rattle.std.specs.Prelude.{not, option_map}
+use Rattle.std.specs.Prelude.{option_map}
 use Rattle.std.specs.List.{AllByRecursion}
 use Rattle.std.proofs.lemmas.Bool.Decides.{eqb_tells}
 use Rattle.cq_value.specs.declared.schema.Shape.{Shape}
@@ -16,7 +16,7 @@ use Rattle.cq_tree.specs.declared.write.ShardOp.{ShardOp}
 use Rattle.cq_tree.specs.declared.write.ShardOp.TheVariants.{Insert, Update, Remove}
 use Rattle.cq_meaning.specs.Widths.{Within}
 use Rattle.cq_meaning.specs.Effects.{table_of}
-use Rattle.cq_catalog.specs.Contents.{Contents, is_local}
+use Rattle.cq_catalog.specs.Contents.{Contents}
 use Rattle.cq_catalog.specs.Placement.{place_at}
 use Rattle.cq_catalog.specs.declared.info.Place.{Place}
 use Rattle.cq_catalog.specs.declared.info.Place.TheVariants.{Local, Distributed, Reference}
@@ -29,12 +29,13 @@ use Rattle.cq_planning.specs.Parts.{part}
 use Rattle.cq_planning.specs.Refusals.{changes_distribution, refusal_of_write}
 use Rattle.cq_planning.specs.Touched.{touched, among}
 use Rattle.cq_history.specs.Run.{Environment}
-use Rattle.cq_history.specs.Refusals.{rules, write_refusal, is_built, unless_built}
+use Rattle.cq_history.specs.Refusals.{rules, write_refusal}
 use Rattle.cq_history.specs.Journals.{journal_in}
 use Rattle.cq_history.specs.Legality.{LeavesColumn, IsLegalKind, IsLegal, IsKeyed}
 use Rattle.cq_history.specs.Computable.{column_bits, IsWritable}
 use Rattle.cq_history.specs.Laws.{IsFitting, IsWriting}
 use Rattle.cq_history.proofs.Lists.{all_weaker}
+use Rattle.cq_history.proofs.Doing.{table_of_part}
 use Rattle.cq_group.specs.declared.group.GroupState.{GroupState}
 use Rattle.cq_group.specs.Groups.{HasTable, entries_of, shapes}
 use Rattle.cq_group.specs.Calls.{CanCompute}
@@ -46,23 +47,9 @@ use Rattle.cq_groups.proofs.Touching.{part_at}
 
 -- ---- a write that isn't refused
 
-unless_none : (b : Bool) (o : Option Unsupported) → unless_built b (option_map (λ why. fault.Unsupported why) o) ≡ None → (b ≡ true) × (o ≡ None)
-unless_none true None e = (refl, refl)
-unless_none false None e = cc
-unless_none b (Some why) e = cc
-
-not_local : (p : Place) → not (is_local p) ≡ true → p ≡ Local → ⊥
-not_local Local e q = cc
-not_local (Distributed at colocation first_shard) e q = cc
-not_local (Reference group shard) e q = cc
-
-module _ (c : Contents) (op : ShardOp) (runs : write_refusal c op ≡ None) where
-  allowed : (is_built c (statement.Write op) ≡ true) × (refusal_of_write c op ≡ None)
-  allowed = unless_none (is_built c (statement.Write op)) (refusal_of_write c op) runs
-
-  -- its table is a distributed table or a reference table
-  pub its_not_local : place_at c (table_of op) ≡ Local → ⊥
-  its_not_local = not_local (place_at c (table_of op)) allowed.0
+none_mapped : (o : Option Unsupported) → option_map (λ why. fault.Unsupported why) o ≡ None → o ≡ None
+none_mapped None e = refl
+none_mapped (Some why) e = cc
 
 leaves_each : (at colocation first_shard : ℕ) (sets : List Set) → changes_distribution (Distributed at colocation first_shard) sets ≡ false → AllByRecursion (LeavesColumn (Distributed at colocation first_shard)) sets
 leaves_each at colocation first_shard [] e = tt
@@ -86,7 +73,7 @@ no_refusal false why e = refl
 
 module _ (e : Environment) (op : ShardOp) (runs : write_refusal e.catalog op ≡ None) (keyed : IsKeyed e.catalog (table_of op)) (writable : IsWritable e.catalog op) where
   fitting : IsFitting e.catalog op
-  fitting = by_kind op writable (allowed e.catalog op runs).1
+  fitting = by_kind op writable (none_mapped (refusal_of_write e.catalog op) runs)
     where
       by_kind : (w : ShardOp) → IsWritable e.catalog w → refusal_of_write e.catalog w ≡ None → IsFitting e.catalog w
       by_kind (Insert table rows) can none = can.fits
@@ -94,7 +81,7 @@ module _ (e : Environment) (op : ShardOp) (runs : write_refusal e.catalog op ≡
       by_kind (Remove table filter_) can none = tt
 
   pub is_writing : IsWriting rules e op
-  is_writing = record { runs = runs; touched = writable.touched (its_not_local e.catalog op runs); keyed = keyed; fitting = fitting }
+  is_writing = record { runs = runs; touched = writable.touched; keyed = keyed; fitting = fitting }
 
 -- ---- the rows that a legal journal leaves
 
@@ -128,11 +115,6 @@ module _ (c : Contents) (group : ℕ) where
 
 -- ---- what a group can take
 
-pub table_part : (c : Contents) (op : ShardOp) (g : ℕ) → table_of (part c op g) ≡ table_of op
-table_part c (Insert table rows) g = refl
-table_part c (Update table filter_ sets) g = refl
-table_part c (Remove table filter_) g = refl
-
 module _ {X : Type 0} (c : Contents) (groups : List (GroupState X)) (legal : (g : ℕ) → IsLegal c g (journal_in (journals_of groups) g)) where
   its_pairs : (table place : ℕ) → (t : IsTableIn c groups table place) → AllByRecursion (λ (p : Pair). Within (column_bits c table) p.1) (replay table (shapes t.group table) (entries_of t.group)).pairs
   its_pairs table place t =
@@ -147,7 +129,7 @@ module _ {X : Type 0} (c : Contents) (groups : List (GroupState X)) (legal : (g 
   computes (Remove table filter_) place writable t = writable.safe (replay table (shapes t.group table) (entries_of t.group)).pairs (its_pairs table place t)
 
   -- a touched group can take its part
-  pub can_take : (op : ShardOp) → IsWritable c op → (place_at c (table_of op) ≡ Local → ⊥) → HasShards c groups (table_of op) → (place : ℕ) → among place (touched c (statement.Write op)) ≡ true → CanTake groups (part_at c op place)
-  can_take op writable somewhere shards place m =
-      let t = shards place ((writable.touched somewhere).own place m) in
-      record { group = t.group; there = t.there; holds = (subst (λ n. HasTable t.group n) (sym (table_part c op place)) t.has, computes op place writable t) }
+  pub can_take : (op : ShardOp) → IsWritable c op → HasShards c groups (table_of op) → (place : ℕ) → among place (touched c (statement.Write op)) ≡ true → CanTake groups (part_at c op place)
+  can_take op writable shards place m =
+      let t = shards place (writable.touched.own place m) in
+      record { group = t.group; there = t.there; holds = (subst (λ n. HasTable t.group n) (sym (table_of_part c op place)) t.has, computes op place writable t) }

@@ -23,4 +23,5 @@ pub mod CaptureLaws
 pub mod RunLaws
 pub mod PushLaws
 pub mod ServeLaws
+pub mod SplitServing
 pub mod WayLaws

@@ -38,7 +38,7 @@ lower : (low : ℕ) (gs : List ℕ) → IsAscendingFrom (low + 1) gs → IsAscen
 lower low [] a = tt
 lower low (g ∷ gs) a = (omega (arith, a.0), a.1)
 
-filtered_ascends : (p : ℕ → Bool) (n k : ℕ) → IsAscendingFrom n (filter p (numbers n k))
+pub filtered_ascends : (p : ℕ → Bool) (n k : ℕ) → IsAscendingFrom n (filter p (numbers n k))
 filtered_ascends p n zero = tt
 filtered_ascends p n (suc k) = elim (two_ways (p n)) [
   | inl y ↦ rw y (omega arith, filtered_ascends p (n + 1) k)
@@ -48,7 +48,7 @@ filtered_ascends p n (suc k) = elim (two_ways (p n)) [
 pub in_order_ascends : (c : Contents) (gs : List ℕ) → IsAscendingFrom 0 (in_order c gs)
 in_order_ascends c gs = filtered_ascends (λ g. among g gs) 0 c.groups
 
-among_filtered : (p : ℕ → Bool) (n k g : ℕ) → among g (filter p (numbers n k)) ≡ true → g < n + k
+pub among_filtered : (p : ℕ → Bool) (n k g : ℕ) → among g (filter p (numbers n k)) ≡ true → g < n + k
 among_filtered p n zero g m = cc
 among_filtered p n (suc k) g m = elim (two_ways (p n)) [
   | inl y ↦ elim (eqb_tells g n) [

@@ -1,11 +1,11 @@
 -- The tasks of a query that pushdown takes serve for it, over what its looks read.
-use Rattle.std.proofs.Common.{◌≡◌, ◌≤◌, ◌^◌, inl, inr, ℕ, Bool, true, false, List, [], ◌∷◌, ◌++◌, map, length, replicate, refl, sym, ◌∙◌, ap, subst, arith}
+use Rattle.std.proofs.Common.{◌≡◌, ◌≤◌, ◌^◌, inl, inr, ℕ, Bool, true, false, cond, List, [], ◌∷◌, ◌++◌, map, length, replicate, is_some, refl, sym, ◌∙◌, ap, subst, arith}
 use Rattle.std.specs.Prelude.{◌⊎◌, ◌&&◌, ◌||◌, nat_le}
 use Rattle.std.specs.List.{flat_map, list_any, AllByRecursion}
 use Rattle.std.proofs.lemmas.List.{length-map}
 use Rattle.cq_tree.specs.declared.plan.Combine.{Combine}
 use Rattle.cq_tree.specs.declared.plan.Combine.TheVariants.{Nothing}
-use Rattle.cq_tree.specs.declared.query.FromTree.{FromTree, Table, Sub', Result, Cross', Inner', Left', end_of-FromTree, more_of-FromTree}
+use Rattle.cq_tree.specs.declared.query.FromTree.{FromTree, Table, Sub', Result, Cross', Inner', Left', end_of-FromTree, more_of-FromTree, end_of-Query, more_of-Query}
 use Rattle.cq_tree.specs.declared.query.Query.{Query, Query', out-Query}
 use Rattle.cq_meaning.specs.Lists.{Has}
 use Rattle.cq_meaning.specs.Values.{Row, Tables, table_rows}
@@ -19,26 +19,28 @@ use Rattle.cq_meaning.proofs.Reorder.{Reordered}
 use Rattle.cq_meaning.proofs.RowLaws.{has_filtered}
 use Rattle.cq_meaning_laws.specs.WholeRules.{Step, steps_of, no_results, with_steps, has_large_step, IsSafeTogether}
 use Rattle.cq_meaning_laws.proofs.WholeLaws.{results_in_steps}
+use Rattle.cq_meaning_laws.proofs.WithinLaws.{all_both}
 use Rattle.cq_task_laws.specs.Partial.{partial}
 use Rattle.cq_task_laws.specs.Merging.{joined, GathersTo, has_large_together}
-use Rattle.cq_task_laws.specs.Gathering.{kept_of, IsSafeOver, IsNonEmpty, Serves}
+use Rattle.cq_task_laws.specs.Gathering.{kept_of, has_large_over, IsSafeOver, IsNonEmpty, Serves}
 use Rattle.cq_task_laws.specs.Tasks.{TasksServe}
-use Rattle.cq_task_laws.proofs.BlockTasks.{part_of, task_meaning_of, is_large_task, answers_over, large_over, served_cut, served_parts, tasks_safe, tasks_gather, tasks_large, tasks_merge}
+use Rattle.cq_task_laws.proofs.BlockTasks.{part_of, task_meaning_of, is_large_task, answers_over, large_over, served_cut, served_parts, none_large, tasks_safe, tasks_gather, tasks_large, tasks_merge}
 use Rattle.cq_task_laws.proofs.Opened.{from_of, from_is, partial_from}
-use Rattle.cq_task_laws.proofs.PartLaws.{flat_map_of_map}
+use Rattle.cq_task_laws.proofs.PartLaws.{flat_map_of_map, mapped_has}
 use Rattle.cq_tasks.specs.Execution.{reads_by, task_rows, has_large_task}
 use Rattle.cq_whole.specs.Tables.{tables_from, tables_in, tables_of_steps, tables_of_statement}
 use Rattle.cq_whole.proofs.TableLaws.{meaning_alike, large_alike, tables_suffice}
 use Rattle.cq_catalog.specs.Contents.{Contents}
-use Rattle.cq_planning.specs.Classes.{first_of_class}
 use Rattle.cq_planning.specs.Database.{IsRowOf, whole}
-use Rattle.cq_planning.specs.Joins.{equalities_of, relations_of, plain_in}
+use Rattle.cq_planning.specs.Joins.{plain_in}
+use Rattle.cq_planning.specs.Pushable.{pushable}
 use Rattle.cq_planning.specs.Reaching.{IsAscendingFrom}
 use Rattle.cq_planning_laws.specs.Laid.{IsLaidFrom, IsLaid}
 use Rattle.cq_outline.specs.Tasking.{first_column, shares_rows, combine_by}
-use Rattle.cq_pushdown_laws.specs.Pushed.{is_table, joins_tables, are_pushed, is_pushed}
-use Rattle.cq_pushdown_laws.specs.Tables.{task_tables, side_of}
-use Rattle.cq_pushdown_laws.proofs.Serving.{parts_serve}
+use Rattle.cq_pushdown_laws.specs.Pushed.{is_single, reads_references, joins_pushed, is_pushed}
+use Rattle.cq_pushdown_laws.specs.Tables.{HoldsOnly, task_tables, side_of}
+use Rattle.cq_pushdown_laws.proofs.Spread.{has_among}
+use Rattle.cq_pushdown_laws.proofs.Serving.{large_below, parts_serve}
 use Rattle.cq_history.specs.Computable.{column_bits, AreWithin, IsReadable}
 use Rattle.cq_history.specs.Looks.{has_shard}
 use Rattle.cq_history.specs.Refusals.{is_alone}
@@ -48,56 +50,57 @@ use Rattle.cq_groups.specs.Tasks.{own_of, beside_of, count_tasks, are_several, k
 use Rattle.cq_groups.proofs.GatherLaws.{merged_rows}
 use Rattle.cq_groups.proofs.QueryLaws.{each_of}
 use Rattle.cq_groups.proofs.StepLaws.{no_steps}
-use Rattle.cq_groups.proofs.TaskReads.{tasks_in, counted, tasks_ascend, has_among, own_at, beside_at, all_seen, own_are, beside_are, held, read_at, reads_agree, whole_agrees, can, only_there, read_within}
+use Rattle.cq_groups.proofs.TaskReads.{tasks_in, counted, tasks_ascend, own_at, beside_at, all_seen, own_are, beside_are, held, read_at, reads_agree, whole_agrees, can, only_there, read_within}
+
+or_yes : (b : Bool) → (b || true) ≡ true
+or_yes true = refl
+or_yes false = refl
 
 and_both : (a b : Bool) → (a && b) ≡ true → (a ≡ true) × (b ≡ true)
 and_both true b h = (refl, h)
 and_both false b h = cc
 
--- ---- joins of tables
+-- ---- a FROM that pushdown takes
 
--- have no subquery, and so no group that is too large
-tables_small : (f : FromTree) → joins_tables f ≡ true → (db : Tables) (rs : List (List Row)) → is_large_from f db rs ≡ false
-tables_small (Table t n) h db rs = refl
-tables_small (Sub' p q) h db rs = cc
-tables_small (Result i n) h db rs = cc
-tables_small (Cross' p (more_of-FromTree a end_of-FromTree) q (more_of-FromTree b end_of-FromTree)) h db rs =
-    let both = and_both (joins_tables a) (joins_tables b) h in rw (tables_small a both.0 db rs) (tables_small b both.1 db rs)
-tables_small (Inner' p (more_of-FromTree a end_of-FromTree) q (more_of-FromTree b end_of-FromTree) on) h db rs =
-    let both = and_both (joins_tables a) (joins_tables b) h in rw (tables_small a both.0 db rs) (tables_small b both.1 db rs)
-tables_small (Left' p (more_of-FromTree a end_of-FromTree) q (more_of-FromTree b end_of-FromTree) on) h db rs =
-    let both = and_both (joins_tables a) (is_table b) h in rw (tables_small a both.0 db rs) (table_small b both.1)
-  where
-    table_small : (f : FromTree) → is_table f ≡ true → is_large_from f db rs ≡ false
-    table_small (Table t n) h = refl
-    table_small _ h = cc
-
--- nor a result, whose width matters
+-- reads no result, whose width matters
 module _ (c : Contents) (widths : ℕ → ℕ) where
-  tables_laid : (f : FromTree) → joins_tables f ≡ true → IsLaidFrom c widths f → IsLaidFrom c (λ i. 0) f
-  tables_laid (Table t n) h l = l
-  tables_laid (Sub' p q) h l = cc
-  tables_laid (Result i n) h l = cc
-  tables_laid (Cross' p (more_of-FromTree a end_of-FromTree) q (more_of-FromTree b end_of-FromTree)) h l =
-      let both = and_both (joins_tables a) (joins_tables b) h in (tables_laid a both.0 l.0, tables_laid b both.1 l.1)
-  tables_laid (Inner' p (more_of-FromTree a end_of-FromTree) q (more_of-FromTree b end_of-FromTree) on) h l =
-      let both = and_both (joins_tables a) (joins_tables b) h in (tables_laid a both.0 l.0, tables_laid b both.1 l.1)
-  tables_laid (Left' p (more_of-FromTree a end_of-FromTree) q (more_of-FromTree b end_of-FromTree) on) h l =
-      let both = and_both (joins_tables a) (is_table b) h in (tables_laid a both.0 l.0, table_laid b both.1 l.1)
-    where
-      table_laid : (f : FromTree) → is_table f ≡ true → IsLaidFrom c widths f → IsLaidFrom c (λ i. 0) f
-      table_laid (Table t n) h l = l
-      table_laid _ h l = cc
+  references_laid : (f : FromTree) → reads_references c f ≡ true → IsLaidFrom c widths f → IsLaidFrom c (λ i. 0) f
+  references_laid (Table t n) h l = l
+  references_laid (Sub' p (more_of-Query (Query' cs ctes ss subs from filter_ grouped keys aggs having items shown distinct order limit offset names) end_of-Query)) h l = (references_laid from h l.0, l.1)
+  references_laid (Result i n) h l = cc
+  references_laid (Cross' p (more_of-FromTree a end_of-FromTree) q (more_of-FromTree b end_of-FromTree)) h l =
+      let both = and_both (reads_references c a) (reads_references c b) h in (references_laid a both.0 l.0, references_laid b both.1 l.1)
+  references_laid (Inner' p (more_of-FromTree a end_of-FromTree) q (more_of-FromTree b end_of-FromTree) on) h l =
+      let both = and_both (reads_references c a) (reads_references c b) h in (references_laid a both.0 l.0, references_laid b both.1 l.1)
+  references_laid (Left' p (more_of-FromTree a end_of-FromTree) q (more_of-FromTree b end_of-FromTree) on) h l =
+      let both = and_both (reads_references c a) (reads_references c b) h in (references_laid a both.0 l.0, references_laid b both.1 l.1)
 
-  query_laid : (q : Query) → joins_tables (from_of q) ≡ true → IsLaid c widths q → IsLaid c (λ i. 0) q
-  query_laid (Query' cs ctes ss subs from filter_ grouped keys aggs having items shown distinct order limit offset names) h l = (tables_laid from h l.0, l.1)
+  from_laid : (f : FromTree) → joins_pushed c f ≡ true → IsLaidFrom c widths f → IsLaidFrom c (λ i. 0) f
+  from_laid (Table t n) h l = l
+  from_laid (Sub' p (more_of-Query (Query' cs ctes ss subs from filter_ grouped keys aggs having items shown distinct order limit offset names) end_of-Query)) h l =
+      let q : Query = Query' cs ctes ss subs from filter_ grouped keys aggs having items shown distinct order limit offset names in
+      (by_test (is_some (pushable c q)) (is_pushed c q) (reads_references c from) (IsLaidFrom c (λ i. 0) from) (λ pushed. from_laid from (and_both (joins_pushed c from) _ pushed).0 l.0) (λ only. references_laid from only l.0) h, l.1)
+    where
+      by_test : (b x y : Bool) (P : Type 0) → (x ≡ true → P) → (y ≡ true → P) → cond b x y ≡ true → P
+      by_test true x y P f g e = f e
+      by_test false x y P f g e = g e
+  from_laid (Result i n) h l = cc
+  from_laid (Cross' p (more_of-FromTree a end_of-FromTree) q (more_of-FromTree b end_of-FromTree)) h l =
+      let both = and_both (joins_pushed c a) (joins_pushed c b) h in (from_laid a both.0 l.0, from_laid b both.1 l.1)
+  from_laid (Inner' p (more_of-FromTree a end_of-FromTree) q (more_of-FromTree b end_of-FromTree) on) h l =
+      let both = and_both (joins_pushed c a) (joins_pushed c b) h in (from_laid a both.0 l.0, from_laid b both.1 l.1)
+  from_laid (Left' p (more_of-FromTree a end_of-FromTree) q (more_of-FromTree b end_of-FromTree) on) h l =
+      let both = and_both (joins_pushed c a) (joins_pushed c b) (and_both (is_single b) (joins_pushed c a && joins_pushed c b) h).1 in (from_laid a both.0 l.0, from_laid b both.1 l.1)
+
+  query_laid : (q : Query) → is_pushed c q ≡ true → IsLaid c widths q → IsLaid c (λ i. 0) q
+  query_laid (Query' cs ctes ss subs from filter_ grouped keys aggs having items shown distinct order limit offset names) h l = (from_laid from (and_both (joins_pushed c from) _ h).0 l.0, l.1)
 
 -- ---- a query without CTEs and IN subqueries
 
-no_results_of : (q : Query) (db : Tables) → steps_of q ≡ [] → results_of q db ≡ []
+pub no_results_of : (q : Query) (db : Tables) → steps_of q ≡ [] → results_of q db ≡ []
 no_results_of q db e = results_in_steps db q ∙ (ap (with_steps db (no_results q)) e ∙ ap (λ (steps : List Step). replicate (length steps) []) e)
 
-safe_alone : (q : Query) (db : Tables) → steps_of q ≡ [] → IsComputable q db → IsSafeQuery q db []
+pub safe_alone : (q : Query) (db : Tables) → steps_of q ≡ [] → IsComputable q db → IsSafeQuery q db []
 safe_alone q db simple h =
     subst (λ rs. IsSafeQuery q db rs) (no_results_of q db simple) (h.1 (ap (λ (steps : List Step). has_large_step db (no_results q) steps) simple))
 
@@ -113,7 +116,7 @@ task_tables_in kind q = in_from (partial kind q) ∙ ap tables_from (partial_fro
     in_from : (q : Query) → tables_in q ≡ tables_from (from_of q)
     in_from (Query' cs ctes ss subs from filter_ grouped keys aggs having items shown distinct order limit offset names) = refl
 
-over_together : (P : Tables → Type 0) (q : Query) (dbs : List Tables) → IsSafeTogether P q [] dbs → AllByRecursion (λ db. P db × (is_large_from (from_of q) db [] ≡ false)) dbs → IsSafeOver q [] (flat_map (λ db. from_rows (from_of q) 0 db []) dbs)
+pub over_together : (P : Tables → Type 0) (q : Query) (dbs : List Tables) → IsSafeTogether P q [] dbs → AllByRecursion (λ db. P db × (is_large_from (from_of q) db [] ≡ false)) dbs → IsSafeOver q [] (flat_map (λ db. from_rows (from_of q) 0 db []) dbs)
 over_together P (Query' cs ctes ss subs from filter_ grouped keys aggs having items shown distinct order limit offset names) dbs h each = h each
 
 -- ---- lists of tables
@@ -122,11 +125,11 @@ any_same : (p : Tables → Bool) (f g : ℕ → Tables) (ks : List ℕ) → ((k 
 any_same p f g [] same = refl
 any_same p f g (k ∷ ks) same = let first : p (f k) ≡ p (g k) = same k (inl refl) in let rest : list_any p (map f ks) ≡ list_any p (map g ks) = any_same p f g ks (λ j h. same j (inr h)) in λ i. first i || rest i
 
-all_of : (P : Tables → Type 0) (f : ℕ → Tables) → ((k : ℕ) → P (f k)) → (ks : List ℕ) → AllByRecursion P (map f ks)
+pub all_of : (P : Tables → Type 0) (f : ℕ → Tables) → ((k : ℕ) → P (f k)) → (ks : List ℕ) → AllByRecursion P (map f ks)
 all_of P f h [] = tt
 all_of P f h (k ∷ ks) = (h k, all_of P f h ks)
 
-some_of : (f : ℕ → Tables) (ks : List ℕ) → 2 ≤ length ks → IsNonEmpty (map f ks)
+pub some_of : (f : ℕ → Tables) (ks : List ℕ) → 2 ≤ length ks → IsNonEmpty (map f ks)
 some_of f [] l = absurd (omega (arith, l))
 some_of f (k ∷ ks) l = tt
 
@@ -174,14 +177,14 @@ module _ (c : Contents) (q : Query) (rows : ℕ → ℕ → List Row) (placed : 
   simple : steps_of q ≡ []
   simple = no_steps q alone
 
-  joins : joins_tables (from_of q) ≡ true
-  joins = ap joins_tables (sym (from_is q)) ∙ (and_both (joins_tables (out-Query q).from) (are_pushed (first_of_class (equalities_of q)) (relations_of c q) (plain_in c q)) pushed).0
+  laid : IsLaid c (λ i. 0) q
+  laid = query_laid c readable.laid.0 q pushed readable.laid.1
 
-  small : (db : Tables) → is_large_from (from_of q) db [] ≡ false
-  small db = tables_small (from_of q) joins db []
+  reads_only : HoldsOnly c (held c tables rows gs) ts
+  reads_only = only_there c tables rows gs
 
   serve : TasksServe (side_of c) (kind_by c q) q (whole c (held c tables rows gs)) task [] ts
-  serve = parts_serve c q (held c tables rows gs) ts (query_laid c readable.laid.0 q joins readable.laid.1) pushed (can c tables rows gs placed) (tasks_ascend c tables 0 gs ascending) (let some = count.0 in omega (arith, some)) (only_there c tables rows gs)
+  serve = parts_serve c q (held c tables rows gs) ts laid pushed (can c tables rows gs placed) (tasks_ascend c tables 0 gs ascending) (let some = count.0 in omega (arith, some)) reads_only
 
   -- ---- what they read agrees with the placement
 
@@ -190,14 +193,14 @@ module _ (c : Contents) (q : Query) (rows : ℕ → ℕ → List Row) (placed : 
       subst (AllByRecursion (λ t. table_rows (read k) t ≡ table_rows (task k) t)) (own_tables q simple ∙ sym (task_tables_in (kind_by c q) q))
       (each_of (λ t. table_rows (read k) t ≡ table_rows (task k) t) tables (reads_agree c tables rows gs k (has_among gs k (has_filtered (λ g. list_any _ (tables_there c g tables)) gs k h).0)))
 
-  same_rows : map (task_meaning_of q [] small (kind_by c q)) (map read ts) ≡ map (task_meaning_of q [] small (kind_by c q)) (map task ts)
+  same_rows : map (task_meaning_of q [] (kind_by c q)) (map read ts) ≡ map (task_meaning_of q [] (kind_by c q)) (map task ts)
   same_rows =
-      map_map (task_meaning_of q [] small (kind_by c q)) read ts
-      ∙ (map_same (λ k. task_meaning_of q [] small (kind_by c q) (read k)) (λ k. task_meaning_of q [] small (kind_by c q) (task k)) ts (λ k h. meaning_alike (read k) (task k) [] (partial (kind_by c q) q) (agrees k h))
-      ∙ sym (map_map (task_meaning_of q [] small (kind_by c q)) task ts))
+      map_map (task_meaning_of q [] (kind_by c q)) read ts
+      ∙ (map_same (λ k. task_meaning_of q [] (kind_by c q) (read k)) (λ k. task_meaning_of q [] (kind_by c q) (task k)) ts (λ k h. meaning_alike (read k) (task k) [] (partial (kind_by c q) q) (agrees k h))
+      ∙ sym (map_map (task_meaning_of q [] (kind_by c q)) task ts))
 
-  same_large : list_any (is_large_task q [] small (kind_by c q)) (map read ts) ≡ list_any (is_large_task q [] small (kind_by c q)) (map task ts)
-  same_large = any_same (is_large_task q [] small (kind_by c q)) read task ts (λ k h. large_alike (read k) (task k) [] (partial (kind_by c q) q) (agrees k h))
+  same_large : list_any (is_large_task q [] (kind_by c q)) (map read ts) ≡ list_any (is_large_task q [] (kind_by c q)) (map task ts)
+  same_large = any_same (is_large_task q [] (kind_by c q)) read task ts (λ k h. large_alike (read k) (task k) [] (partial (kind_by c q) q) (agrees k h))
 
   all_agree : AllByRecursion (λ t. table_rows (merged seen) t ≡ table_rows (whole c (held c tables rows gs)) t) tables
   all_agree = each_of (λ t. table_rows (merged seen) t ≡ table_rows (whole c (held c tables rows gs)) t) tables (λ t m.
@@ -208,40 +211,54 @@ module _ (c : Contents) (q : Query) (rows : ℕ → ℕ → List Row) (placed : 
   abbrev from_whole : List Row
   from_whole = from_rows (from_of q) 0 (whole c (held c tables rows gs)) []
 
-  parts_are : map (λ i. from_rows (from_of q) 0 (task i) []) ts ≡ map (part_of q [] small (kind_by c q)) (map task ts)
-  parts_are = sym (map_map (part_of q [] small (kind_by c q)) task ts)
+  parts_are : map (λ i. from_rows (from_of q) 0 (task i) []) ts ≡ map (part_of q [] (kind_by c q)) (map task ts)
+  parts_are = sym (map_map (part_of q [] (kind_by c q)) task ts)
 
-  cut : Reordered (kept_of q [] from_whole) (flat_map (kept_of q []) (map (part_of q [] small (kind_by c q)) (map task ts)))
+  cut : Reordered (kept_of q [] from_whole) (flat_map (kept_of q []) (map (part_of q [] (kind_by c q)) (map task ts)))
   cut = subst (λ ps. Reordered (kept_of q [] from_whole) (flat_map (kept_of q []) ps)) parts_are (served_cut (side_of c) (kind_by c q) q (whole c (held c tables rows gs)) task [] ts serve)
 
-  serves : Serves (kind_by c q) q [] (map (part_of q [] small (kind_by c q)) (map task ts))
+  serves : Serves (kind_by c q) q [] (map (part_of q [] (kind_by c q)) (map task ts))
   serves = subst (Serves (kind_by c q) q []) parts_are (served_parts (side_of c) (kind_by c q) q (whole c (held c tables rows gs)) task [] ts serve)
 
   each_safe : AllByRecursion (λ db. IsSafeQuery q db []) (map read ts)
   each_safe = all_of (λ db. IsSafeQuery q db []) read (λ k. safe_alone q (read k) simple (readable.safe (read k) (read_within c tables rows gs within k))) ts
 
-  together : IsSafeOver q [] (joined (map (part_of q [] small (kind_by c q)) (map read ts)))
-  together = subst (IsSafeOver q []) (sym (flat_map_of_map (λ (p : List Row). p) (part_of q [] small (kind_by c q)) (map read ts)))
-      (over_together (AreWithin c) q (map read ts) (readable.together simple (map read ts)) (all_of (λ db. AreWithin c db × (is_large_from (from_of q) db [] ≡ false)) read (λ k. (read_within c tables rows gs within k, small (read k))) ts))
+  together : has_large_task (kind_by c q) q [] (map read ts) ≡ false → IsSafeOver q [] (joined (map (part_of q [] (kind_by c q)) (map read ts)))
+  together none = subst (IsSafeOver q []) (sym (flat_map_of_map (λ (p : List Row). p) (part_of q [] (kind_by c q)) (map read ts)))
+      (over_together (AreWithin c) q (map read ts) (readable.together simple (map read ts))
+      (all_both (AreWithin c) (λ db. is_large_from (from_of q) db [] ≡ false) (λ db. AreWithin c db × (is_large_from (from_of q) db [] ≡ false)) (λ db a b. (a, b)) (map read ts)
+      (all_of (AreWithin c) read (λ k. read_within c tables rows gs within k) ts) (none_large q [] (kind_by c q) (map read ts) none).0))
+
+  -- a group of the FROM that is too large for a task
+  below : (db : Tables) → Has (map task ts) db → is_large_from (from_of q) db [] ≡ true → is_large q (whole c (held c tables rows gs)) [] ≡ true
+  below db m h =
+      let u : (k : ℕ) × Has ts k × (task k ≡ db) = mapped_has task ts db m in
+      let there : is_large_from (out-Query q).from (task u.0) [] ≡ true = ap (λ f. is_large_from f (task u.0) []) (from_is q) ∙ ap (λ d. is_large_from (from_of q) d []) u.2 ∙ h in
+      let all : is_large_from (from_of q) (whole c (held c tables rows gs)) [] ≡ true = ap (λ f. is_large_from f (whole c (held c tables rows gs)) []) (sym (from_is q))
+      ∙ large_below c q (held c tables rows gs) ts laid pushed (can c tables rows gs placed) (tasks_ascend c tables 0 gs ascending) reads_only u.0 u.1 there in
+      large_over q (whole c (held c tables rows gs)) [] ∙ ap (λ b. b || has_large_over q [] from_whole) all
 
   read_serves : CanServe (kind_by c q) q (map read ts) (merged seen)
   read_serves = record {
-    safe = tasks_safe q [] small (kind_by c q) (map read ts) each_safe;
-    merge = tasks_merge q [] small (kind_by c q) (map read ts) (λ e. absurd (never_nothing (shares_rows (first_column (plain_in c q)) q) e)) (some_of read ts count.0) (few read) together;
+    safe = tasks_safe q [] (kind_by c q) (map read ts) each_safe;
+    merge = λ none. tasks_merge q [] (kind_by c q) (map read ts) (λ e. absurd (never_nothing (shares_rows (first_column (plain_in c q)) q) e)) (some_of read ts count.0) (few read) (together none) none;
     answers = λ made gathers.
-        let over = tasks_gather q [] small (kind_by c q) (map task ts) from_whole cut made serves (subst (λ rs. GathersTo (kind_by c q) q [] rs made) same_rows gathers) in
+        let over = tasks_gather q [] (kind_by c q) (map task ts) from_whole cut made serves (subst (λ rs. GathersTo (kind_by c q) q [] rs made) same_rows gathers) in
         let whole_answer : AnswersWith q (whole c (held c tables rows gs)) [] made = answers_over q (whole c (held c tables rows gs)) [] made over in
         (tables_suffice q (merged seen) (whole c (held c tables rows gs)) all_agree).1 made
         (subst (λ rs. AnswersWith q (whole c (held c tables rows gs)) rs made) (sym (no_results_of q (whole c (held c tables rows gs)) simple)) whole_answer);
     large = λ h.
-        let big = tasks_large q [] small (kind_by c q) (map task ts) from_whole cut (some_of task ts count.0) (few task) (moved h) in
-        let whole_big : is_large q (whole c (held c tables rows gs)) [] ≡ true = large_over q (whole c (held c tables rows gs)) [] (small (whole c (held c tables rows gs))) ∙ big in
+        let big = tasks_large q [] (kind_by c q) (map task ts) from_whole cut (some_of task ts count.0) (few task) (moved h) in
+        let whole_big : is_large q (whole c (held c tables rows gs)) [] ≡ true = elim big [
+          | inl task_big ↦ below task_big.0 task_big.1 task_big.2
+          | inr own ↦ large_over q (whole c (held c tables rows gs)) [] ∙ (ap (λ b. is_large_from (from_of q) (whole c (held c tables rows gs)) [] || b) own ∙ or_yes (is_large_from (from_of q) (whole c (held c tables rows gs)) []))
+        ] in
         (tables_suffice q (merged seen) (whole c (held c tables rows gs)) all_agree).3
         (ap (is_large q (whole c (held c tables rows gs))) (no_results_of q (whole c (held c tables rows gs)) simple) ∙ whole_big);
   }
     where
       moved : (has_large_task (kind_by c q) q [] (map read ts) ≡ true) ⊎ (has_large_together (kind_by c q) q [] (task_rows (kind_by c q) q [] (map read ts)) ≡ true) →
-          (list_any (is_large_task q [] small (kind_by c q)) (map task ts) ≡ true) ⊎ (has_large_together (kind_by c q) q [] (map (task_meaning_of q [] small (kind_by c q)) (map task ts)) ≡ true)
+          (list_any (is_large_task q [] (kind_by c q)) (map task ts) ≡ true) ⊎ (has_large_together (kind_by c q) q [] (map (task_meaning_of q [] (kind_by c q)) (map task ts)) ≡ true)
       moved (inl e) = inl (sym same_large ∙ e)
       moved (inr e) = inr (sym (ap (has_large_together (kind_by c q) q []) same_rows) ∙ e)
 

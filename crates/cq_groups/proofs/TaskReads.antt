@@ -16,7 +16,7 @@ use Rattle.cq_planning.specs.Reaching.{IsAscendingFrom}
 use Rattle.cq_planning.specs.Routing.{is_distributed_place}
 use Rattle.cq_planning.specs.Touched.{among}
 use Rattle.cq_pushdown_laws.specs.Tables.{task_at, task_tables, HoldsOnly}
-use Rattle.cq_pushdown_laws.proofs.Spread.{task_table_at}
+use Rattle.cq_pushdown_laws.proofs.Spread.{has_among, task_table_at}
 use Rattle.cq_history.specs.Computable.{column_bits, AreWithin}
 use Rattle.cq_history.specs.Looks.{has_shard, has_shard_at}
 use Rattle.cq_history.proofs.Lists.{two_ways}
@@ -55,11 +55,6 @@ any_of p (u ∷ us) t m h = elim (eqb_tells t u) [
   | inl same ↦ (let own : p u ≡ true = ap p (sym same.1) ∙ h in rw own refl)
   | inr other ↦ (let more : among t us ≡ true = rw other.0 at m in elim (two_ways (p u)) [ inl y ↦ rw y refl | inr n ↦ rw n (any_of p us t more h) ])
 ]
-
-pub has_among : (gs : List ℕ) (g : ℕ) → Has gs g → among g gs ≡ true
-has_among [] g h = absurd h
-has_among (k ∷ gs) g (inl e) = let own : nat_eq g k ≡ true = eq-eqb g k (sym e) in rw own refl
-has_among (k ∷ gs) g (inr h) = elim (two_ways (nat_eq g k)) [ inl y ↦ rw y refl | inr n ↦ rw n (has_among gs g h) ]
 
 module _ (c : Contents) (tables : List ℕ) where
   abbrev there : ℕ → List ℕ

@@ -1,10 +1,10 @@
 -- A query's way to be computed serves for what its looks read.
-use Rattle.std.proofs.Common.{◌≡◌, ◌<◌, inl, inr, ℕ, true, List, [], ◌∷◌, ◌++◌, map, refl, sym, ◌∙◌, ap, subst, Option, slice_get}
+use Rattle.std.proofs.Common.{◌≡◌, ◌<◌, inl, inr, ℕ, true, List, [], ◌∷◌, ◌++◌, map, refl, sym, ◌∙◌, ap, subst, Option, None, Some, slice_get}
 use Rattle.std.specs.List.{AllByRecursion}
 use Rattle.cq_tree.specs.declared.plan.Combine.{Combine}
 use Rattle.cq_tree.specs.declared.query.Query.{Query}
 use Rattle.cq_tree.specs.declared.statement.Statement.TheVariants as statement
-use Rattle.cq_meaning.specs.Values.{Row, Tables}
+use Rattle.cq_meaning.specs.Values.{Row, Tables, table_rows}
 use Rattle.cq_meaning.specs.Widths.{AllWithin, Within}
 use Rattle.cq_tasks.specs.Execution.{reads_by}
 use Rattle.cq_whole.specs.Tables.{tables_of_statement}
@@ -12,6 +12,8 @@ use Rattle.cq_catalog.specs.Contents.{Contents}
 use Rattle.cq_planning.specs.Database.{IsRowOf}
 use Rattle.cq_planning.specs.Touched.{among, touched, touched_by_query}
 use Rattle.cq_pushdown_laws.specs.Pushed.{is_pushed}
+use Rattle.cq_repartition.specs.Repartitions.{repartition_by}
+use Rattle.cq_repartition.specs.declared.repartition.Repartition.{Repartition}
 use Rattle.cq_demands.specs.Demands.{has_all, rows_with}
 use Rattle.cq_demands.specs.JoinDemands.{Wants, wants_at, narrow}
 use Rattle.cq_demands.proofs.Narrowed.{narrow_append}
@@ -25,11 +27,15 @@ use Rattle.cq_history.specs.Refusals.{is_alone}
 use Rattle.cq_history.proofs.Lists.{two_ways, all_filtered}
 use Rattle.cq_history.proofs.Sums.{among_here, among_more}
 use Rattle.cq_groups.specs.Reads.{Look, captured_of, captured_by, AreShaped}
-use Rattle.cq_groups.specs.Looking.{looks_of, looks_by, tables_there, merged}
-use Rattle.cq_groups.specs.Tasks.{own_of, beside_of, count_tasks, are_several, kind_by, way_by, CanServe, WayServes}
+use Rattle.cq_groups.specs.Looking.{looks_of, looks_by, tables_there, joins_plainly, merged}
+use Rattle.cq_groups.specs.Tasks.{own_of, beside_of, count_tasks, are_several, kind_by, pushed_way, split_way, first_way, way_by, CanServe, SplitServes, WayServes}
+use Rattle.cq_groups.specs.declared.ways.Way.{Way}
+use Rattle.cq_groups.specs.declared.ways.Way.TheVariants.{Pushed}
 use Rattle.cq_groups.proofs.GatherLaws.{seen_of, rows_at, look_rows}
-use Rattle.cq_groups.proofs.LookLaws.{in_order_ascends, in_order_below, has_shapes, rows_placed, rows_within}
+use Rattle.cq_groups.proofs.JoinLaws.{narrowed_within}
+use Rattle.cq_groups.proofs.LookLaws.{in_order_ascends, in_order_below, has_shapes, merged_within, rows_placed, rows_within}
 use Rattle.cq_groups.proofs.ServeLaws.{tasks_serve}
+use Rattle.cq_groups.proofs.SplitServing.{repartition_serves}
 use Rattle.cq_groups.proofs.TaskReads.{all_seen}
 
 module _ {X : Type 0} (c : Contents) (groups : List (GroupState X)) {nodes : ℕ} (shaped : AreShaped c nodes groups) (legal : (g : ℕ) → IsLegal c g (journal_in (journals_of groups) g)) (wants : Wants) (q : Query) where
@@ -74,19 +80,37 @@ module _ {X : Type 0} (c : Contents) (groups : List (GroupState X)) {nodes : ℕ
       subst (λ (v : Tables). CanServe (kind_by c q) q (reads_by (beside_of c (looks_of c q) v) (own_of c (looks_of c q) v)) (merged v)) (sym seen_is)
       (tasks_serve c q rows placed within gs (in_order_ascends c (touched_by_query c q)) readable alone several pushed)
 
-  by_tests : IsReadable c q → WayServes (way_by c q (looks_of c q)) c q (looks_of c q) seen (merged seen)
-  by_tests readable = elim (two_ways (is_alone q)) [
-    | inr n ↦ rw n tt
+  -- the tasks of pushdown
+  pushed_serves : IsReadable c q → (kind : Combine) → pushed_way c q (looks_of c q) ≡ Some kind → WayServes (Pushed kind) c q (looks_of c q) seen (merged seen)
+  pushed_serves readable kind e = elim (two_ways (is_alone q)) [
+    | inr n ↦ (let bad : None ≡ Some kind = rw n at e in cc)
     | inl alone ↦ elim (two_ways (are_several (count_tasks c (looks_of c q)))) [
-      | inr n ↦ rw (alone, n) tt
+      | inr n ↦ (let bad : None ≡ Some kind = rw (alone, n) at e in cc)
       | inl several ↦ elim (two_ways (is_pushed c q)) [
-        | inr n ↦ rw (alone, several, n) tt
-        | inl pushed ↦ rw (alone, several, pushed) (serves readable alone several pushed)
+        | inr n ↦ (let bad : None ≡ Some kind = rw (alone, several, n) at e in cc)
+        | inl pushed ↦ (let same : Some (kind_by c q) ≡ Some kind = rw (alone, several, pushed) at e in let own : kind_by c q ≡ kind = cc in
+            subst (λ k. WayServes (Pushed k) c q (looks_of c q) seen (merged seen)) own (serves readable alone several pushed))
       ]
     ]
   ]
 
-  pub way_serves : IsReadable c q → (looks : List Look) → looks ≡ looks_of c q → (way : Option Combine) → way ≡ way_by c q looks → WayServes way c q looks (narrow wants (captured_by groups looks)) (merged (narrow wants (captured_by groups looks)))
+  -- those of a repartition
+  seen_within : (t : ℕ) → AllWithin (column_bits c t) (table_rows (merged seen) t)
+  seen_within t =
+      narrowed_within wants (captured_by groups (looks_of c q)) (column_bits c t) t (merged_within c groups shaped tables legal (touched_by_query c q) t)
+
+  split_serves : IsReadable c q → (r : Repartition) → split_way c q ≡ Some r → SplitServes r q (merged seen)
+  split_serves readable r e = elim (two_ways (joins_plainly c q)) [
+    | inr n ↦ (let bad : None ≡ Some r = rw n at e in cc)
+    | inl plainly ↦ (let taken : repartition_by c q ≡ Some r = rw plainly at e in repartition_serves c q (merged seen) seen_within readable plainly r taken)
+  ]
+
+  by_ways : IsReadable c q → (pushed : Option Combine) (split : Option Repartition) → pushed_way c q (looks_of c q) ≡ pushed → split_way c q ≡ split → WayServes (first_way pushed split) c q (looks_of c q) seen (merged seen)
+  by_ways readable (Some kind) split p e = pushed_serves readable kind p
+  by_ways readable None (Some r) p e = split_serves readable r e
+  by_ways readable None None p e = tt
+
+  pub way_serves : IsReadable c q → (looks : List Look) → looks ≡ looks_of c q → (way : Way) → way ≡ way_by c q looks → WayServes way c q looks (narrow wants (captured_by groups looks)) (merged (narrow wants (captured_by groups looks)))
   way_serves readable looks planned way is =
       subst (λ (ls : List Look). WayServes way c q ls (narrow wants (captured_by groups ls)) (merged (narrow wants (captured_by groups ls)))) (sym planned)
-      (subst (λ w. WayServes w c q (looks_of c q) seen (merged seen)) (sym (is ∙ ap (way_by c q) planned)) (by_tests readable))
+      (subst (λ w. WayServes w c q (looks_of c q) seen (merged seen)) (sym (is ∙ ap (way_by c q) planned)) (by_ways readable (pushed_way c q (looks_of c q)) (split_way c q) refl refl))

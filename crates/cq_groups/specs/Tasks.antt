@@ -1,5 +1,5 @@
 -- A query that is computed by a task for each group of distributed tables that was read.
-use Rattle.std.specs.Prelude.{◌≡◌, ◌⊎◌, ◌^◌, ⊤, ℕ, List, [], ◌∷◌, ◌++◌, filter, take, drop, length, Bool, true, false, not, ◌&&◌, if◌then◌else◌, nat_le, Option, Some, None, Result, Ok, Err}
+use Rattle.std.specs.Prelude.{◌≡◌, ◌<◌, ◌≤◌, ◌⊎◌, ◌^◌, ⊤, ℕ, List, [], ◌∷◌, ◌++◌, filter, take, drop, length, Bool, true, false, not, ◌&&◌, if◌then◌else◌, nat_le, Option, Some, None, Result, Ok, Err}
 use Rattle.std.specs.List.{list_any, AllByRecursion}
 use Rattle.cq_tree.specs.declared.plan.Combine.{Combine}
 use Rattle.cq_tree.specs.declared.query.QueryError.{QueryError}
@@ -16,6 +16,10 @@ use Rattle.cq_task_laws.specs.Counting.{CanMerge}
 use Rattle.cq_tasks.specs.Execution.{reads_by, task_rows, has_large_task}
 use Rattle.cq_catalog.specs.Contents.{Contents}
 use Rattle.cq_catalog.specs.Placement.{place_at}
+use Rattle.cq_catalog.specs.Ranges.{ends}
+use Rattle.cq_repart.specs.Splits.{beside_in as unsplit_in, parts_in}
+use Rattle.cq_repartition.specs.Repartitions.{repartition_by}
+use Rattle.cq_repartition.specs.declared.repartition.Repartition.{Repartition}
 use Rattle.cq_planning.specs.Joins.{plain_in}
 use Rattle.cq_planning.specs.Routing.{is_distributed_place}
 use Rattle.cq_outline.specs.Tasking.{first_column, shares_rows, combine_by}
@@ -26,7 +30,10 @@ use Rattle.cq_answer.specs.declared.fault.What.TheVariants as what
 use Rattle.cq_answer.specs.declared.fault.Fault.TheVariants as fault
 use Rattle.cq_history.specs.Refusals.{is_alone}
 use Rattle.cq_history.specs.Standing.{most_rows}
+use Rattle.cq_groups.specs.Looking.{joins_plainly}
 use Rattle.cq_groups.specs.Reads.{Look}
+use Rattle.cq_groups.specs.declared.ways.Way.{Way}
+use Rattle.cq_groups.specs.declared.ways.Way.TheVariants.{Whole, Pushed, Repartitioned}
 
 -- ---- what tasks read
 
@@ -73,9 +80,22 @@ kind_by c q = combine_by 2 (shares_rows (first_column (plain_in c q)) q)
 abbrev pub pushed_by : Contents → Query → Option Combine
 pushed_by c q = if is_pushed c q then Some (kind_by c q) else None
 
--- the same, where tasks compute it: it has neither CTEs nor IN subqueries, and its looks are at distributed tables in several groups
-abbrev pub way_by : Contents → Query → List Look → Option Combine
-way_by c q looks = if is_alone q && are_several (count_tasks c looks) then pushed_by c q else None
+-- the same, where its tasks compute it: it has neither CTEs nor IN subqueries, and its looks are at distributed tables in several groups
+abbrev pub pushed_way : Contents → Query → List Look → Option Combine
+pushed_way c q looks = if is_alone q && are_several (count_tasks c looks) then pushed_by c q else None
+
+-- how tasks compute it over buckets: it reads tables alone, and repartition takes it
+abbrev pub split_way : Contents → Query → Option Repartition
+split_way c q = if joins_plainly c q then repartition_by c q else None
+
+-- by the tasks of pushdown, or else by those of a repartition, or else over all rows
+abbrev pub first_way : Option Combine → Option Repartition → Way
+first_way (Some kind) split = Pushed kind
+first_way None (Some r) = Repartitioned r
+first_way None None = Whole
+
+abbrev pub way_by : Contents → Query → List Look → Way
+way_by c q looks = first_way (pushed_way c q looks) (split_way c q)
 
 -- tasks that read these tables can be computed and combined, and what they come to is what the query does over all tables
 pub record CanServe (kind : Combine) (q : Query) (reads : List Tables) (db : Tables) : Type 0 where
@@ -84,10 +104,15 @@ pub record CanServe (kind : Combine) (q : Query) (reads : List Tables) (db : Tab
   pub answers : (rows : List Row) → GathersTo kind q [] (task_rows kind q [] reads) rows → Answers q db rows
   pub large : (has_large_task kind q [] reads ≡ true) ⊎ (has_large_together kind q [] (task_rows kind q [] reads) ≡ true) → is_large q db (results_of q db) ≡ true
 
+-- so do those of a repartition, of which each reads its bucket of the tables that are split, and the others
+abbrev pub SplitServes : Repartition → Query → Tables → Type 0
+SplitServes r q db = (0 < r.count) × (r.count ≤ 128) × CanServe r.kind q (reads_by (unsplit_in r.keys db) (parts_in r.keys (ends r.count) db)) db
+
 -- so do those that a query has by this way
-abbrev pub WayServes : Option Combine → Contents → Query → List Look → Tables → Tables → Type 0
-WayServes None c q looks seen db = ⊤
-WayServes (Some kind) c q looks seen db = CanServe kind q (reads_by (beside_of c looks seen) (own_of c looks seen)) db
+abbrev pub WayServes : Way → Contents → Query → List Look → Tables → Tables → Type 0
+WayServes Whole c q looks seen db = ⊤
+WayServes (Pushed kind) c q looks seen db = CanServe kind q (reads_by (beside_of c looks seen) (own_of c looks seen)) db
+WayServes (Repartitioned r) c q looks seen db = SplitServes r q db
 
 -- ---- what a query comes to
 

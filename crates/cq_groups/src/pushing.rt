@@ -1,22 +1,24 @@
-ghost use Rattle.std.specs.Prelude.{◌≡◌, ◌&&◌, not, IfOk};
+ghost use Rattle.std.specs.Prelude.{◌≡◌, ◌&&◌, not, None, IfOk};
 ghost use Rattle.std.specs.List.{list_any};
 ghost use Rattle.cq_tree.specs.declared.query.Query.{out-Query};
 ghost use Rattle.cq_planning.specs.Classes.{first_of_class};
 ghost use Rattle.cq_planning.specs.Conjuncts.{conjuncts_of, equalities};
+ghost use Rattle.cq_planning.specs.Pushable.{relations as relations_by_rule};
 ghost use Rattle.cq_planning.specs.Relations.{distributions, is_plain as is_plain_by_rule, is_distributed as is_distributed_by_rule, is_left_in_block};
 ghost use Rattle.cq_shape.specs.Labels.{label};
 ghost use Rattle.cq_outline.specs.Tasking.{first_column as first_column_by_rule};
-ghost use Rattle.cq_pushdown_laws.specs.Pushed.{is_table as is_table_by_rule, joins_tables as joins_tables_by_rule, strays as strays_by_rule, are_pushed as are_pushed_by_rule};
-ghost use Rattle.cq_groups.specs.Tasks.{are_several as are_several_by_rule, count_tasks as count_tasks_by_rule, pushed_by, way_by};
+ghost use Rattle.cq_pushdown_laws.specs.Pushed.{is_single as is_single_by_rule, joins_pushed as joins_pushed_by_rule, is_pushed as is_pushed_by_rule, strays as strays_by_rule, are_pushed as are_pushed_by_rule};
+ghost use Rattle.cq_groups.specs.Tasks.{are_several as are_several_by_rule, count_tasks as count_tasks_by_rule, pushed_by, pushed_way as pushed_way_by_rule};
 
 use crate::alone::is_alone;
 use crate::captures::is_of_task;
 use crate::reads::Look;
+use crate::references::is_over_references;
 use cq_catalog::Catalog;
 use cq_explain::{combine_by, shares_rows};
 use cq_relations::{
-    Block, Distribution, Relation, are_one_component, colocated, has_loose, plain, put_relations,
-    stays,
+    Block, Distribution, Relation, are_one_component, colocated, has_loose, plain, pushable,
+    put_relations, stays,
 };
 use cq_shape::labels_in;
 use cq_tree::{Combine, FromTree, Query};
@@ -38,25 +40,6 @@ fn count_tasks(catalog: &Catalog, looks: &[Look]) -> u64
         .iter()
         .filter(|look| is_of_task(catalog, look))
         .count() as u64
-}
-
-fn is_table(from: &FromTree) -> bool
-    ensures { result ≡ is_table_by_rule from.now }
-{
-    matches!(from, FromTree::Table(..))
-}
-
-/// Whether joins join tables alone, with one table on the right side of each LEFT JOIN.
-fn joins_tables(from: &FromTree) -> bool
-    ensures { result ≡ joins_tables_by_rule from.now }
-{
-    match from {
-        FromTree::Table(..) => true,
-        FromTree::Sub(_) | FromTree::Result(..) => false,
-        FromTree::Cross(a, b) => joins_tables(a.get()) && joins_tables(b.get()),
-        FromTree::Inner(a, b, _) => joins_tables(a.get()) && joins_tables(b.get()),
-        FromTree::Left(a, b, _) => joins_tables(a.get()) && is_table(b.get()),
-    }
 }
 
 /// Whether a distributed relation is planned by itself.
@@ -132,33 +115,94 @@ fn first_column(plain_ones: &[Distribution]) -> u64
     }
 }
 
-/// How the rows of several tasks become those of a query over tables alone, where pushdown makes tasks of it.
-#[tactic(auto, using(crate::proofs::PushLaws::not_joined, crate::proofs::PushLaws::not_taken, crate::proofs::PushLaws::taken))]
+/// The relations of a query's FROM.
+fn relations_of(
+    alloc: Global,
+    catalog: &Catalog,
+    query: &Query,
+) -> Result<Items<Relation>, NoMemory>
+    ensures { IfOk result (λ relations. relations ≡ relations_by_rule catalog.now (out-Query query.now).from 0 None) }
+{
+    let mut relations = Items::new(alloc);
+    put_relations(alloc, catalog, &mut relations, &query.from, 0, None)?;
+    Ok(relations)
+}
+
+/// Whether this is a table or a subquery.
+fn is_single(from: &FromTree) -> bool
+    ensures { result ≡ is_single_by_rule from.now }
+{
+    matches!(from, FromTree::Table(..) | FromTree::Sub(_))
+}
+
+/// Whether joins join tables and subqueries, with one of these on the right side of each LEFT JOIN. A subquery can be pushed down where it stands,
+/// and pushdown makes tasks of it, too, or it is over reference tables alone.
+#[cycle(pushing)]
+fn joins_pushed(alloc: Global, catalog: &Catalog, from: &FromTree) -> Result<bool, NoMemory>
+    ensures { IfOk result (λ b. b ≡ joins_pushed_by_rule catalog.now from.now) }
+{
+    match from {
+        FromTree::Table(..) => Ok(true),
+        FromTree::Sub(query) => {
+            if pushable(alloc, catalog, query.get())?.is_some() {
+                is_pushed(alloc, catalog, query.get())
+            } else {
+                Ok(is_over_references(catalog, query.get()))
+            }
+        }
+        FromTree::Result(..) => Ok(false),
+        FromTree::Cross(a, b) => {
+            Ok(joins_pushed(alloc, catalog, a.get())? && joins_pushed(alloc, catalog, b.get())?)
+        }
+        FromTree::Inner(a, b, _) => {
+            Ok(joins_pushed(alloc, catalog, a.get())? && joins_pushed(alloc, catalog, b.get())?)
+        }
+        FromTree::Left(a, b, _) => {
+            if is_single(b.get()) {
+                Ok(joins_pushed(alloc, catalog, a.get())? && joins_pushed(alloc, catalog, b.get())?)
+            } else {
+                Ok(false)
+            }
+        }
+    }
+}
+
+/// Whether pushdown makes tasks of a query.
+#[cycle(pushing)]
+fn is_pushed(alloc: Global, catalog: &Catalog, query: &Query) -> Result<bool, NoMemory>
+    ensures { IfOk result (λ b. b ≡ is_pushed_by_rule catalog.now query.now) }
+{
+    if !joins_pushed(alloc, catalog, &query.from)? {
+        return Ok(false);
+    }
+    let relations = relations_of(alloc, catalog, query)?;
+    let plain_ones = plain(alloc, relations.as_slice())?;
+    takes(alloc, query, relations.as_slice(), plain_ones.as_slice())
+}
+
+/// How the rows of several tasks become those of a query, where pushdown makes tasks of it.
+#[tactic(auto, using(crate::proofs::PushLaws::not_pushed, crate::proofs::PushLaws::kind_found))]
 fn pushed_kind(alloc: Global, catalog: &Catalog, query: &Query) -> Result<Option<Combine>, NoMemory>
     ensures { IfOk result (λ kind. kind ≡ pushed_by catalog.now query.now) }
 {
-    if !joins_tables(&query.from) {
+    if !is_pushed(alloc, catalog, query)? {
         return Ok(None);
     }
-    let mut relations = Items::new(alloc);
-    put_relations(alloc, catalog, &mut relations, &query.from, 0, None)?;
+    let relations = relations_of(alloc, catalog, query)?;
     let plain_ones = plain(alloc, relations.as_slice())?;
-    if !takes(alloc, query, relations.as_slice(), plain_ones.as_slice())? {
-        return Ok(None);
-    }
     let shares = shares_rows(alloc, query, first_column(plain_ones.as_slice()))?;
     Ok(Some(combine_by(2, shares)))
 }
 
 /// How tasks' rows become those of a query, where tasks compute it by its looks: it has neither CTEs nor IN subqueries, distributed tables are
 /// read in several groups, and pushdown makes tasks of it.
-pub fn way_of(
+pub fn pushed_way(
     alloc: Global,
     catalog: &Catalog,
     query: &Query,
     looks: &[Look],
 ) -> Result<Option<Combine>, NoMemory>
-    ensures { IfOk result (λ way. way ≡ way_by catalog.now query.now looks.now) }
+    ensures { IfOk result (λ way. way ≡ pushed_way_by_rule catalog.now query.now looks.now) }
 {
     if !is_alone(query) {
         return Ok(None);

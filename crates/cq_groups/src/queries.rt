@@ -13,24 +13,25 @@ ghost use Rattle.cq_history.specs.Refusals.{rules, refusal_in};
 ghost use Rattle.cq_history.specs.Log.{IsAnswered};
 ghost use Rattle.cq_demands.specs.JoinDemands.{narrow};
 ghost use Rattle.cq_group.specs.Resting.{journals_of, AreResting, GoOn, HasFailed};
-ghost use Rattle.cq_groups.specs.Reads.{captured_by, groups_in, CanLook, AreShaped, IsComputable, Computes, IsComputed, fault_by};
+ghost use Rattle.cq_groups.specs.Reads.{captured_by, groups_in, CanLook, AreShaped, IsComputable, Computes, IsComputed};
 ghost use Rattle.cq_groups.specs.Looking.{merged, look_at, wanted_of, looks_of, environment_at};
 ghost use Rattle.cq_groups.specs.Tasks.{answer_by, WayServes};
 
+use crate::error::fault_of;
 use crate::looks::looks_at;
 use crate::near::near_node;
-use crate::pushing::way_of;
 use crate::reads::{Look, Looks, pick_group, read_groups};
 use crate::shard::{Shard, shard_alone};
 use crate::tasks::run_seen;
 use crate::wanting::wants_of;
+use crate::ways::{Way, way_of};
 use cq_answer::{Answer, Fault, What};
 use cq_catalog::Catalog;
 use cq_demands::{Wants, wanted_by};
-use cq_group::{GroupError, GroupState, Tables};
+use cq_group::{GroupState, Tables};
 use cq_plan::touched_by_query;
 use cq_store::Store;
-use cq_tree::{Combine, Query, QueryError, Who};
+use cq_tree::{Query, QueryError, Who};
 use cq_value::{Names, NoMemory, Rows};
 use cq_whole::{run_statement, tables_of};
 use std::alloc::Global;
@@ -69,12 +70,12 @@ fn compute(alloc: Global, query: &Query, names: Names, tables: &Tables) -> Answe
     answer_with(names, run_statement(alloc, query, tables))
 }
 
-/// The answer of a query over what its looks read, by tasks whose rows are combined in this way or over all of it.
+/// The answer of a query over what its looks read, computed in this way.
 fn compute_seen(
     alloc: Global,
     catalog: &Catalog,
     query: &Query,
-    way: Option<Combine>,
+    way: Way,
     names: Names,
     looks: &[Look],
     seen: Tables,
@@ -86,26 +87,6 @@ fn compute_seen(
     answer_with(names, run_seen(alloc, catalog, query, way, looks, seen))
 }
 
-/// The fault of an error in a read.
-fn fault_of(error: GroupError) -> Fault
-    ensures { result ≡ fault_by error }
-{
-    match error {
-        GroupError::Worker {
-            node,
-            shard,
-            before,
-            after,
-        } => Fault::Worker {
-            node,
-            shard,
-            before,
-            after,
-        },
-        GroupError::Memory => Fault::Memory,
-    }
-}
-
 /// The answer of a query by its looks and what it wants of its tables, each of which is a Read in its group's journal then.
 fn look_and_compute<S: Store>(
     alloc: Global,
@@ -114,7 +95,7 @@ fn look_and_compute<S: Store>(
     near: u32,
     catalog: &Catalog,
     query: &Query,
-    way: Option<Combine>,
+    way: Way,
     looks: &[Look],
     wants: &Wants,
 ) -> Answer

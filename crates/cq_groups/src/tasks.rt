@@ -1,13 +1,16 @@
 ghost use Rattle.cq_tasks.specs.Execution.{reads_by};
 ghost use Rattle.cq_groups.specs.Reads.{IsComputable};
 ghost use Rattle.cq_groups.specs.Looking.{merged};
-ghost use Rattle.cq_groups.specs.Tasks.{beside_of, own_of, CanServe, WayServes, IsRun};
+ghost use Rattle.cq_groups.specs.Tasks.{beside_of, own_of, CanServe, SplitServes, WayServes, IsRun};
 
 use crate::captures::{Captures, captures_of};
 use crate::gathering::gather;
 use crate::reads::Look;
+use crate::ways::Way;
 use cq_catalog::Catalog;
 use cq_group::Tables;
+use cq_repart::{Split, split_tables};
+use cq_repartition::Repartition;
 use cq_tasks::run_by_tasks;
 use cq_tree::{Combine, Query, QueryError};
 use cq_value::{Results, Rows};
@@ -34,6 +37,28 @@ fn run_parts(
     run_by_tasks(alloc, query, kind, beside, parts, &results)
 }
 
+/// The rows of a query, of which the task of each bucket computes its part.
+fn run_buckets(
+    alloc: Global,
+    query: &Query,
+    repartition: Repartition,
+    seen: Tables,
+) -> Result<Rows, QueryError>
+    requires { SplitServes repartition query.now (merged seen) }
+    ensures { IsRun query.now (merged seen) result }
+{
+    let Repartition { keys, count, kind } = repartition;
+    let Ok(tables) = gather(alloc, seen) else {
+        return Err(QueryError::Memory);
+    };
+    let Ok(split) = split_tables(alloc, tables, keys.as_slice(), count) else {
+        return Err(QueryError::Memory);
+    };
+    let Split { beside, parts } = split;
+    let results = Results::new(alloc);
+    run_by_tasks(alloc, query, kind, beside, parts, &results)
+}
+
 /// The rows of a query over all that was read, each table put together.
 fn run_whole(alloc: Global, query: &Query, seen: Tables) -> Result<Rows, QueryError>
     requires { IsComputable query.now (merged seen) }
@@ -45,12 +70,12 @@ fn run_whole(alloc: Global, query: &Query, seen: Tables) -> Result<Rows, QueryEr
     run_statement(alloc, query, &tables)
 }
 
-/// The rows of a query over what its looks read: by tasks whose rows are combined in this way, or over all of it.
+/// The rows of a query over what its looks read, computed in this way.
 pub fn run_seen(
     alloc: Global,
     catalog: &Catalog,
     query: &Query,
-    way: Option<Combine>,
+    way: Way,
     looks: &[Look],
     seen: Tables,
 ) -> Result<Rows, QueryError>
@@ -59,7 +84,8 @@ pub fn run_seen(
     ensures { IsRun query.now (merged seen) result }
 {
     match way {
-        Some(kind) => run_parts(alloc, catalog, query, kind, looks, seen),
-        None => run_whole(alloc, query, seen),
+        Way::Pushed(kind) => run_parts(alloc, catalog, query, kind, looks, seen),
+        Way::Repartitioned(repartition) => run_buckets(alloc, query, repartition, seen),
+        Way::Whole => run_whole(alloc, query, seen),
     }
 }

@@ -1,5 +1,5 @@
 -- What a write and a query do, by what each saw in the groups that it touches.
-use Rattle.std.proofs.Common.{suc, zero, ◌≡◌, ◌+◌, ◌≤◌, inl, inr, ℕ, Bool, true, List, [], ◌∷◌, ◌++◌, length, map, filter, refl, sym, ◌∙◌, ap, subst, arith, Some, None, Option}
+use Rattle.std.proofs.Common.{◌≡◌, ◌+◌, ◌≤◌, inl, inr, ℕ, Bool, true, List, [], ◌∷◌, ◌++◌, length, map, filter, refl, sym, ◌∙◌, ap, subst, arith, Some, None, Option}
 use Rattle.std.specs.Prelude.{nat_eq, ⊤}
 use Rattle.std.specs.List.{AllByRecursion, sum_by}
 use Rattle.std.proofs.lemmas.Bool.{eqb-true}
@@ -33,9 +33,9 @@ use Rattle.cq_answer.specs.declared.fault.What.TheVariants as what
 use Rattle.cq_answer.specs.declared.fault.Fault.{Fault}
 use Rattle.cq_answer.specs.declared.fault.Fault.TheVariants as fault
 use Rattle.cq_history.specs.Run.{Run, Rules, Environment}
-use Rattle.cq_planning.specs.Database.{IsLarge, shape_in, Held, joined, whole_at, whole_from, whole, IsOfGroup, narrowed, Narrows}
 use Rattle.cq_planning.specs.Parts.{rows_in, part}
 use Rattle.cq_planning.specs.Touched.{among}
+use Rattle.cq_planning.specs.Database.{IsLarge, shape_in, Held, whole_at, whole_from, whole, IsOfGroup, narrowed, Narrows}
 use Rattle.cq_journal.specs.Records.{Journal}
 use Rattle.cq_history.specs.Journals.{journal_in, held_in, in_each, Step, kinds_in, with_entries}
 use Rattle.cq_history.specs.Legality.{IsLegalKind, CanFollow, IsLegalStep}
@@ -45,7 +45,8 @@ use Rattle.cq_history.specs.Laws.{IsFitting, IsWriting, reply_over as reply_over
 use Rattle.cq_history.proofs.Lists.{two_ways, all_weaker}
 use Rattle.cq_history.proofs.Sums.{among_here, among_only}
 use Rattle.cq_history.proofs.Replies.{reply_by_rows, reply_counted}
-use Rattle.cq_history.proofs.Writes.{parts_are_made, part_is_refused}
+use Rattle.cq_history.proofs.Writes.{not_local, parts_are_made, part_is_refused}
+use Rattle.cq_history.proofs.Joined.{at_alike}
 
 -- ---- the part of a write is legal in its group
 
@@ -96,7 +97,7 @@ part_seen c op d seen groups kind held g made see m =
     ∙ reply_counted (part c op g) (rows_of t) (shape_in c (table_of op))
     ∙ sym (reply_by_rows (part c op g) t (shape_in c (table_of op)))
 
-table_of_part : (c : Contents) (op : ShardOp) (g : ℕ) → table_of (part c op g) ≡ table_of op
+pub table_of_part : (c : Contents) (op : ShardOp) (g : ℕ) → table_of (part c op g) ≡ table_of op
 table_of_part c (Insert table rows) g = refl
 table_of_part c (Update table f sets) g = refl
 table_of_part c (Remove table f) g = refl
@@ -114,6 +115,7 @@ made_does rules run e who d seen op counts w parts made =
         sum_by counts touched,
         inl refl,
         record {
+          shared = not_local c touched op (place_at c (table_of op)) w.touched.reaches;
           counts = counts;
           sum = refl;
           entries = enters_each d seen touched kind made;
@@ -178,19 +180,10 @@ lacks_does rules run e who d seen op group w m saw lacks ready none = record {
 
 -- ---- queries
 
-joined_same : (a b : Held) (table g n : ℕ) → ((h : ℕ) → a h table ≡ b h table) → joined a table g n ≡ joined b table g n
-joined_same a b table g zero e = refl
-joined_same a b table g (suc n) e = ap (λ v. v ++ joined a table (g + 1) n) (e g) ∙ ap (λ v. b g table ++ v) (joined_same a b table (g + 1) n e)
-
-at_same : (c : Contents) (a b : Held) (table : ℕ) (p : Place) → ((h : ℕ) → a h table ≡ b h table) → whole_at c a table p ≡ whole_at c b table p
-at_same c a b table Local e = refl
-at_same c a b table (Distributed at colocation first_shard) e = joined_same a b table _ _ e
-at_same c a b table (Reference group shard) e = e group
-
 from_same : (c : Contents) (a b : Held) (k : ℕ) (ts : List TableInfo) → ((h t : ℕ) → a h t ≡ b h t) → whole_from c a k ts ≡ whole_from c b k ts
 from_same c a b k [] e = refl
 from_same c a b k (t ∷ ts) e =
-    ap (λ (v : List Row). (k, v) ∷ whole_from c a (k + 1) ts) (at_same c a b k t.place (λ h. e h k)) ∙ ap (λ (v : Tables). (k, whole_at c b k t.place) ∷ v) (from_same c a b (k + 1) ts e)
+    ap (λ (v : List Row). (k, v) ∷ whole_from c a (k + 1) ts) (at_alike c a b k t.place (λ h. e h k)) ∙ ap (λ (v : Tables). (k, whole_at c b k t.place) ∷ v) (from_same c a b (k + 1) ts e)
 
 -- what may be seen of the touched groups is what was seen
 same_narrowed : (c : Contents) (touched : List ℕ) (d : Deed) (seen : ℕ → Journal) (held : Held) → MakesEach d seen touched (λ g. entry.Read) → MaySee c d held → seen_whole c touched seen ≡ whole c (narrowed touched held)

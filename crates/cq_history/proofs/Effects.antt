@@ -21,8 +21,7 @@ use Rattle.cq_catalog.specs.Contents.{Contents, colocation_of, first_group_in, c
 use Rattle.cq_catalog.specs.Placement.{place_at, HasShard, group_of}
 use Rattle.cq_catalog.specs.declared.info.Place.{Place}
 use Rattle.cq_catalog.specs.declared.info.Place.TheVariants.{Local, Distributed, Reference}
-use Rattle.cq_catalog.specs.declared.info.TableInfo.{TableInfo}
-use Rattle.cq_planning.specs.Database.{shape_in, Held, joined, whole_at, whole_from, whole, IsOfGroup}
+use Rattle.cq_planning.specs.Database.{shape_in, Held, joined, whole_at, whole, IsOfGroup}
 use Rattle.cq_planning.specs.Parts.{rows_in, part}
 use Rattle.cq_planning.specs.Reaching.{Reaches, IsTouchedBy}
 use Rattle.cq_planning.specs.Touched.{among}
@@ -30,9 +29,10 @@ use Rattle.cq_history.specs.Standing.{counted}
 use Rattle.cq_history.specs.Laws.{held_after, PartsHaveEffect}
 use Rattle.cq_history.proofs.Lists.{two_ways, filter_none, all_weaker}
 use Rattle.cq_history.proofs.Replies.{reply_counted, rows-numbered, kept_updates}
-use Rattle.cq_history.proofs.Joined.{table_in_whole}
-use Rattle.cq_history.proofs.Orders.{same_rows, joined_both, joined_equal, joined_rows}
-use Rattle.cq_history.proofs.Writes.{made_of, updated_of, not_local, there_is, can_at, reply_whole, parts_are_made}
+use Rattle.cq_history.proofs.Joined.{table_in_whole, joined_equal, whole_alike}
+use Rattle.cq_history.proofs.Orders.{same_rows, joined_both, joined_rows}
+use Rattle.cq_history.proofs.Writes.{made_of, updated_of, not_local, can_at, reply_whole, parts_are_made}
+use Rattle.cq_history.proofs.Tables.{there_is}
 
 nil_right : (xs : List Row) → xs ++ [] ≡ xs
 nil_right [] = refl
@@ -74,6 +74,10 @@ effect_by_rows (Remove table f) t shape = left_rows f t.pairs
 
 pub effect_counted : (op : ShardOp) (rows : List Row) (shape : Shape) → rows_of (effect op (counted rows) shape) ≡ effect_over op rows shape
 effect_counted op rows shape = effect_by_rows op (counted rows) shape ∙ ap (λ (v : List Row). effect_over op v shape) (rows-numbered 0 rows)
+
+-- the rows that a write leaves depend on the rows of its table alone
+pub effect_of_counted : (op : ShardOp) (t : Table) (shape : Shape) → rows_of (effect op t shape) ≡ rows_of (effect op (counted (rows_of t)) shape)
+effect_of_counted op t shape = effect_by_rows op t shape ∙ sym (effect_counted op (rows_of t) shape)
 
 -- ---- rows that a write leaves
 
@@ -196,23 +200,6 @@ module _ (c : Contents) (touched : List ℕ) (held later : Held) where
   remove_leaves table f (Distributed at colocation first_shard) can reaches mine other =
       left_whole c touched held at colocation first_shard table f reaches (λ g l m. can g (l, m)) later mine other
 
--- ---- the other tables
-
-joined_alike : (a b : Held) (table g n : ℕ) → ((h : ℕ) → a h table ≡ b h table) → joined a table g n ≡ joined b table g n
-joined_alike a b table g n e = joined_equal a b table g n (λ h l m. e h)
-
-at_alike : (c : Contents) (a b : Held) (table : ℕ) (p : Place) → ((h : ℕ) → a h table ≡ b h table) → whole_at c a table p ≡ whole_at c b table p
-at_alike c a b table Local e = refl
-at_alike c a b table (Distributed at colocation first_shard) e = joined_alike a b table _ _ e
-at_alike c a b table (Reference group shard) e = e group
-
-looked_alike : (c : Contents) (a b : Held) (k : ℕ) (ts : List TableInfo) (table : ℕ) → ((h : ℕ) → a h table ≡ b h table) → table_rows (whole_from c a k ts) table ≡ table_rows (whole_from c b k ts) table
-looked_alike c a b k [] table e = refl
-looked_alike c a b k (t ∷ ts) table e = elim (eqb_tells k table) [
-  | inl y ↦ rw y.0 (at_alike c a b k t.place (λ h. subst (λ n. a h n ≡ b h n) (sym y.1) (e h)))
-  | inr z ↦ rw z.0 (looked_alike c a b (k + 1) ts table e)
-]
-
 -- ---- the law
 
 whole_effect : (c : Contents) (touched : List ℕ) (op : ShardOp) (held : Held) → IsTouchedBy c touched op →
@@ -234,7 +221,7 @@ parts_have_effect c touched (Insert table rows) held counts keyed t can parts =
           (λ g m. after_in c touched op held g m
           ∙ ap (λ b. cond b (held g table) (held g table ++ rows_in c table (place_at c table) g rows)) (made_of _ _ _ (sym (reply_counted (part c op g) (held g table) (shape_in c table)) ∙ parts g m)).0)
           (after_out c touched op held)),
-      λ other n. looked_alike c (held_after c touched op held) held 0 c.tables other (λ h. after_other c touched op held h other n),
+      λ other n. whole_alike c (held_after c touched op held) held other (λ h. after_other c touched op held h other n),
     )
 parts_have_effect c touched (Update table f sets) held counts keyed t can parts =
     let op = Update table f sets in
@@ -243,10 +230,10 @@ parts_have_effect c touched (Update table f sets) held counts keyed t can parts 
           (λ g m. after_in c touched op held g m
           ∙ ap (λ b. cond b (map (renew f sets) (held g table)) (held g table)) (updated_of _ _ _ (sym (reply_counted op (held g table) (shape_in c table)) ∙ parts g m)).0)
           (after_out c touched op held))),
-      λ other n. looked_alike c (held_after c touched op held) held 0 c.tables other (λ h. after_other c touched op held h other n),
+      λ other n. whole_alike c (held_after c touched op held) held other (λ h. after_other c touched op held h other n),
     )
 parts_have_effect c touched (Remove table f) held counts keyed t can parts =
     let op = Remove table f in (
       whole_effect c touched op held t (same_rows _ _ (remove_leaves c touched held (held_after c touched op held) table f (place_at c table) (can_at c held table can) t.reaches (after_in c touched op held) (after_out c touched op held))),
-      λ other n. looked_alike c (held_after c touched op held) held 0 c.tables other (λ h. after_other c touched op held h other n),
+      λ other n. whole_alike c (held_after c touched op held) held other (λ h. after_other c touched op held h other n),
     )

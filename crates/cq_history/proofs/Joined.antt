@@ -8,6 +8,8 @@ use Rattle.std.proofs.lemmas.List.Sums.{sum_by-cons}
 use Rattle.cq_meaning.specs.Values.{Row, table_rows}
 use Rattle.cq_catalog.specs.Contents.{Contents}
 use Rattle.cq_catalog.specs.Placement.{place_at}
+use Rattle.cq_catalog.specs.declared.info.Place.{Place}
+use Rattle.cq_catalog.specs.declared.info.Place.TheVariants.{Local, Distributed, Reference}
 use Rattle.cq_catalog.specs.declared.info.TableInfo.{TableInfo}
 use Rattle.cq_planning.specs.Database.{Held, joined, whole_at, whole_from, whole}
 use Rattle.cq_planning.specs.Reaching.{IsAscendingFrom}
@@ -35,6 +37,28 @@ table_in_whole c held table t s =
     let here : 0 + table ≡ table = omega arith in
     subst (λ n. table_rows (whole c held) n ≡ whole_at c held n t.place) here (looked_up c held 0 table c.tables t s)
     ∙ rw s refl
+
+-- ---- groups that hold the same
+
+pub joined_equal : (a b : Held) (table g n : ℕ) → ((h : ℕ) → g ≤ h → h < g + n → a h table ≡ b h table) → joined a table g n ≡ joined b table g n
+joined_equal a b table g zero e = refl
+joined_equal a b table g (suc n) e =
+    ap (λ v. v ++ joined a table (g + 1) n) (e g (omega arith) (omega arith)) ∙ ap (λ v. b g table ++ v) (joined_equal a b table (g + 1) n (λ h l m. e h (omega (arith, l)) (omega (arith, m))))
+
+pub at_alike : (c : Contents) (a b : Held) (table : ℕ) (p : Place) → ((g : ℕ) → a g table ≡ b g table) → whole_at c a table p ≡ whole_at c b table p
+at_alike c a b table Local e = refl
+at_alike c a b table (Distributed at colocation first_shard) e = joined_equal a b table _ _ (λ g l m. e g)
+at_alike c a b table (Reference group shard) e = e group
+
+looked_alike : (c : Contents) (a b : Held) (k : ℕ) (ts : List TableInfo) (table : ℕ) → ((g : ℕ) → a g table ≡ b g table) → table_rows (whole_from c a k ts) table ≡ table_rows (whole_from c b k ts) table
+looked_alike c a b k [] table e = refl
+looked_alike c a b k (t ∷ ts) table e = elim (eqb_tells k table) [
+  | inl y ↦ rw y.0 (at_alike c a b k t.place (λ g. subst (λ n. a g n ≡ b g n) (sym y.1) (e g)))
+  | inr z ↦ rw z.0 (looked_alike c a b (k + 1) ts table e)
+]
+
+pub whole_alike : (c : Contents) (a b : Held) (table : ℕ) → ((g : ℕ) → a g table ≡ b g table) → table_rows (whole c a) table ≡ table_rows (whole c b) table
+whole_alike c a b table e = looked_alike c a b 0 c.tables table e
 
 -- ---- what passes a test
 

@@ -38,6 +38,7 @@ use Rattle.cq_history.proofs.Answering.{sees}
 use Rattle.cq_history.proofs.Explaining.{among_only, among_numbers, sees_all}
 use Rattle.cq_history.proofs.Lists.{two_ways}
 use Rattle.cq_history.proofs.Script.{deed_is_answered, idle_is_answered, grows_none, grows_as}
+use Rattle.cq_history.proofs.Tables.{first_none}
 
 -- ---- a group's station as entries are added
 
@@ -135,10 +136,6 @@ failed_keeps_catalog e (Some (statement.Rebalance by_size)) f = retiring_catalog
 failed_keeps_catalog e (Some s) f = refl
 
 -- ---- what nothing refused
-
-first_some : {X : Type 0} (o : Option X) (rest : List (Option X)) → first_of (o ∷ rest) ≡ None → (o ≡ None) × (first_of rest ≡ None)
-first_some None rest h = (refl, h)
-first_some (Some x) rest h = cc
 
 -- the group is on the first node, and not on the second
 placed : (node from to : ℕ) → place_fault node from to ≡ None → (node ≡ from) × (to ≢ node)
@@ -246,9 +243,9 @@ module _ (rules : Rules) (run : Run) (e : Environment) (who : Who) (old : List J
   answered : (new : List Journal) (kinds : List EntryKind) (a : Answer) → move_fault run e.catalog e.retired nodes None group from to ≡ None → MovesAlone e.catalog group from to j kinds a → Grows who (in_one group kinds) old new → length new ≡ length old →
       IsAnswered rules run e (after e (Some s) a) who old new (Some s) a
   answered new kinds a none m grows same =
-      let room = first_some (node_fault run to) (short_at run e.catalog e.retired nodes (length (tables_in e.catalog group)) (to - 1) ∷ mover_fault None ∷ place_fault (nodes group) from to ∷ []) none in
-      let mover = first_some (short_at run e.catalog e.retired nodes (length (tables_in e.catalog group)) (to - 1)) (mover_fault None ∷ place_fault (nodes group) from to ∷ []) room.1 in
-      let place = first_some (place_fault (nodes group) from to) [] mover.1 in
+      let room = first_none (node_fault run to) (short_at run e.catalog e.retired nodes (length (tables_in e.catalog group)) (to - 1) ∷ mover_fault None ∷ place_fault (nodes group) from to ∷ []) none in
+      let mover = first_none (short_at run e.catalog e.retired nodes (length (tables_in e.catalog group)) (to - 1)) (mover_fault None ∷ place_fault (nodes group) from to ∷ []) room.1 in
+      let place = first_none (place_fault (nodes group) from to) [] mover.1 in
       let there : node_of j ≡ from = sym (found.on group found.there) ∙ (placed (nodes group) from to place.0).0 in
       deed_is_answered rules run e (after e (Some s) a) who old new (numbers 0 e.catalog.groups) (in_one group kinds) (Some s) a
       (record {

@@ -1,5 +1,5 @@
 -- For a query of one table the groups that its WHERE can't reach don't matter.
-use Rattle.std.proofs.Common.{suc, zero, ◌≡◌, ◌+◌, ◌<◌, ◌≤◌, inl, inr, ℕ, Bool, true, false, List, [], ◌++◌, filter, refl, sym, ◌∙◌, ap, subst, arith, Some, None, Option, slice_get}
+use Rattle.std.proofs.Common.{suc, zero, ◌≡◌, ◌+◌, ◌<◌, ◌≤◌, inl, inr, ℕ, Bool, true, false, List, [], ◌++◌, filter, refl, sym, ◌∙◌, ap, subst, arith, slice_get}
 use Rattle.std.specs.Prelude.{replicate}
 use Rattle.std.specs.List.{AllByRecursion}
 use Rattle.std.specs.List.Sorted.{IsPermutation}
@@ -13,11 +13,10 @@ use Rattle.cq_meaning.specs.Groups.{distinct_if}
 use Rattle.cq_meaning.specs.Queries.{AnswersWith}
 use Rattle.cq_meaning.specs.Results.{results_of, count_of, with_ctes, with_ins_all, ins_in_ctes, ins_in_all}
 use Rattle.cq_meaning.specs.Limits.{is_large}
-use Rattle.cq_catalog.specs.Contents.{Contents, place_in, colocation_of, first_group_in, count_in}
+use Rattle.cq_catalog.specs.Contents.{Contents, colocation_of, first_group_in, count_in}
 use Rattle.cq_catalog.specs.Placement.{place_at, HasShard, group_of}
 use Rattle.cq_catalog.specs.declared.info.Place.{Place}
 use Rattle.cq_catalog.specs.declared.info.Place.TheVariants.{Local, Distributed, Reference}
-use Rattle.cq_catalog.specs.declared.info.TableInfo.{TableInfo}
 use Rattle.cq_planning.specs.Database.{Held, joined, whole_at, whole, IsOfGroup, IsRowOf, CanHold, narrowed}
 use Rattle.cq_planning.specs.Reaching.{RowsReach}
 use Rattle.cq_planning.specs.Touched.{among}
@@ -26,12 +25,9 @@ use Rattle.cq_history.proofs.Lists.{two_ways, all_weaker, filter_none}
 use Rattle.cq_history.proofs.Joined.{table_in_whole}
 use Rattle.cq_history.proofs.Looks.{no_ctes}
 use Rattle.cq_history.proofs.Demands.{items_alike, large_kept}
+use Rattle.cq_history.proofs.Tables.{there_is}
 
 -- ---- what it keeps of the whole
-
-there_is : (o : Option TableInfo) → (place_in o ≡ Local → ⊥) → (t : TableInfo) × (o ≡ Some t)
-there_is None n = absurd (n refl)
-there_is (Some t) n = (t, refl)
 
 not_local : (c : Contents) (touched : List ℕ) (table : ℕ) (f : Cond) (p : Place) → RowsReach c touched table p f → p ≡ Local → ⊥
 not_local c touched table f Local r e = r

@@ -1,5 +1,5 @@
 -- Groups that are opened, and the answers that open them.
-use Rattle.std.proofs.Common.{◌≡◌, ◌+◌, ◌-◌, ◌<◌, ◌≤◌, inl, inr, ℕ, List, length, refl, sym, ◌∙◌, ap, subst, arith, Some, None, Option, slice_get}
+use Rattle.std.proofs.Common.{◌≡◌, ◌+◌, ◌-◌, ◌<◌, ◌≤◌, inl, inr, ℕ, List, length, refl, sym, ◌∙◌, ap, subst, arith, Some, Option, slice_get}
 use Rattle.std.specs.Prelude.{◌%◌}
 use Rattle.std.proofs.lemmas.Bool.{cases_lt}
 use Rattle.cq_tree.specs.declared.journal.Who.{Who}
@@ -9,7 +9,6 @@ use Rattle.cq_catalog.specs.Whole.{IsCut, IsPlaced, IsWhole}
 use Rattle.cq_catalog.specs.declared.info.Colocation.{Colocation}
 use Rattle.cq_catalog.specs.declared.info.Place.{Place}
 use Rattle.cq_catalog.specs.declared.info.Place.TheVariants.{Local, Distributed, Reference}
-use Rattle.cq_catalog.specs.declared.info.TableInfo.{TableInfo}
 use Rattle.cq_history.specs.Run.{Run, after}
 use Rattle.cq_journal.specs.Records.{Journal}
 use Rattle.cq_history.specs.Journals.{journal_in, Kinds, none}
@@ -18,10 +17,7 @@ use Rattle.cq_history.specs.Log.{IsLaidOut}
 use Rattle.cq_history.specs.Laws.{GoesOnKeyed, OpensGroups, OpensLaidOut, CatalogIsAnswered, look_at}
 use Rattle.cq_history.proofs.Lists.{got}
 use Rattle.cq_history.proofs.Script.{looked_at}
-
-there_is : (o : Option TableInfo) → (place_in o ≡ Local → ⊥) → (t : TableInfo) × (o ≡ Some t)
-there_is None n = absurd (n refl)
-there_is (Some t) n = (t, refl)
+use Rattle.cq_history.proofs.Tables.{there_is}
 
 module _ (run : Run) (c later : Contents) (who : Who) (added : Kinds) (old new : List Journal) (whole : IsWhole c) (goes : GoesOnKeyed c later) (grows : Grows who added old new) (opens : OpensGroups run c later new)
     (laid : IsLaidOut run c old) where

@@ -33,6 +33,7 @@ module _ (v w : View) (made : (g : ℕ) (P : List Step → Type 0) → v.made g 
 
   made_map : (c : Contents) (touched : List ℕ) (op : ShardOp) (n : ℕ) → IsMadeIn c touched v op n → IsMadeIn c touched w op n
   made_map c touched op n h = record {
+    shared = h.shared;
     counts = h.counts;
     sum = h.sum;
     entries = enters _ h.entries;

@@ -1,5 +1,5 @@
 -- A write over several groups: the reply of the whole write over the undistributed database, by the replies of its parts.
-use Rattle.std.proofs.Common.{◌≡◌, ◌≢◌, ◌+◌, ◌<◌, ◌≤◌, inl, inr, ℕ, Bool, true, false, cond, List, [], ◌∷◌, length, map, filter, refl, sym, ◌∙◌, ap, subst, arith, Some, None, Option, slice_get, eq-eqb}
+use Rattle.std.proofs.Common.{◌≡◌, ◌≢◌, ◌+◌, ◌<◌, ◌≤◌, inl, inr, ℕ, Bool, true, false, cond, List, [], ◌∷◌, length, map, filter, refl, sym, ◌∙◌, ap, subst, arith, slice_get, eq-eqb}
 use Rattle.std.specs.Prelude.{nat_eq}
 use Rattle.std.specs.List.{AllByRecursion, sum_by}
 use Rattle.std.proofs.lemmas.Bool.Decides.{eqb_tells}
@@ -14,11 +14,10 @@ use Rattle.cq_value.specs.declared.schema.Kind.{Kind}
 use Rattle.cq_meaning.specs.Values.{Row, column, table_rows}
 use Rattle.cq_meaning.specs.Expressions.{keeps}
 use Rattle.cq_meaning.specs.Effects.{repeats, fit_kinds, fits_kinds, updated, table_of, same_key}
-use Rattle.cq_catalog.specs.Contents.{Contents, place_in, colocation_of, first_group_in, count_in}
+use Rattle.cq_catalog.specs.Contents.{Contents, colocation_of, first_group_in, count_in}
 use Rattle.cq_catalog.specs.Placement.{place_at, HasShard, group_of}
 use Rattle.cq_catalog.specs.declared.info.Place.{Place}
 use Rattle.cq_catalog.specs.declared.info.Place.TheVariants.{Local, Distributed, Reference}
-use Rattle.cq_catalog.specs.declared.info.TableInfo.{TableInfo}
 use Rattle.cq_journal.specs.Replies.{IsRefusal}
 use Rattle.cq_planning.specs.Database.{shape_in, Held, joined, whole_at, whole, IsOfGroup, IsRowOf, CanHold}
 use Rattle.cq_planning.specs.Parts.{rows_in, part}
@@ -32,6 +31,7 @@ use Rattle.cq_history.proofs.Sums.{among_here, among_more, sum_same, sum_filtere
 use Rattle.cq_history.proofs.Replies.{reply_over, reply_counted}
 use Rattle.cq_history.proofs.Joined.{table_in_whole, filter-joined, joined_one, joined_many, joined_all, joined_some}
 use Rattle.cq_history.proofs.Repeats.{same_in, no_key, of_part, in_part}
+use Rattle.cq_history.proofs.Tables.{there_is}
 
 -- ---- replies
 
@@ -252,10 +252,6 @@ not_local c touched (Update table f sets) Local r e = r
 not_local c touched (Remove table f) Local r e = r
 not_local c touched op (Distributed at colocation first_shard) r e = cc
 not_local c touched op (Reference group shard) r e = cc
-
-pub there_is : (o : Option TableInfo) → (place_in o ≡ Local → ⊥) → (t : TableInfo) × (o ≡ Some t)
-there_is None n = absurd (n refl)
-there_is (Some t) n = (t, refl)
 
 pub reply_whole : (c : Contents) (touched : List ℕ) (op : ShardOp) (held : Held) → IsTouchedBy c touched op → reply_in c op (whole c held) ≡ reply_over op (whole_at c held (table_of op) (place_at c (table_of op))) (shape_in c (table_of op))
 reply_whole c touched op held t =

@@ -14,8 +14,6 @@ use Rattle.cq_meaning.specs.Effects.{IsSafeWrite, table_of}
 use Rattle.cq_meaning.specs.Results.{Answers, results_of}
 use Rattle.cq_meaning_laws.specs.WholeRules.{steps_of, no_results, has_large_step, AreSafeSteps, IsSafeTogether}
 use Rattle.cq_catalog.specs.Contents.{Contents}
-use Rattle.cq_catalog.specs.Placement.{place_at}
-use Rattle.cq_catalog.specs.declared.info.Place.TheVariants.{Local}
 use Rattle.cq_journal.specs.Fitting.{Fits, WriteSetsSorts}
 use Rattle.cq_planning.specs.Database.{shape_in, Narrows, IsLarge}
 use Rattle.cq_planning.specs.Reaching.{IsTouchedBy}
@@ -55,7 +53,7 @@ FitsTable c (Remove table filter_) = ⊤
 pub record IsWritable (c : Contents) (op : ShardOp) : Type 0 where
   pub fits : FitsTable c op
   pub safe : (pairs : List Pair) → AllByRecursion (λ (p : Pair). Within (column_bits c (table_of op)) p.1) pairs → IsSafeWrite op pairs
-  pub touched : (place_at c (table_of op) ≡ Local → ⊥) → IsTouchedBy c (touched c (statement.Write op)) op
+  pub touched : IsTouchedBy c (touched c (statement.Write op)) op
 
 -- a setting fits its word
 abbrev pub IsComputable : Contents → Statement → Type 0

@@ -1,5 +1,5 @@
 -- When an answer stands, and the cause of each refusal. The cases are read once, over a view of the statement.
-use Rattle.std.specs.Prelude.{◌≡◌, ◌⊎◌, ◌+◌, ◌<◌, ◌≤◌, ◌-◌, ◌++◌, ℕ, Bool, ⊤, true, false, nat_eq, pos, List, [], ◌∷◌, map, length, Option, Some, None, option_map, codes}
+use Rattle.std.specs.Prelude.{◌≡◌, ◌≢◌, ◌⊎◌, ◌+◌, ◌<◌, ◌≤◌, ◌-◌, ◌++◌, ℕ, Bool, ⊤, true, false, nat_eq, pos, List, [], ◌∷◌, map, length, Option, Some, None, option_map, codes}
 use Rattle.std.specs.List.{sum_by}
 use Rattle.cq_value.specs.declared.value.Value.TheVariants as values
 use Rattle.cq_value.specs.declared.schema.Column.{Column}
@@ -20,7 +20,8 @@ use Rattle.cq_meaning.specs.Effects.{numbered, reply_of, table_of, inserts}
 use Rattle.cq_catalog.specs.Contents.{Contents}
 use Rattle.cq_catalog.specs.Creation.{creation_refusal}
 use Rattle.cq_catalog.specs.Distribution.{decision_of, distribution_refusal, opened_by, reference_refusal}
-use Rattle.cq_catalog.specs.Placement.{group_of_shard}
+use Rattle.cq_catalog.specs.Placement.{group_of_shard, place_at}
+use Rattle.cq_catalog.specs.declared.info.Place.TheVariants.{Local}
 use Rattle.cq_catalog.specs.Refusals.{first_of}
 use Rattle.cq_journal.specs.Journals.{most_ids}
 use Rattle.cq_journal.specs.Replies.{IsMade}
@@ -106,8 +107,9 @@ IsReady c op j = IsMade (reply_of op (held_in c j (table_of op)) (shape_in c (ta
 abbrev pub AreReady : Contents → List ℕ → View → ShardOp → ℕ → Type 0
 AreReady c touched v op group = (g : ℕ) → among g touched ≡ true → g < group → v.saw g (IsReady c (part c op g))
 
--- its part was made in each touched group, and the counts' sum is the whole write's count
+-- its table isn't local, its part was made in each touched group, and the counts' sum is the whole write's count
 pub record IsMadeIn (c : Contents) (touched : List ℕ) (v : View) (op : ShardOp) (n : ℕ) : Type 0 where
+  pub shared : place_at c (table_of op) ≢ Local
   pub counts : ℕ → ℕ
   pub sum : n ≡ sum_by counts touched
   pub entries : Enters v (in_each touched (λ g. Write (part c op g) (Count (counts g))))

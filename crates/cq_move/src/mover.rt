@@ -1,4 +1,4 @@
-ghost use Rattle.std.specs.Prelude.{◌≡◌, ◌<◌, [], ◌∷◌, ◌++◌, None, true, false, length, OnOk, OnErr, IfOk, IfErr};
+ghost use Rattle.std.specs.Prelude.{◌≡◌, ◌+◌, ◌<◌, ◌≤◌, [], ◌∷◌, ◌++◌, None, true, false, length, OnOk, OnErr, IfOk, IfErr};
 ghost use Rattle.std.specs.List.{AllZip};
 ghost use Rattle.cq_tree.specs.declared.journal.EntryKind.TheVariants.{MoveStart, CatchUp, Cutover, MoveStop};
 ghost use Rattle.cq_journal.specs.Stations.{station_of, moving_of};
@@ -6,13 +6,16 @@ ghost use Rattle.cq_group.specs.Groups.{outlines, entries_of, stores_of, journal
 ghost use Rattle.cq_group.specs.Calls.{GoesOn, Lifted, Blames, GroupGoesOn};
 ghost use Rattle.cq_group.specs.Resting.{IsResting};
 ghost use Rattle.cq_group.specs.Incoming.{IsSettled, IsExchanged, AreSpareOn, CanStart, arriving, rows_in, why_told};
+ghost use Rattle.cq_move.specs.Reports.{with_report};
 ghost use Rattle.cq_move.specs.Outcomes.{IsTried, IsStopped, IsRefused, entries_by};
 ghost use Rattle.cq_move.specs.Steps.{IsMoving, CanStop, MayCatchUp, MayCatchUpAndStops, IsToldBy};
 
-use cq_group::{Exchanged, Gate, GroupError, GroupState, Incoming, MoveRefused, MoveWhy, Point};
+use cq_group::{
+    Exchanged, Gate, GroupError, GroupState, Incoming, MoveRefused, MoveWhy, Point, why_of,
+};
 use cq_store::Store;
 use cq_tree::Who;
-use cq_value::NoMemory;
+use cq_value::{NoMemory, Row, Value};
 use std::alloc::Global;
 
 /// The most rounds of catch-up.
@@ -24,6 +27,19 @@ pub struct MoveReport {
     pub copied: u64,
     pub caught: u64,
     pub last: u64,
+}
+
+impl MoveReport {
+    /// Puts the numbers into a row, from this column on. Takes no memory.
+    pub fn put_into(self, row: &mut Row, first: u32)
+        requires { first + 3 ≤ length row.old }
+        ensures { row.new ≡ with_report row.old first self }
+    {
+        let place = u64::from(first);
+        row.set(place, Value::Int(i128::from(self.copied)));
+        row.set(place + 1, Value::Int(i128::from(self.caught)));
+        row.set(place + 2, Value::Int(i128::from(self.last)));
+    }
 }
 
 /// A move that came to its end, and the old stores, in the order of the tables.
@@ -40,26 +56,6 @@ pub struct NotMoved<S> {
     pub why: MoveWhy,
     pub begun: bool,
     pub stores: Vec<S>,
-}
-
-/// Why a move was stopped for an error.
-fn why_of(error: GroupError) -> MoveWhy
-    ensures { result ≡ why_told error }
-{
-    match error {
-        GroupError::Worker {
-            node,
-            shard,
-            before,
-            after,
-        } => MoveWhy::Worker {
-            node,
-            shard,
-            before,
-            after,
-        },
-        GroupError::Memory => MoveWhy::Memory,
-    }
 }
 
 /// One round of catch-up: a CatchUp is entered, and the changes in the log are made in what comes in. Gives their number.

@@ -1,64 +1,59 @@
 -- The right sides of co-located LEFT JOINs, as they are collected from left to right.
-use Rattle.std.proofs.Common.{◌≡◌, ◌+◌, ◌<◌, ◌≤◌, inl, inr, ℕ, Bool, true, false, cond, List, [], ◌∷◌, ◌++◌, fold, filter_map, refl, sym, ◌∙◌, ap, arith, Some, None, Option}
+use Rattle.std.proofs.Common.{◌≡◌, ◌+◌, ◌<◌, ◌≤◌, inl, inr, ℕ, Bool, true, false, cond, List, [], ◌∷◌, ◌++◌, fold, filter_map, refl, sym, ◌∙◌, ap, subst, arith, Some, None, Option}
 use Rattle.std.specs.Prelude.{nat_eq, ◌&&◌, ◌||◌}
 use Rattle.std.specs.List.{AllByRecursion, list_any, cons_option}
 use Rattle.std.proofs.lemmas.List.Folds.{list_any-append}
-use Rattle.cq_tree.specs.declared.query.FromTree.{FromTree, Table, Sub', Result, Cross', Inner', Left', end_of-FromTree, more_of-FromTree}
+use Rattle.cq_tree.specs.declared.query.FromTree.{FromTree, Table, Sub', Result, Cross', Inner', Left', end_of-FromTree, more_of-FromTree, end_of-Query, more_of-Query}
 use Rattle.cq_meaning.specs.Groups.{is_known}
 use Rattle.cq_meaning.specs.Values.{Row, column}
 use Rattle.cq_meaning.specs.Queries.{columns_in}
 use Rattle.cq_task_laws.proofs.CutLaws.{other}
 use Rattle.cq_catalog.specs.Contents.{Contents}
-use Rattle.cq_catalog.specs.Placement.{place_at}
-use Rattle.cq_catalog.specs.declared.info.Place.{Place}
-use Rattle.cq_catalog.specs.declared.info.Place.TheVariants.{Local, Distributed, Reference}
 use Rattle.cq_planning.specs.Components.{is_located, with_colocated}
 use Rattle.cq_planning.specs.Conjuncts.{conjuncts, equalities}
+use Rattle.cq_planning.specs.Database.{Held}
+use Rattle.cq_planning.specs.Narrowing.{distribution_in}
 use Rattle.cq_planning.specs.Pushable.{relations}
-use Rattle.cq_planning.specs.Relations.{Distribution, OuterJoin, Relation, distribution_at, distribution_of, is_distributed, partner_of, partners, is_between}
-use Rattle.cq_planning_laws.specs.Laid.{IsColumnOf, IsLaidFrom}
+use Rattle.cq_planning.specs.Relations.{Distribution, OuterJoin, Relation, distribution_of, is_distributed, partner_of, partners, is_between}
 use Rattle.cq_planning_laws.proofs.Lists.{two_ways, all_append, all_weaker}
 use Rattle.cq_planning_laws.proofs.Rows.{Agrees, and_true, same_number}
 use Rattle.cq_planning_laws.proofs.Columns.{between}
-use Rattle.cq_pushdown_laws.specs.Pushed.{is_table, joins_tables}
+use Rattle.cq_pushdown_laws.proofs.Choices.{IsColumn, IsSpread, AreSpread, single_at, single_is}
 
 -- ---- the columns of a FROM's relations
 
--- the relation's distribution column is among so many columns from `start` on
+-- a distributed relation begins among so many columns from `start` on, and its distribution column is one of them
 abbrev pub IsWithin : ℕ → ℕ → Relation → Type 0
-IsWithin start end r = is_distributed r ≡ true → (start ≤ (distribution_of r).column) × ((distribution_of r).column < end)
+IsWithin start end r = is_distributed r ≡ true → (start ≤ r.start) × (r.start ≤ (distribution_of r).column) × ((distribution_of r).column < end)
 
 wider : (start end low high : ℕ) → low ≤ start → end ≤ high → (rels : List Relation) → AllByRecursion (IsWithin start end) rels → AllByRecursion (IsWithin low high) rels
-wider start end low high l h rels all = all_weaker (IsWithin start end) (IsWithin low high) (λ r f d. let k = f d in let a = k.0 in let b = k.1 in (omega (arith, a, l), omega (arith, b, h))) rels all
+wider start end low high l h rels all = all_weaker (IsWithin start end) (IsWithin low high) (λ r f d. let k = f d in let a = k.0 in let b = k.2 in (omega (arith, a, l), k.1, omega (arith, b, h))) rels all
 
-table_within : (n start : ℕ) (outer : Option OuterJoin) (p : Place) → IsColumnOf n p → IsWithin start (start + n) (record { start = start; distribution = distribution_at start p; outer = outer })
-table_within n start outer Local there = λ d. cc
-table_within n start outer (Reference group shard) there = λ d. cc
-table_within n start outer (Distributed at colocation first_shard) there = λ d. (omega arith, omega (arith, there))
-
-pub right_within : (c : Contents) (f : FromTree) (start : ℕ) (outer : Option OuterJoin) → is_table f ≡ true → IsLaidFrom c (λ i. 0) f → AllByRecursion (IsWithin start (start + columns_in f)) (relations c f start outer)
-right_within c (Table t n) start outer is laid = (table_within n start outer (place_at c t) laid.1, tt)
-right_within c _ start outer is laid = cc
+single_within : (n start : ℕ) (outer : Option OuterJoin) (d : Option Distribution) → IsColumn n d → IsWithin start (start + n) (single_at start d outer)
+single_within n start outer None there = λ e. cc
+single_within n start outer (Some d) there = λ e. (omega arith, omega arith, omega (arith, there))
 
 both_within : (a b : ℕ) (start : ℕ) (ra rb : List Relation) → AllByRecursion (IsWithin start (start + a)) ra → AllByRecursion (IsWithin (start + a) (start + a + b)) rb → AllByRecursion (IsWithin start (start + (a + b))) (ra ++ rb)
 both_within a b start ra rb ha hb =
     all_append (IsWithin start (start + (a + b))) ra rb (wider start (start + a) start (start + (a + b)) (omega arith) (omega arith) ra ha)
     (wider (start + a) (start + a + b) start (start + (a + b)) (omega arith) (omega arith) rb hb)
 
-pub all_within : (c : Contents) (f : FromTree) (start : ℕ) → joins_tables f ≡ true → IsLaidFrom c (λ i. 0) f → AllByRecursion (IsWithin start (start + columns_in f)) (relations c f start None)
-all_within c (Table t n) start is laid = (table_within n start None (place_at c t) laid.1, tt)
-all_within c (Sub' p q) start is laid = cc
-all_within c (Result k n) start is laid = cc
-all_within c (Cross' p (more_of-FromTree a end_of-FromTree) q (more_of-FromTree b end_of-FromTree)) start is laid =
-    let both = and_true (joins_tables a) (joins_tables b) is in
-    both_within (columns_in a) (columns_in b) start (relations c a start None) (relations c b (start + columns_in a) None) (all_within c a start both.0 laid.0) (all_within c b (start + columns_in a) both.1 laid.1)
-all_within c (Inner' p (more_of-FromTree a end_of-FromTree) q (more_of-FromTree b end_of-FromTree) on) start is laid =
-    let both = and_true (joins_tables a) (joins_tables b) is in
-    both_within (columns_in a) (columns_in b) start (relations c a start None) (relations c b (start + columns_in a) None) (all_within c a start both.0 laid.0) (all_within c b (start + columns_in a) both.1 laid.1)
-all_within c (Left' p (more_of-FromTree a end_of-FromTree) q (more_of-FromTree b end_of-FromTree) on) start is laid =
-    let both = and_true (joins_tables a) (is_table b) is in
-    let o : OuterJoin = record { left = start; equalities = equalities (conjuncts on) } in
-    both_within (columns_in a) (columns_in b) start (relations c a start None) (relations c b (start + columns_in a) (Some o)) (all_within c a start both.0 laid.0) (right_within c b (start + columns_in a) (Some o) both.1 laid.1)
+module _ (c : Contents) (held : Held) (groups : List ℕ) where
+  pub spread_within : (f : FromTree) (start : ℕ) (outer : Option OuterJoin) → IsSpread c held groups f start → AllByRecursion (IsWithin start (start + columns_in f)) (relations c f start outer)
+  spread_within f start outer spread =
+      subst (AllByRecursion (IsWithin start (start + columns_in f))) (sym (single_is c f start outer spread.single)) (single_within (columns_in f) start outer (distribution_in c f 0) spread.column, tt)
+
+  pub all_within : (f : FromTree) (start : ℕ) → AreSpread c held groups f start → AllByRecursion (IsWithin start (start + columns_in f)) (relations c f start None)
+  all_within (Table t n) start spread = spread_within (Table t n) start None spread
+  all_within (Sub' p (more_of-Query q end_of-Query)) start spread = spread_within (Sub' p (more_of-Query q end_of-Query)) start None spread
+  all_within (Result k n) start spread = absurd spread
+  all_within (Cross' p (more_of-FromTree a end_of-FromTree) q (more_of-FromTree b end_of-FromTree)) start spread =
+      both_within (columns_in a) (columns_in b) start (relations c a start None) (relations c b (start + columns_in a) None) (all_within a start spread.0) (all_within b (start + columns_in a) spread.1)
+  all_within (Inner' p (more_of-FromTree a end_of-FromTree) q (more_of-FromTree b end_of-FromTree) on) start spread =
+      both_within (columns_in a) (columns_in b) start (relations c a start None) (relations c b (start + columns_in a) None) (all_within a start spread.0) (all_within b (start + columns_in a) spread.1)
+  all_within (Left' p (more_of-FromTree a end_of-FromTree) q (more_of-FromTree b end_of-FromTree) on) start spread =
+      let o : OuterJoin = record { left = start; equalities = equalities (conjuncts on) } in
+      both_within (columns_in a) (columns_in b) start (relations c a start None) (relations c b (start + columns_in a) (Some o)) (all_within a start spread.0) (spread_within b (start + columns_in a) (Some o) spread.1)
 
 -- ---- what is collected
 
@@ -92,11 +87,11 @@ module _ (first : ℕ → ℕ) (rels : List Relation) where
 
   -- relations that begin behind a column, or end before it
   pub others_behind : (x start end : ℕ) (earlier : List Distribution) (rs : List Relation) → x < start → AllByRecursion (IsWithin start end) rs → has_column x (fold (with_colocated first rels) earlier rs) ≡ has_column x earlier
-  others_behind x start end earlier rs l all = others x earlier rs (all_weaker (IsWithin start end) (λ r. is_distributed r ≡ true → (distribution_of r).column ≡ x → ⊥) (λ r f d e. (let k = f d in let a = k.0 in absurd (omega (arith, a, l, e)))) rs all)
+  others_behind x start end earlier rs l all = others x earlier rs (all_weaker (IsWithin start end) (λ r. is_distributed r ≡ true → (distribution_of r).column ≡ x → ⊥) (λ r f d e. (let k = f d in let a = k.0 in let b = k.1 in absurd (omega (arith, a, b, l, e)))) rs all)
 
   pub below_more : (start end : ℕ) (earlier : List Distribution) (rs : List Relation) → start ≤ end → AreBelow start earlier → AllByRecursion (IsWithin start end) rs → AreBelow end (fold (with_colocated first rels) earlier rs)
   below_more start end earlier rs h low all x l =
-      others x earlier rs (all_weaker (IsWithin start end) (λ r. is_distributed r ≡ true → (distribution_of r).column ≡ x → ⊥) (λ r f d e. (let k = f d in let a = k.1 in absurd (omega (arith, a, l, e)))) rs all)
+      others x earlier rs (all_weaker (IsWithin start end) (λ r. is_distributed r ≡ true → (distribution_of r).column ≡ x → ⊥) (λ r f d e. (let k = f d in let a = k.2 in absurd (omega (arith, a, l, e)))) rs all)
       ∙ low x (omega (arith, h, l))
 
   -- a relation whose column is collected, and wasn't before, has a partner that is located

@@ -1,10 +1,13 @@
 -- The definitions say what the rules say: t, u and w are of one co-location group, by their first columns, v is of another, and r is a reference table.
-use Rattle.std.proofs.Common.{◌≡◌, Bool, true, false, List, [], ◌∷◌, refl, None}
+use Rattle.std.proofs.Common.{◌≡◌, Bool, true, false, List, [], ℕ, ◌∷◌, refl, None}
 use Rattle.std.specs.Prelude.{◌&&◌}
 use Rattle.cq_value.specs.declared.schema.Kind.TheVariants.{Bigint}
 use Rattle.cq_tree.specs.declared.expression.Cond.{Cond, Always}
-use Rattle.cq_tree.specs.declared.query.FromTree.{FromTree, Table, Cross', end_of-FromTree, more_of-FromTree}
-use Rattle.cq_tree.specs.declared.query.FromTree.TheBlock.{shape-the_row-FromTree-1}
+use Rattle.cq_tree.specs.declared.expression.Expr.{Column}
+use Rattle.cq_tree.specs.declared.query.Agg.TheVariants as agg
+use Rattle.cq_tree.specs.declared.query.FromTree.{FromTree, Table, Sub', Cross', end_of-FromTree, more_of-FromTree, end_of-Query, more_of-Query}
+use Rattle.cq_tree.specs.declared.query.FromTree.TheBlock.{shape-the_row-FromTree-1, shape-the_row-Query-0}
+use Rattle.cq_tree.specs.declared.query.Query.{Query, roll-Query}
 use Rattle.cq_catalog.specs.Contents.{Contents}
 use Rattle.cq_catalog.specs.Ranges.{ends}
 use Rattle.cq_catalog.specs.declared.info.Place.TheVariants.{Distributed, Reference}
@@ -13,7 +16,7 @@ use Rattle.cq_planning.specs.Conjuncts.{conjuncts_of, equalities}
 use Rattle.cq_planning.specs.Pushable.{relations}
 use Rattle.cq_planning.specs.Relations.{Relation, distributions, is_plain}
 use Rattle.cq_planning_laws.proofs.Examples.{equal, both, inner, left}
-use Rattle.cq_pushdown_laws.specs.Pushed.{joins_tables, are_pushed}
+use Rattle.cq_pushdown_laws.specs.Pushed.{joins_pushed, are_pushed}
 
 abbrev five : Contents
 five = record {
@@ -45,7 +48,7 @@ cross a b = Cross' (shape-the_row-FromTree-1 a) (more_of-FromTree a end_of-FromT
 
 -- whether a query with this FROM and this WHERE is pushed, by its relations
 abbrev pushed_by : List Relation → FromTree → Cond → Bool
-pushed_by rels from filter_ = joins_tables from && are_pushed (first_of_class (equalities (conjuncts_of filter_ from))) rels (distributions is_plain rels)
+pushed_by rels from filter_ = joins_pushed five from && are_pushed (first_of_class (equalities (conjuncts_of filter_ from))) rels (distributions is_plain rels)
 
 abbrev pushed : FromTree → Cond → Bool
 pushed from filter_ = pushed_by (relations five from 0 None) from filter_
@@ -105,3 +108,52 @@ left_reference = refl
 -- a right side that is a join
 right_join : pushed (left t (inner u w (equal 2 4)) (equal 0 2)) (both (equal 0 2) (equal 2 4)) ≡ false
 right_join = refl
+
+-- ---- subqueries
+
+abbrev from_sub : Query → FromTree
+from_sub q = Sub' (shape-the_row-Query-0 q) (more_of-Query q end_of-Query)
+
+-- a column of a FROM, and how many rows have its value
+abbrev counts : FromTree → ℕ → FromTree
+counts from column = from_sub (roll-Query (record {
+  ctes = [];
+  subs = [];
+  from = from;
+  filter = Always;
+  grouped = true;
+  keys = Column column ∷ [];
+  aggs = agg.CountAll ∷ [];
+  having = Always;
+  items = Column 0 ∷ (Column 1 ∷ []);
+  shown = 2;
+  distinct = false;
+  order = [];
+  limit = None;
+  offset = 0;
+  names = [];
+}))
+
+sub_by_key : pushed (inner u (counts t 0) (equal 0 2)) Always ≡ true
+unfolding roll-Query denote.Hole.Carrier.roll
+sub_by_key = refl
+
+sub_by_other : pushed (inner u (counts t 1) (equal 0 2)) Always ≡ false
+unfolding roll-Query denote.Hole.Carrier.roll
+sub_by_other = refl
+
+sub_joined_by_count : pushed (inner u (counts t 0) (equal 0 3)) Always ≡ false
+unfolding roll-Query denote.Hole.Carrier.roll
+sub_joined_by_count = refl
+
+sub_right : pushed (left u (counts t 0) (equal 0 2)) Always ≡ true
+unfolding roll-Query denote.Hole.Carrier.roll
+sub_right = refl
+
+sub_of_sub : pushed (counts (counts t 0) 0) Always ≡ true
+unfolding roll-Query denote.Hole.Carrier.roll
+sub_of_sub = refl
+
+sub_of_reference : pushed (inner u (counts r 1) (equal 1 2)) Always ≡ true
+unfolding roll-Query denote.Hole.Carrier.roll
+sub_of_reference = refl

@@ -1,8 +1,13 @@
 pub mod Spread
+pub mod References
 pub mod Choices
 pub mod Standing
 pub mod Colocated
 pub mod Rights
+pub mod Firsts
+pub mod Placing
 pub mod Sharing
+pub mod Subqueries
+pub mod Large
 pub mod Serving
 pub mod Examples

@@ -32,13 +32,37 @@ use Rattle.cq_planning_laws.proofs.Lists.{two_ways}
 
 -- ---- lists
 
-any_take : {X : Type 0} (test : X → Bool) (n : ℕ) (xs : List X) → list_any test (take n xs) ≡ true → list_any test xs ≡ true
-any_take test zero xs h = cc
-any_take test (suc n) [] h = cc
-any_take test (suc n) (x ∷ xs) h = elim (two_ways (test x)) [
-  | inl y ↦ rw y refl
-  | inr f ↦ (let k : list_any test (take n xs) ≡ true = rw f at h in rw f (any_take test n xs k))
+-- one of these passes the test
+any_place : {X : Type 0} (test : X → Bool) (d : X) (xs : List X) → list_any test xs ≡ true → (j : ℕ) × (j < length xs) × (test (slice_index_or xs j d) ≡ true)
+any_place test d [] h = cc
+any_place test d (x ∷ xs) h = elim (two_ways (test x)) [
+  | inl y ↦ (0, omega arith, y)
+  | inr f ↦ (
+      let u : (j : ℕ) × (j < length xs) × (test (slice_index_or xs j d) ≡ true) = any_place test d xs (rw f at h) in
+      let l = u.1 in (suc u.0, omega (arith, l), u.2)
+      )
 ]
+
+pub any_there : {X : Type 0} (test : X → Bool) (d : X) (xs : List X) (j : ℕ) → j < length xs → test (slice_index_or xs j d) ≡ true → list_any test xs ≡ true
+any_there test d [] j l h = absurd (omega (arith, l))
+any_there test d (x ∷ xs) zero l h = rw h refl
+any_there test d (x ∷ xs) (suc j) l h = elim (two_ways (test x)) [
+  | inl y ↦ rw y refl
+  | inr f ↦ rw f (any_there test d xs j (omega (arith, l)) h)
+]
+
+-- one of the first n
+pub taken_is : {X : Type 0} (n : ℕ) (xs : List X) (j : ℕ) (d : X) → j < n → slice_index_or (take n xs) j d ≡ slice_index_or xs j d
+taken_is zero xs j d l = absurd (omega (arith, l))
+taken_is (suc n) [] j d l = refl
+taken_is (suc n) (x ∷ xs) zero d l = refl
+taken_is (suc n) (x ∷ xs) (suc j) d l = taken_is n xs j d (omega (arith, l))
+
+pub taken_within : {X : Type 0} (n : ℕ) (xs : List X) (j : ℕ) → j < length (take n xs) → (j < n) × (j < length xs)
+taken_within zero xs j l = absurd (omega (arith, l))
+taken_within (suc n) [] j l = absurd (omega (arith, l))
+taken_within (suc n) (x ∷ xs) zero l = (omega arith, omega arith)
+taken_within (suc n) (x ∷ xs) (suc j) l = let u = taken_within n xs j (omega (arith, l)) in let a = u.0 in let b = u.1 in (omega (arith, a), omega (arith, b))
 
 -- ---- columns of the class of the distribution column
 
@@ -51,16 +75,10 @@ module _ (rs : List (List Row)) (first : ℕ → ℕ) (at : ℕ) where
   of_expression (Column k) h row same = same k (same_number (first k) (first at) h)
   of_expression _ h row same = cc
 
-  picked : (es : List Expr) → list_any (λ e. is_of_class first at (column_of e)) es ≡ true → (j : ℕ) × ((row : Row) → IsOneValued row → column (items_of es rs row) j ≡ column row at)
-  picked [] h = cc
-  picked (e ∷ es) h = elim (two_ways (is_of_class first at (column_of e))) [
-    | inl y ↦ (0, λ row same. of_expression e y row same)
-    | inr f ↦ (
-        let more : list_any (λ d. is_of_class first at (column_of d)) es ≡ true = rw f at h in
-        let u : (j : ℕ) × ((row : Row) → IsOneValued row → column (items_of es rs row) j ≡ column row at) = picked es more in
-        (suc u.0, λ row same. u.1 row same)
-        )
-  ]
+  item_at : (es : List Expr) (j : ℕ) → j < length es → is_of_class first at (column_of (slice_index_or es j (Column 0))) ≡ true → (row : Row) → IsOneValued row → column (items_of es rs row) j ≡ column row at
+  item_at [] j l h row same = absurd (omega (arith, l))
+  item_at (e ∷ es) zero l h row same = of_expression e h row same
+  item_at (e ∷ es) (suc j) l h row same = item_at es j (omega (arith, l)) h row same
 
   -- a key of the class, in a group's row
   of_key : (keys : List Expr) (k : ℕ) → k < length keys → is_of_class first at (column_of (slice_index_or keys k (Column 0))) ≡ true → (row rest : Row) → IsOneValued row → column (items_of keys rs row ++ rest) k ≡ column row at
@@ -81,17 +99,11 @@ module _ (rs : List (List Row)) (first : ℕ → ℕ) (at : ℕ) where
       lt_of a b h = grind (arith, h)
   of_output keys _ h row rest same = cc
 
-  picked_behind : (keys items : List Expr) → list_any (λ e. is_of_class first at (column_behind true keys (column_of e))) items ≡ true →
-      (j : ℕ) × ((row rest : Row) → IsOneValued row → column (items_of items rs (items_of keys rs row ++ rest)) j ≡ column row at)
-  picked_behind keys [] h = cc
-  picked_behind keys (e ∷ es) h = elim (two_ways (is_of_class first at (column_behind true keys (column_of e)))) [
-    | inl y ↦ (0, λ row rest same. of_output keys e y row rest same)
-    | inr f ↦ (
-        let more : list_any (λ d. is_of_class first at (column_behind true keys (column_of d))) es ≡ true = rw f at h in
-        let u : (j : ℕ) × ((row rest : Row) → IsOneValued row → column (items_of es rs (items_of keys rs row ++ rest)) j ≡ column row at) = picked_behind keys es more in
-        (suc u.0, λ row rest same. u.1 row rest same)
-        )
-  ]
+  output_at : (keys items : List Expr) (j : ℕ) → j < length items → is_of_class first at (column_behind true keys (column_of (slice_index_or items j (Column 0)))) ≡ true →
+      (row rest : Row) → IsOneValued row → column (items_of items rs (items_of keys rs row ++ rest)) j ≡ column row at
+  output_at keys [] j l h row rest same = absurd (omega (arith, l))
+  output_at keys (e ∷ es) zero l h row rest same = of_output keys e h row rest same
+  output_at keys (e ∷ es) (suc j) l h row rest same = output_at keys es j (omega (arith, l)) h row rest same
 
 -- ---- groups
 
@@ -106,6 +118,48 @@ group_source e es rs rows g h =
 -- a value of a row that is made of a group's row
 read_by : (items : List Expr) (j : ℕ) {x v s : Row} {w : Value} → items_of items [] v ≡ x → s ≡ v → column (items_of items [] s) j ≡ w → column x j ≡ w
 read_by items j p q r = ap (λ (y : Row). column y j) (sym p) ∙ ap (λ (y : Row). column (items_of items [] y) j) (sym q) ∙ r
+
+-- ---- what rows are made of
+
+module _ (filter_ : Cond) (from : FromTree) (at : ℕ) where
+  abbrev firsts : ℕ → ℕ
+  firsts = first_of_class (equalities (conjuncts_of filter_ from))
+
+  -- a row that is kept, whose columns of the class have one value
+  abbrev pub IsOne : Row → Type 0
+  IsOne row = IsOneValued [] firsts at row
+
+  -- a row that is kept, which has the value in its column of the class that a made row has in one of its own
+  pub record Source (p : List Row) (j : ℕ) (x : Row) : Type 0 where
+    pub row : Row
+    pub there : Has p row
+    pub kept : keeps filter_ [] row ≡ true
+    pub value : IsOne row → column x j ≡ column row at
+
+  -- a row's keys
+  key_source : (keys : List Expr) (j : ℕ) → j < length keys → is_of_class firsts at (column_of (slice_index_or keys j (Column 0))) ≡ true → (p : List Row) (x : Row) → Has (filter (keeps filter_ []) p) x → Source p j (items_of keys [] x)
+  key_source keys j l h p x k =
+      let v : Has p x × (keeps filter_ [] x ≡ true) = has_filtered (keeps filter_ []) p x k in
+      record { row = x; there = v.0; kept = v.1; value = λ single. item_at [] firsts at keys j l h x single }
+
+  -- an output row's, where the output is a bare column of the class
+  pub item_source : (grouped : Bool) (keys : List Expr) (aggs : List Agg) (having : Cond) (items : List Expr) (j : ℕ) → (grouped ≡ true → IsNonEmpty keys) → j < length items →
+      is_of_class firsts at (column_behind grouped keys (column_of (slice_index_or items j (Column 0)))) ≡ true → (p : List Row) (x : Row) → Has (item_rows filter_ grouped keys aggs having items [] p) x → Source p j x
+  item_source false keys aggs having items j some l h p x k =
+      let v : (r : Row) × Has (filter (keeps filter_ []) p) r × (items_of items [] r ≡ x) = mapped_has (items_of items []) (filter (keeps filter_ []) p) x k in
+      let w : Has p v.0 × (keeps filter_ [] v.0 ≡ true) = has_filtered (keeps filter_ []) p v.0 v.1 in
+      record { row = v.0; there = w.0; kept = w.1; value = λ single. ap (λ (y : Row). column y j) (sym v.2) ∙ item_at [] firsts at items j l h v.0 single }
+  item_source true [] aggs having items j some l h p x k = absurd (some refl)
+  item_source true (e ∷ es) aggs having items j some l h p x k =
+      let made : List Group = groups_of (e ∷ es) [] (filter (keeps filter_ []) p) in
+      let v : (s : Row) × Has (filter (keeps having []) (map (group_row aggs []) made)) s × (items_of items [] s ≡ x) = mapped_has (items_of items []) (filter (keeps having []) (map (group_row aggs []) made)) x k in
+      let w : Has (map (group_row aggs []) made) v.0 × (keeps having [] v.0 ≡ true) = has_filtered (keeps having []) (map (group_row aggs []) made) v.0 v.1 in
+      let z : (d : Group) × Has made d × (group_row aggs [] d ≡ v.0) = mapped_has (group_row aggs []) made v.0 w.0 in
+      let r : (row : Row) × Has (filter (keeps filter_ []) p) row × (items_of (e ∷ es) [] row ≡ z.0.keys) = group_source e es [] (filter (keeps filter_ []) p) z.0 z.1 in
+      let m : Has p r.0 × (keeps filter_ [] r.0 ≡ true) = has_filtered (keeps filter_ []) p r.0 r.1 in
+      let rest : Row = map (aggregate [] z.0.rows) aggs in
+      let same : items_of (e ∷ es) [] r.0 ++ rest ≡ v.0 = ap (λ (ks : Row). ks ++ rest) r.2 ∙ z.2 in
+      record { row = r.0; there = m.0; kept = m.1; value = λ single. read_by items j v.2 same (output_at [] firsts at (e ∷ es) items j l h r.0 rest single) }
 
 -- ---- the way of combining
 
@@ -132,73 +186,41 @@ has_some test (x ∷ xs) h = tt
 pub shares_serve : (at : ℕ) (q : Query) → shares_rows at q ≡ true → (parts : List (List Row)) → IsNonEmpty parts → Serves Groups q [] parts
 shares_serve at (Query' cs ctes ss subs from filter_ grouped keys aggs having items shown distinct order limit offset names) h parts some = (some, some_shared grouped _ distinct _ h)
 
-module _ (at : ℕ) (group : Value → ℕ) (filter_ : Cond) (from : FromTree) where
-  abbrev firsts : ℕ → ℕ
-  firsts = first_of_class (equalities (conjuncts_of filter_ from))
+module _ (at : ℕ) (group : Value → ℕ) (filter_ : Cond) (from : FromTree) (part : ℕ → List Row) (groups : List ℕ) (differ : AreDistinct groups)
+    (homed : (i : ℕ) → Has groups i → (row : Row) → Has (part i) row → keeps filter_ [] row ≡ true → group (column row at) ≡ i) (one : (i : ℕ) → Has groups i → (row : Row) → Has (part i) row → keeps filter_ [] row ≡ true → IsOne filter_ from at row) where
+  -- the group of a row that is made of a kept row of a part tells the part
+  pub tells_part : (i : ℕ) → Has groups i → (j : ℕ) (x : Row) → Source filter_ from at (part i) j x → group (column x j) ≡ i
+  tells_part i m j x u = ap group (u.value (one i m u.row u.there u.kept)) ∙ homed i m u.row u.there u.kept
 
-  -- a row that is kept, whose columns of the class have one value
-  abbrev IsOne : Row → Type 0
-  IsOne row = IsOneValued [] firsts at row
+  -- what is made of the parts shares no key that has such a value
+  share_none : (make : List Row → List Row) (key : Row → Row) (j : ℕ) → ((p : List Row) (x : Row) → Has (make p) x → Source filter_ from at p j (key x)) → ShareNo key (map make (map part groups))
+  share_none make key j source =
+      subst (ShareNo key) (sym (map_map make part groups)) (share_no key (λ x. group (column x j)) (λ i. make (part i)) groups differ (λ i m x h. tells_part i m j (key x) (source (part i) x h)))
 
-  module _ (part : ℕ → List Row) (groups : List ℕ) (differ : AreDistinct groups) (homed : (i : ℕ) → Has groups i → (row : Row) → Has (part i) row → group (column row at) ≡ i)
-      (one : (i : ℕ) → Has groups i → (row : Row) → Has (part i) row → keeps filter_ [] row ≡ true → IsOne row) where
-    -- what is made of the parts shares no key, where the key of each thing tells the group of a kept row that it is made of
-    share_none : (make : List Row → List Row) (key : Row → Row) (tells : Row → ℕ) →
-        ((p : List Row) (x : Row) → Has (make p) x → (row : Row) × Has p row × (keeps filter_ [] row ≡ true) × (IsOne row → tells (key x) ≡ group (column row at))) → ShareNo key (map make (map part groups))
-    share_none make key tells source = subst (ShareNo key) (sym (map_map make part groups)) (share_no key tells (λ i. make (part i)) groups differ (λ i m x h.
-        (let u : (row : Row) × Has (part i) row × (keeps filter_ [] row ≡ true) × (IsOne row → tells (key x) ≡ group (column row at)) = source (part i) x h in
-        u.3 (one i m u.0 u.1 u.2) ∙ homed i m u.0 u.1)))
+  -- no two parts share a group
+  keys_apart : (keys : List Expr) → list_any (λ e. is_of_class (firsts filter_ from at) at (column_of e)) keys ≡ true → ShareNo (items_of keys []) (map (filter (keeps filter_ [])) (map part groups))
+  keys_apart keys h =
+      let u : (j : ℕ) × (j < length keys) × (is_of_class (firsts filter_ from at) at (column_of (slice_index_or keys j (Column 0))) ≡ true) = any_place (λ e. is_of_class (firsts filter_ from at) at (column_of e)) (Column 0) keys h in
+      share_none (filter (keeps filter_ [])) (items_of keys []) u.0 (key_source filter_ from at keys u.0 u.1 u.2)
 
-    -- no two parts share a group
-    keys_apart : (keys : List Expr) → list_any (λ e. is_of_class firsts at (column_of e)) keys ≡ true → ShareNo (items_of keys []) (map (filter (keeps filter_ [])) (map part groups))
-    keys_apart keys h =
-        let u : (j : ℕ) × ((row : Row) → IsOne row → column (items_of keys [] row) j ≡ column row at) = picked [] firsts at keys h in
-        share_none (filter (keeps filter_ [])) (items_of keys []) (λ x. group (column x u.0))
-        (λ p x k. (let v : Has p x × (keeps filter_ [] x ≡ true) = has_filtered (keeps filter_ []) p x k in (x, v.0, v.1, λ single. ap group (u.1 x single))))
+  -- nor an output row
+  outputs_apart : (grouped : Bool) (keys : List Expr) (aggs : List Agg) (having : Cond) (items : List Expr) (shown : ℕ) → (grouped ≡ true → list_any (λ e. is_of_class (firsts filter_ from at) at (column_of e)) keys ≡ true) →
+      list_any (λ e. is_of_class (firsts filter_ from at) at (column_behind grouped keys (column_of e))) (take shown items) ≡ true → ShareNo (λ r. r) (map (item_rows filter_ grouped keys aggs having items []) (map part groups))
+  outputs_apart grouped keys aggs having items shown g h =
+      let test : Expr → Bool = λ e. is_of_class (firsts filter_ from at) at (column_behind grouped keys (column_of e)) in
+      let u : (j : ℕ) × (j < length (take shown items)) × (test (slice_index_or (take shown items) j (Column 0)) ≡ true) = any_place test (Column 0) (take shown items) h in
+      let t = taken_within shown items u.0 u.1 in
+      share_none (item_rows filter_ grouped keys aggs having items []) (λ r. r) u.0
+      (item_source filter_ from at grouped keys aggs having items u.0 (λ y. has_some (λ e. is_of_class (firsts filter_ from at) at (column_of e)) keys (g y)) t.1 (ap test (sym (taken_is shown items u.0 (Column 0) t.0)) ∙ u.2))
 
-    -- nor an output row
-    items_apart : (keys : List Expr) (aggs : List Agg) (having : Cond) (items : List Expr) (shown : ℕ) → list_any (λ e. is_of_class firsts at (column_behind false keys (column_of e))) (take shown items) ≡ true →
-        ShareNo (λ r. r) (map (item_rows filter_ false keys aggs having items []) (map part groups))
-    items_apart keys aggs having items shown h =
-        let u : (j : ℕ) × ((row : Row) → IsOne row → column (items_of items [] row) j ≡ column row at) = picked [] firsts at items (any_take (λ e. is_of_class firsts at (column_of e)) shown items h) in
-        share_none (item_rows filter_ false keys aggs having items []) (λ r. r) (λ x. group (column x u.0))
-        (λ p x k. (
-        let v : (r : Row) × Has (filter (keeps filter_ []) p) r × (items_of items [] r ≡ x) = mapped_has (items_of items []) (filter (keeps filter_ []) p) x k in
-        let w : Has p v.0 × (keeps filter_ [] v.0 ≡ true) = has_filtered (keeps filter_ []) p v.0 v.1 in
-        (v.0, w.0, w.1, λ single. ap group (ap (λ (y : Row). column y u.0) (sym v.2) ∙ u.1 v.0 single))
-        ))
-
-    groups_apart : (keys : List Expr) (aggs : List Agg) (having : Cond) (items : List Expr) (shown : ℕ) → list_any (λ e. is_of_class firsts at (column_of e)) keys ≡ true →
-        list_any (λ e. is_of_class firsts at (column_behind true keys (column_of e))) (take shown items) ≡ true → ShareNo (λ r. r) (map (item_rows filter_ true keys aggs having items []) (map part groups))
-    groups_apart [] aggs having items shown g h = cc
-    groups_apart (e ∷ es) aggs having items shown g h =
-        let u : (j : ℕ) × ((row rest : Row) → IsOne row → column (items_of items [] (items_of (e ∷ es) [] row ++ rest)) j ≡ column row at) =
-        picked_behind [] firsts at (e ∷ es) items (any_take (λ d. is_of_class firsts at (column_behind true (e ∷ es) (column_of d))) shown items h) in
-        share_none (item_rows filter_ true (e ∷ es) aggs having items []) (λ r. r) (λ x. group (column x u.0))
-        (λ p x k. (
-        let made : List Group = groups_of (e ∷ es) [] (filter (keeps filter_ []) p) in
-        let v : (s : Row) × Has (filter (keeps having []) (map (group_row aggs []) made)) s × (items_of items [] s ≡ x) = mapped_has (items_of items []) (filter (keeps having []) (map (group_row aggs []) made)) x k in
-        let w : Has (map (group_row aggs []) made) v.0 × (keeps having [] v.0 ≡ true) = has_filtered (keeps having []) (map (group_row aggs []) made) v.0 v.1 in
-        let z : (d : Group) × Has made d × (group_row aggs [] d ≡ v.0) = mapped_has (group_row aggs []) made v.0 w.0 in
-        let r : (row : Row) × Has (filter (keeps filter_ []) p) row × (items_of (e ∷ es) [] row ≡ z.0.keys) = group_source e es [] (filter (keeps filter_ []) p) z.0 z.1 in
-        let m : Has p r.0 × (keeps filter_ [] r.0 ≡ true) = has_filtered (keeps filter_ []) p r.0 r.1 in
-        let rest : Row = map (aggregate [] z.0.rows) aggs in
-        let same : items_of (e ∷ es) [] r.0 ++ rest ≡ v.0 = ap (λ (ks : Row). ks ++ rest) r.2 ∙ z.2 in
-        (r.0, m.0, m.1, λ single. ap group (read_by items u.0 v.2 same (u.1 r.0 rest single)))
-        ))
-
-    outputs_apart : (grouped : Bool) (keys : List Expr) (aggs : List Agg) (having : Cond) (items : List Expr) (shown : ℕ) → (grouped ≡ true → list_any (λ e. is_of_class firsts at (column_of e)) keys ≡ true) →
-        list_any (λ e. is_of_class firsts at (column_behind grouped keys (column_of e))) (take shown items) ≡ true → ShareNo (λ r. r) (map (item_rows filter_ grouped keys aggs having items []) (map part groups))
-    outputs_apart false keys aggs having items shown g h = items_apart keys aggs having items shown h
-    outputs_apart true keys aggs having items shown g h = groups_apart keys aggs having items shown (g refl) h
-
-    -- where tasks share no rows, their rows can be joined
-    pub apart_serve : (grouped : Bool) (keys : List Expr) (aggs : List Agg) (having : Cond) (items : List Expr) (shown : ℕ) (distinct : Bool) →
-        ((grouped && not (list_any (λ e. is_of_class firsts at (column_of e)) keys)) || (distinct && not (list_any (λ e. is_of_class firsts at (column_behind grouped keys (column_of e))) (take shown items)))) ≡ false →
-        (grouped ≡ true → IsNonEmpty keys × ShareNo (items_of keys []) (map (filter (keeps filter_ [])) (map part groups)))
-        × (distinct ≡ true → ShareNo (λ r. r) (map (item_rows filter_ grouped keys aggs having items []) (map part groups)))
-    apart_serve grouped keys aggs having items shown distinct h =
-        let none = none_shared grouped (list_any (λ e. is_of_class firsts at (column_of e)) keys) distinct (list_any (λ e. is_of_class firsts at (column_behind grouped keys (column_of e))) (take shown items)) h in (
-          λ g. (has_some (λ e. is_of_class firsts at (column_of e)) keys (none.0 g), keys_apart keys (none.0 g)),
-          λ d. outputs_apart grouped keys aggs having items shown none.0 (none.1 d),
-        )
+  -- where tasks share no rows, their rows can be joined
+  pub apart_serve : (grouped : Bool) (keys : List Expr) (aggs : List Agg) (having : Cond) (items : List Expr) (shown : ℕ) (distinct : Bool) →
+      ((grouped && not (list_any (λ e. is_of_class (firsts filter_ from at) at (column_of e)) keys)) || (distinct && not (list_any (λ e. is_of_class (firsts filter_ from at) at (column_behind grouped keys (column_of e))) (take shown items)))) ≡ false →
+      (grouped ≡ true → IsNonEmpty keys × ShareNo (items_of keys []) (map (filter (keeps filter_ [])) (map part groups)))
+      × (distinct ≡ true → ShareNo (λ r. r) (map (item_rows filter_ grouped keys aggs having items []) (map part groups)))
+  apart_serve grouped keys aggs having items shown distinct h =
+      let keyed : Bool = list_any (λ e. is_of_class (firsts filter_ from at) at (column_of e)) keys in
+      let none = none_shared grouped keyed distinct (list_any (λ e. is_of_class (firsts filter_ from at) at (column_behind grouped keys (column_of e))) (take shown items)) h in (
+        λ g. (has_some (λ e. is_of_class (firsts filter_ from at) at (column_of e)) keys (none.0 g), keys_apart keys (none.0 g)),
+        λ d. outputs_apart grouped keys aggs having items shown none.0 (none.1 d),
+      )

@@ -1,9 +1,10 @@
 -- What the task in a group reads of a table are the table's rows that stand there.
-use Rattle.std.proofs.Common.{suc, zero, ◌≡◌, ◌+◌, ◌<◌, ◌≤◌, ◌⊎◌, inl, inr, ℕ, slice_get, true, List, [], ◌∷◌, ◌++◌, length, filter, refl, sym, ◌∙◌, ap, subst, arith, append-nil, eq-eqb}
+use Rattle.std.proofs.Common.{suc, zero, zero-add, ◌≡◌, ◌+◌, ◌<◌, ◌≤◌, ◌⊎◌, inl, inr, ℕ, slice_get, true, List, [], ◌∷◌, ◌++◌, length, filter, refl, sym, ◌∙◌, ap, subst, arith, append-nil, eq-eqb}
 use Rattle.std.specs.Prelude.{nat_eq, not, ◌||◌}
 use Rattle.std.specs.List.{AllByRecursion}
 use Rattle.std.proofs.lemmas.List.Elements.{filter-append}
 use Rattle.std.proofs.lemmas.Bool.Decides.{eqb_tells}
+use Rattle.cq_value.specs.declared.value.Value.{Value}
 use Rattle.cq_meaning.specs.Lists.{Has}
 use Rattle.cq_meaning.specs.Values.{Row, column, table_rows}
 use Rattle.cq_meaning.proofs.RowLaws.{filter_all, filter_none, has_either}
@@ -17,12 +18,13 @@ use Rattle.cq_catalog.specs.declared.info.Place.TheVariants.{Local, Distributed,
 use Rattle.cq_catalog.specs.declared.info.TableInfo.{TableInfo}
 use Rattle.cq_planning.specs.Database.{Held, joined, whole_at, whole, IsOfGroup, IsRowOf, CanHold, shape_in}
 use Rattle.cq_planning.specs.Reaching.{IsAscendingFrom}
+use Rattle.cq_planning.specs.Relations.{distribution_at}
 use Rattle.cq_planning.specs.Touched.{among}
 use Rattle.cq_planning_laws.specs.Laid.{IsColumnOf}
 use Rattle.cq_planning_laws.proofs.Lists.{two_ways, all_weaker}
 use Rattle.cq_planning_laws.proofs.Listed.{listed, listed_at}
 use Rattle.cq_planning_laws.proofs.Statements.{table_at, table_wide, wide_row}
-use Rattle.cq_pushdown_laws.specs.Tables.{task_at, task_from, task_tables, HoldsOnly, side_at}
+use Rattle.cq_pushdown_laws.specs.Tables.{task_at, task_from, task_tables, HoldsOnly, home_in, side_by}
 
 -- ---- groups
 
@@ -32,6 +34,11 @@ among_has g (k ∷ gs) h = elim (eqb_tells g k) [
   | inl y ↦ inl (sym y.1)
   | inr f ↦ inr (among_has g gs (rw f.0 at h))
 ]
+
+pub has_among : (gs : List ℕ) (g : ℕ) → Has gs g → among g gs ≡ true
+has_among [] g h = absurd h
+has_among (k ∷ gs) g (inl e) = let own : nat_eq g k ≡ true = eq-eqb g k (sym e) in rw own refl
+has_among (k ∷ gs) g (inr h) = elim (two_ways (nat_eq g k)) [ inl y ↦ rw y refl | inr n ↦ rw n (has_among gs g h) ]
 
 not_below : (low g : ℕ) (gs : List ℕ) → IsAscendingFrom low gs → Has gs g → low ≤ g
 not_below low g [] all h = absurd h
@@ -109,15 +116,22 @@ task_is c held group k (t ∷ ts) = ap (λ more. (k, task_at c held group k t.pl
 pub task_table_at : (c : Contents) (held : Held) (group table : ℕ) → table_rows (task_tables c held group) table ≡ task_at c held group table (place_at c table)
 task_table_at c held group table = ap (λ tables. table_rows tables table) (task_is c held group 0 c.tables) ∙ listed_at (task_at c held group) (λ t. refl) c.tables table
 
+group_is : (c : Contents) (t at colocation first_shard : ℕ) → place_at c t ≡ Distributed at colocation first_shard → (v : Value) → home_in c colocation v ≡ group_of c t v
+group_is c t at colocation first_shard e v = ap (λ (p : Place). home_in c (colocation_of p) v) (sym e)
+
 module _ (c : Contents) (held : Held) (groups : List ℕ) (can : (g : ℕ) → CanHold c g (held g)) (only : HoldsOnly c held groups) (table : ℕ) where
+  -- where a row stands by its distribution value, whose column is counted from 0 on
+  home_at : (at colocation first_shard : ℕ) → place_at c table ≡ Distributed at colocation first_shard → (row : Row) → home_in c colocation (column row (0 + at)) ≡ group_of c table (column row at)
+  home_at at colocation first_shard e row = (λ k. home_in c colocation (column row (zero-add at k))) ∙ group_is c table at colocation first_shard e (column row at)
+
   -- a row of the table is of the group that holds it
   homed : (at colocation first_shard : ℕ) → place_at c table ≡ Distributed at colocation first_shard →
-      let g = slice_get c.colocations colocation in AreHomed held table (λ r. group_of c table (column r at)) (first_group_in g) (count_in g)
+      let g = slice_get c.colocations colocation in AreHomed held table (λ r. home_in c colocation (column r (0 + at))) (first_group_in g) (count_in g)
   homed at colocation first_shard e h l m =
-      all_weaker (IsRowOf c h table) (λ r. group_of c table (column r at) ≡ h) (λ r k. subst (λ (p : Place). IsOfGroup c h table p r) e k.0) (held h table)
+      all_weaker (IsRowOf c h table) (λ r. home_in c colocation (column r (0 + at)) ≡ h) (λ r k. home_at at colocation first_shard e r ∙ subst (λ (p : Place). IsOfGroup c h table p r) e k.0) (held h table)
       (can h table (subst (λ (p : Place). HasShard (slice_get c.colocations (colocation_of p)) p h) (sym e) (l, m)))
 
-  spread_at : (p : Place) → place_at c table ≡ p → (i : ℕ) → task_at c held i table p ≡ filter (λ x. not (side_at c table p).cut || nat_eq ((side_at c table p).home x) i) (whole_at c held table p)
+  spread_at : (p : Place) → place_at c table ≡ p → (i : ℕ) → task_at c held i table p ≡ filter (λ x. not (side_by c (distribution_at 0 p)).cut || nat_eq ((side_by c (distribution_at 0 p)).home x) i) (whole_at c held table p)
   spread_at Local e i = refl
   spread_at (Reference own shard) e i = sym (filter_all (λ x. true) (held own table) (λ x h. refl))
   spread_at (Distributed at colocation first_shard) e i = elim (where_is i) [
@@ -126,7 +140,7 @@ module _ (c : Contents) (held : Held) (groups : List ℕ) (can : (g : ℕ) → C
   ]
     where
       home : Row → ℕ
-      home r = group_of c table (column r at)
+      home r = home_in c colocation (column r (0 + at))
 
       first : ℕ
       first = first_group_in (slice_get c.colocations colocation)
@@ -142,19 +156,19 @@ module _ (c : Contents) (held : Held) (groups : List ℕ) (can : (g : ℕ) → C
       outside (inr l) h = let a = h.1 in absurd (omega (arith, l, a))
 
   -- what the task in a group reads are the rows that stand there
-  pub spread : (i : ℕ) → table_rows (task_tables c held i) table ≡ filter (λ x. not (side_at c table (place_at c table)).cut || nat_eq ((side_at c table (place_at c table)).home x) i) (table_rows (whole c held) table)
+  pub spread : (i : ℕ) → table_rows (task_tables c held i) table ≡ filter (λ x. not (side_by c (distribution_at 0 (place_at c table))).cut || nat_eq ((side_by c (distribution_at 0 (place_at c table))).home x) i) (table_rows (whole c held) table)
   spread i =
       task_table_at c held i table ∙ spread_at (place_at c table) refl i
-      ∙ ap (filter (λ x. not (side_at c table (place_at c table)).cut || nat_eq ((side_at c table (place_at c table)).home x) i)) (sym (table_at c held table))
+      ∙ ap (filter (λ x. not (side_by c (distribution_at 0 (place_at c table))).cut || nat_eq ((side_by c (distribution_at 0 (place_at c table))).home x) i)) (sym (table_at c held table))
 
   -- each row has the columns of its table
   pub row_long : (n : ℕ) → length (shape_in c table).kinds ≡ n → IsColumnOf n (place_at c table) → (x : Row) → Has (table_rows (whole c held) table) x → length x ≡ n
   row_long n long there x h = at_has (wide_row c held can table) (table_rows (whole c held) table) (table_wide c held can table n there) x h ∙ long
 
   -- a row of a distributed table stands in one of the groups
-  pub row_among : (at colocation first_shard : ℕ) → place_at c table ≡ Distributed at colocation first_shard → (x : Row) → Has (table_rows (whole c held) table) x → among (group_of c table (column x at)) groups ≡ true
+  pub row_among : (at colocation first_shard : ℕ) → place_at c table ≡ Distributed at colocation first_shard → (x : Row) → Has (table_rows (whole c held) table) x → among (home_in c colocation (column x (0 + at))) groups ≡ true
   row_among at colocation first_shard e x h =
-      let home : Row → ℕ = λ r. group_of c table (column r at) in
+      let home : Row → ℕ = λ r. home_in c colocation (column r (0 + at)) in
       let g = slice_get c.colocations colocation in
       let all : AreHomed held table home (first_group_in g) (count_in g) = homed at colocation first_shard e in
       let m : Has (joined held table (first_group_in g) (count_in g)) x = subst (λ rows. Has rows x) (table_at c held table ∙ ap (whole_at c held table) e) h in

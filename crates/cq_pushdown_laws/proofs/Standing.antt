@@ -1,43 +1,29 @@
--- Where a kept row of a FROM of tables stands, by the relations that aren't right sides.
-use Rattle.std.proofs.Common.{◌≡◌, ◌+◌, inl, inr, ℕ, Bool, true, false, List, [], ◌∷◌, ◌++◌, length, take, drop, slice_get, refl, sym, ◌∙◌, ap, arith, eq-eqb, Some, None, is_some}
+-- Where a kept row of a FROM stands, by the relations that aren't right sides.
+use Rattle.std.proofs.Common.{◌≡◌, ◌+◌, inl, inr, ℕ, Bool, true, false, List, [], ◌∷◌, ◌++◌, length, take, drop, refl, sym, ◌∙◌, ap, subst, arith, eq-eqb, Some, None, Option, is_some}
 use Rattle.std.specs.Prelude.{nat_eq, not, ◌&&◌, ◌||◌, ◌↔◌}
 use Rattle.std.specs.List.{AllByRecursion}
-use Rattle.cq_value.specs.declared.value.Value.{Value}
-use Rattle.cq_value.specs.Placement.{token_of}
-use Rattle.cq_tree.specs.declared.query.FromTree.{FromTree, Table, Sub', Result, Cross', Inner', Left', end_of-FromTree, more_of-FromTree}
+use Rattle.cq_tree.specs.declared.query.FromTree.{FromTree, Table, Sub', Result, Cross', Inner', Left', end_of-FromTree, more_of-FromTree, end_of-Query, more_of-Query}
 use Rattle.cq_meaning.specs.Lists.{Has}
-use Rattle.cq_meaning.specs.Values.{Row, column, table_rows}
-use Rattle.cq_meaning.specs.Queries.{columns_in}
+use Rattle.cq_meaning.specs.Values.{Row, column}
+use Rattle.cq_meaning.specs.Queries.{columns_in, from_rows}
 use Rattle.cq_task_laws.specs.Cutting.{width_of, IsChoice, stands}
 use Rattle.cq_task_laws.specs.Tasks.{has_cut}
 use Rattle.cq_task_laws.proofs.CutLaws.{take_left, drop_left, both_true}
-use Rattle.cq_catalog.specs.Contents.{Contents, colocation_of, first_group_in, ends_in}
-use Rattle.cq_catalog.specs.Ranges.{index_in}
-use Rattle.cq_catalog.specs.Placement.{place_at, group_of}
-use Rattle.cq_catalog.specs.declared.info.Place.{Place}
-use Rattle.cq_catalog.specs.declared.info.Place.TheVariants.{Local, Distributed, Reference}
+use Rattle.cq_catalog.specs.Contents.{Contents}
 use Rattle.cq_planning.specs.Conjuncts.{conjuncts, equalities}
-use Rattle.cq_planning.specs.Database.{Held, whole, CanHold}
+use Rattle.cq_planning.specs.Database.{Held, whole}
+use Rattle.cq_planning.specs.Narrowing.{distribution_in}
 use Rattle.cq_planning.specs.Pushable.{relations}
-use Rattle.cq_planning.specs.Relations.{Distribution, OuterJoin, Relation, distribution_at, distribution_of, is_plain, distributions}
+use Rattle.cq_planning.specs.Relations.{Distribution, OuterJoin, Relation, distribution_of, is_plain, distributions}
 use Rattle.cq_planning.specs.Touched.{among}
-use Rattle.cq_planning_laws.specs.Laid.{IsColumnOf, IsLaidFrom}
 use Rattle.cq_planning_laws.proofs.Lists.{two_ways, all_append, all_left, all_right, all_weaker}
 use Rattle.cq_planning_laws.proofs.Rows.{and_true, same_number}
 use Rattle.cq_planning_laws.proofs.Columns.{column_pad}
-use Rattle.cq_pushdown_laws.specs.Pushed.{is_table, joins_tables}
-use Rattle.cq_pushdown_laws.specs.Tables.{HoldsOnly, side_at}
-use Rattle.cq_pushdown_laws.proofs.Spread.{row_among}
-use Rattle.cq_pushdown_laws.proofs.Choices.{IsPart, own, own_width, split}
+use Rattle.cq_pushdown_laws.specs.Pushed.{is_single}
+use Rattle.cq_pushdown_laws.specs.Tables.{home_in, side_by, side_of}
+use Rattle.cq_pushdown_laws.proofs.Choices.{IsPart, IsColumn, IsAmong, IsSpread, AreSpread, own, own_width, split, shifted, single_at, single_is}
 
 -- ---- distribution columns
-
--- the group of a value in a co-location group
-abbrev pub home_in : Contents → ℕ → Value → ℕ
-home_in c colocation v = let g = slice_get c.colocations colocation in first_group_in g + index_in (ends_in g) (token_of v)
-
-pub group_is : (c : Contents) (t at colocation first_shard : ℕ) → place_at c t ≡ Distributed at colocation first_shard → (v : Value) → group_of c t v ≡ home_in c colocation v
-group_is c t at colocation first_shard e v = ap (λ (p : Place). home_in c (colocation_of p) v) e
 
 -- the group of a row by a distribution column
 abbrev pub home_by : Contents → Row → Distribution → ℕ
@@ -63,11 +49,11 @@ never_plain : (b : Bool) → (b && false) ≡ true → ⊥
 never_plain true e = cc
 never_plain false e = cc
 
-right_never : (c : Contents) (P : Relation → Type 0) (f : FromTree) (start : ℕ) (o : OuterJoin) → is_table f ≡ true → AllByRecursion (λ r. is_plain r ≡ true → P r) (relations c f start (Some o))
-right_never c P (Table t n) start o is = (λ plain. absurd (never_plain (is_some (distribution_at start (place_at c t))) plain), tt)
-right_never c P _ start o is = cc
+right_never : (c : Contents) (P : Relation → Type 0) (f : FromTree) (start : ℕ) (o : OuterJoin) → is_single f ≡ true → AllByRecursion (λ r. is_plain r ≡ true → P r) (relations c f start (Some o))
+right_never c P f start o is = subst (AllByRecursion (λ r. is_plain r ≡ true → P r)) (sym (single_is c f start (Some o) is))
+    (λ plain. absurd (never_plain (is_some (shifted start (distribution_in c f 0))) plain), tt)
 
-module _ (c : Contents) (held : Held) (groups : List ℕ) (can : (g : ℕ) → CanHold c g (held g)) (only_here : HoldsOnly c held groups) (whole_row : Row) where
+module _ (c : Contents) (held : Held) (groups : List ℕ) (whole_row : Row) where
   -- ---- one group
 
   module _ (i : ℕ) where
@@ -78,14 +64,20 @@ module _ (c : Contents) (held : Held) (groups : List ℕ) (can : (g : ℕ) → C
     abbrev pub Tells : FromTree → ℕ → Row → Type 0
     Tells f start row = AllByRecursion IsPlainAt (relations c f start None) ↔ (stands (own c held start f) i row ≡ true)
 
-    table_tells : (t n start : ℕ) (row : Row) (p : Place) → place_at c t ≡ p → IsColumnOf n p → IsPart whole_row start n row →
-        IsPlainAt (record { start = start; distribution = distribution_at start p; outer = None }) ↔ ((not (side_at c t p).cut || nat_eq ((side_at c t p).home row) i) ≡ true)
-    table_tells t n start row Local e there part = (λ plain. refl, λ here plain. cc)
-    table_tells t n start row (Reference group shard) e there part = (λ plain. refl, λ here plain. cc)
-    table_tells t n start row (Distributed at colocation first_shard) e there part =
-        let value : column whole_row (start + at) ≡ column row at = part (start + at) (omega arith) (omega (arith, there)) ∙ column_pad start row at in
-        let same : home_in c colocation (column whole_row (start + at)) ≡ group_of c t (column row at) = ap (home_in c colocation) value ∙ sym (group_is c t at colocation first_shard e (column row at)) in
-        (λ plain. eq-eqb (group_of c t (column row at)) i (sym same ∙ plain refl), λ here plain. same ∙ same_number (group_of c t (column row at)) i here)
+    single_tells : (d : Option Distribution) (n start : ℕ) (row : Row) → IsColumn n d → IsPart whole_row start n row →
+        IsPlainAt (single_at start d None) ↔ ((not (side_by c d).cut || nat_eq ((side_by c d).home row) i) ≡ true)
+    single_tells None n start row there part = (λ plain. refl, λ here plain. cc)
+    single_tells (Some d) n start row there part =
+        let value : column whole_row (start + d.column) ≡ column row d.column = part (start + d.column) (omega arith) (omega (arith, there)) ∙ column_pad start row d.column in
+        let same : home_in c d.colocation (column whole_row (start + d.column)) ≡ home_in c d.colocation (column row d.column) = ap (home_in c d.colocation) value in
+        (λ plain. eq-eqb (home_in c d.colocation (column row d.column)) i (sym same ∙ plain refl), λ here plain. same ∙ same_number (home_in c d.colocation (column row d.column)) i here)
+
+    spread_tells : (f : FromTree) (start : ℕ) (row : Row) → IsSpread c held groups f start → IsPart whole_row start (columns_in f) row →
+        AllByRecursion IsPlainAt (relations c f start None) ↔ ((not (side_of c f).cut || nat_eq ((side_of c f).home row) i) ≡ true)
+    spread_tells f start row spread part =
+        let tells = single_tells (distribution_in c f 0) (columns_in f) start row spread.column part in
+        let is = single_is c f start None spread.single in
+        (λ plain. tells.0 (subst (AllByRecursion IsPlainAt) is plain).0, λ here. subst (AllByRecursion IsPlainAt) (sym is) (tells.1 here, tt))
 
     both_tell : (a b : FromTree) (start : ℕ) (l y row : Row) → length l ≡ columns_in a → row ≡ l ++ y → Tells a start l → Tells b (start + columns_in a) y →
         AllByRecursion IsPlainAt (relations c a start None ++ relations c b (start + columns_in a) None)
@@ -103,29 +95,26 @@ module _ (c : Contents) (held : Held) (groups : List ℕ) (can : (g : ℕ) → C
               all_append IsPlainAt ra rb (tells_a.1 (sym in_a ∙ both.0)) (tells_b.1 (sym in_b ∙ both.1))),
         )
 
-    pub row_tells : (f : FromTree) (start : ℕ) (row : Row) → joins_tables f ≡ true → IsLaidFrom c (λ i. 0) f → IsChoice (own c held start f) row → IsPart whole_row start (columns_in f) row → Tells f start row
-    row_tells (Table t n) start row is laid h part = let tells = table_tells t n start row (place_at c t) refl laid.1 part in (λ plain. tells.0 plain.0, λ here. (tells.1 here, tt))
-    row_tells (Sub' p q) start row is laid h part = cc
-    row_tells (Result k n) start row is laid h part = cc
-    row_tells (Cross' p (more_of-FromTree a end_of-FromTree) q (more_of-FromTree b end_of-FromTree)) start row is laid (l, y, ca, cb, m, e) part =
-        let both = and_true (joins_tables a) (joins_tables b) is in
-        let s = split c held groups can only_here whole_row a start (columns_in b) l y row both.0 laid.0 ca e part in
-        both_tell a b start l y row s.long e (row_tells a start l both.0 laid.0 ca s.left_part) (row_tells b (start + columns_in a) y both.1 laid.1 cb s.right_part)
-    row_tells (Inner' p (more_of-FromTree a end_of-FromTree) q (more_of-FromTree b end_of-FromTree) on) start row is laid (l, y, ca, cb, m, e) part =
-        let both = and_true (joins_tables a) (joins_tables b) is in
-        let s = split c held groups can only_here whole_row a start (columns_in b) l y row both.0 laid.0 ca e part in
-        both_tell a b start l y row s.long e (row_tells a start l both.0 laid.0 ca s.left_part) (row_tells b (start + columns_in a) y both.1 laid.1 cb s.right_part)
-    row_tells (Left' p (more_of-FromTree a end_of-FromTree) q (more_of-FromTree b end_of-FromTree) on) start row is laid (l, y, ca, cb, e) part =
-        let both = and_true (joins_tables a) (is_table b) is in
-        let s = split c held groups can only_here whole_row a start (columns_in b) l y row both.0 laid.0 ca e part in
+    pub row_tells : (f : FromTree) (start : ℕ) (row : Row) → AreSpread c held groups f start → IsChoice (own c held start f) row → IsPart whole_row start (columns_in f) row → Tells f start row
+    row_tells (Table t n) start row spread h part = spread_tells (Table t n) start row spread part
+    row_tells (Sub' p (more_of-Query q end_of-Query)) start row spread h part = spread_tells (Sub' p (more_of-Query q end_of-Query)) start row spread part
+    row_tells (Result k n) start row spread h part = absurd spread
+    row_tells (Cross' p (more_of-FromTree a end_of-FromTree) q (more_of-FromTree b end_of-FromTree)) start row spread (l, y, ca, cb, m, e) part =
+        let s = split c held groups whole_row a start (columns_in b) l y row spread.0 ca e part in
+        both_tell a b start l y row s.long e (row_tells a start l spread.0 ca s.left_part) (row_tells b (start + columns_in a) y spread.1 cb s.right_part)
+    row_tells (Inner' p (more_of-FromTree a end_of-FromTree) q (more_of-FromTree b end_of-FromTree) on) start row spread (l, y, ca, cb, m, e) part =
+        let s = split c held groups whole_row a start (columns_in b) l y row spread.0 ca e part in
+        both_tell a b start l y row s.long e (row_tells a start l spread.0 ca s.left_part) (row_tells b (start + columns_in a) y spread.1 cb s.right_part)
+    row_tells (Left' p (more_of-FromTree a end_of-FromTree) q (more_of-FromTree b end_of-FromTree) on) start row spread (l, y, ca, cb, e) part =
+        let s = split c held groups whole_row a start (columns_in b) l y row spread.0 ca e part in
         let w : ℕ = width_of (own c held start a) in
         let o : OuterJoin = record { left = start; equalities = equalities (conjuncts on) } in
         let ra : List Relation = relations c a start None in
         let rb : List Relation = relations c b (start + columns_in a) (Some o) in
         let in_a : stands (own c held start a) i (take w row) ≡ stands (own c held start a) i l = ap (stands (own c held start a) i) (ap (take w) e ∙ take_left l y w (s.long ∙ sym (own_width c held a start))) in
-        let tells = row_tells a start l both.0 laid.0 ca s.left_part in (
+        let tells = row_tells a start l spread.0 ca s.left_part in (
           λ plain. in_a ∙ tells.0 (all_left IsPlainAt ra rb plain),
-          λ here. all_append IsPlainAt ra rb (tells.1 (sym in_a ∙ here)) (right_never c (λ r. home_by c whole_row (distribution_of r) ≡ i) b (start + columns_in a) o both.1),
+          λ here. all_append IsPlainAt ra rb (tells.1 (sym in_a ∙ here)) (right_never c (λ r. home_by c whole_row (distribution_of r) ≡ i) b (start + columns_in a) o spread.1.single),
         )
 
   -- ---- the group is one of these
@@ -134,14 +123,16 @@ module _ (c : Contents) (held : Held) (groups : List ℕ) (can : (g : ℕ) → C
   abbrev pub IsPlainHere : Bool → Relation → Type 0
   IsPlainHere cut r = is_plain r ≡ true → (among (home_by c whole_row (distribution_of r)) groups ≡ true) × (cut ≡ true)
 
-  table_here : (t n start : ℕ) (row : Row) (p : Place) → place_at c t ≡ p → IsColumnOf n p → IsPart whole_row start n row → Has (table_rows (whole c held) t) row →
-      IsPlainHere (side_at c t p).cut (record { start = start; distribution = distribution_at start p; outer = None })
-  table_here t n start row Local e there part h = λ plain. cc
-  table_here t n start row (Reference group shard) e there part h = λ plain. cc
-  table_here t n start row (Distributed at colocation first_shard) e there part h = λ plain.
-      let value : column whole_row (start + at) ≡ column row at = part (start + at) (omega arith) (omega (arith, there)) ∙ column_pad start row at in
-      let same : home_in c colocation (column whole_row (start + at)) ≡ group_of c t (column row at) = ap (home_in c colocation) value ∙ sym (group_is c t at colocation first_shard e (column row at)) in
-      (ap (λ g. among g groups) same ∙ row_among c held groups can only_here t at colocation first_shard e row h, refl)
+  single_here : (d : Option Distribution) (n start : ℕ) (row : Row) → IsColumn n d → IsPart whole_row start n row → IsAmong c groups d row → IsPlainHere (side_by c d).cut (single_at start d None)
+  single_here None n start row there part h = λ plain. cc
+  single_here (Some d) n start row there part h = λ plain.
+      let value : column whole_row (start + d.column) ≡ column row d.column = part (start + d.column) (omega arith) (omega (arith, there)) ∙ column_pad start row d.column in
+      (ap (λ v. among (home_in c d.colocation v) groups) value ∙ h, refl)
+
+  spread_here : (f : FromTree) (start : ℕ) (row : Row) → IsSpread c held groups f start → IsPart whole_row start (columns_in f) row → Has (from_rows f start (whole c held) []) row →
+      AllByRecursion (IsPlainHere (side_of c f).cut) (relations c f start None)
+  spread_here f start row spread part h =
+      subst (AllByRecursion (IsPlainHere (side_of c f).cut)) (sym (single_is c f start None spread.single)) (single_here (distribution_in c f 0) (columns_in f) start row spread.column part (spread.here row h), tt)
 
   both_here : (x y : Bool) (ra rb : List Relation) → AllByRecursion (IsPlainHere x) ra → AllByRecursion (IsPlainHere y) rb → AllByRecursion (IsPlainHere (x || y)) (ra ++ rb)
   both_here x y ra rb ha hb =
@@ -152,26 +143,23 @@ module _ (c : Contents) (held : Held) (groups : List ℕ) (can : (g : ℕ) → C
       either true y e = refl
       either false y e = e
 
-  pub plain_here : (f : FromTree) (start : ℕ) (row : Row) → joins_tables f ≡ true → IsLaidFrom c (λ i. 0) f → IsChoice (own c held start f) row → IsPart whole_row start (columns_in f) row →
+  pub plain_here : (f : FromTree) (start : ℕ) (row : Row) → AreSpread c held groups f start → IsChoice (own c held start f) row → IsPart whole_row start (columns_in f) row →
       AllByRecursion (IsPlainHere (has_cut (own c held start f))) (relations c f start None)
-  plain_here (Table t n) start row is laid h part = (table_here t n start row (place_at c t) refl laid.1 part h, tt)
-  plain_here (Sub' p q) start row is laid h part = cc
-  plain_here (Result k n) start row is laid h part = cc
-  plain_here (Cross' p (more_of-FromTree a end_of-FromTree) q (more_of-FromTree b end_of-FromTree)) start row is laid (l, y, ca, cb, m, e) part =
-      let both = and_true (joins_tables a) (joins_tables b) is in
-      let s = split c held groups can only_here whole_row a start (columns_in b) l y row both.0 laid.0 ca e part in
+  plain_here (Table t n) start row spread h part = spread_here (Table t n) start row spread part h
+  plain_here (Sub' p (more_of-Query q end_of-Query)) start row spread h part = spread_here (Sub' p (more_of-Query q end_of-Query)) start row spread part h
+  plain_here (Result k n) start row spread h part = absurd spread
+  plain_here (Cross' p (more_of-FromTree a end_of-FromTree) q (more_of-FromTree b end_of-FromTree)) start row spread (l, y, ca, cb, m, e) part =
+      let s = split c held groups whole_row a start (columns_in b) l y row spread.0 ca e part in
       both_here (has_cut (own c held start a)) (has_cut (own c held (start + columns_in a) b)) (relations c a start None) (relations c b (start + columns_in a) None)
-      (plain_here a start l both.0 laid.0 ca s.left_part) (plain_here b (start + columns_in a) y both.1 laid.1 cb s.right_part)
-  plain_here (Inner' p (more_of-FromTree a end_of-FromTree) q (more_of-FromTree b end_of-FromTree) on) start row is laid (l, y, ca, cb, m, e) part =
-      let both = and_true (joins_tables a) (joins_tables b) is in
-      let s = split c held groups can only_here whole_row a start (columns_in b) l y row both.0 laid.0 ca e part in
+      (plain_here a start l spread.0 ca s.left_part) (plain_here b (start + columns_in a) y spread.1 cb s.right_part)
+  plain_here (Inner' p (more_of-FromTree a end_of-FromTree) q (more_of-FromTree b end_of-FromTree) on) start row spread (l, y, ca, cb, m, e) part =
+      let s = split c held groups whole_row a start (columns_in b) l y row spread.0 ca e part in
       both_here (has_cut (own c held start a)) (has_cut (own c held (start + columns_in a) b)) (relations c a start None) (relations c b (start + columns_in a) None)
-      (plain_here a start l both.0 laid.0 ca s.left_part) (plain_here b (start + columns_in a) y both.1 laid.1 cb s.right_part)
-  plain_here (Left' p (more_of-FromTree a end_of-FromTree) q (more_of-FromTree b end_of-FromTree) on) start row is laid (l, y, ca, cb, e) part =
-      let both = and_true (joins_tables a) (is_table b) is in
+      (plain_here a start l spread.0 ca s.left_part) (plain_here b (start + columns_in a) y spread.1 cb s.right_part)
+  plain_here (Left' p (more_of-FromTree a end_of-FromTree) q (more_of-FromTree b end_of-FromTree) on) start row spread (l, y, ca, cb, e) part =
       let wa : ℕ = columns_in a in
       let ka : Bool = has_cut (own c held start a) in
       let o : OuterJoin = record { left = start; equalities = equalities (conjuncts on) } in
-      let s = split c held groups can only_here whole_row a start (columns_in b) l y row both.0 laid.0 ca e part in
+      let s = split c held groups whole_row a start (columns_in b) l y row spread.0 ca e part in
       all_append (IsPlainHere ka) (relations c a start None) (relations c b (start + wa) (Some o))
-      (plain_here a start l both.0 laid.0 ca s.left_part) (right_never c (λ r. (among (home_by c whole_row (distribution_of r)) groups ≡ true) × (ka ≡ true)) b (start + wa) o both.1)
+      (plain_here a start l spread.0 ca s.left_part) (right_never c (λ r. (among (home_by c whole_row (distribution_of r)) groups ≡ true) × (ka ≡ true)) b (start + wa) o spread.1.single)

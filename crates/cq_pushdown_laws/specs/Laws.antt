@@ -1,6 +1,8 @@
 -- The laws on pushdown.
 use Rattle.std.specs.Prelude.{◌≡◌, ◌≤◌, ℕ, List, [], length, Bool, true, ◌||◌}
 use Rattle.cq_tree.specs.declared.query.Query.{Query, out-Query}
+use Rattle.cq_meaning.specs.Lists.{Has}
+use Rattle.cq_meaning.specs.Limits.{is_large_from}
 use Rattle.cq_task_laws.specs.Tasks.{TasksServe}
 use Rattle.cq_catalog.specs.Contents.{Contents}
 use Rattle.cq_planning.specs.Database.{Held, CanHold, whole}
@@ -24,3 +26,8 @@ PushdownServes = ServesBy (λ c q. (out-Query q).grouped || (out-Query q).distin
 -- they may only where no key, or with DISTINCT no output, is of the class of the first distribution column, as the plan has it
 abbrev pub PartsServe : Type 0
 PartsServe = ServesBy (λ c q. shares_rows (first_column (plain_in c q)) q)
+
+-- a group of a subquery in the FROM that is too large for a task is too large over all rows
+abbrev pub LargeBelow : Type 0
+LargeBelow = (c : Contents) (q : Query) (held : Held) (groups : List ℕ) → IsLaid c (λ i. 0) q → is_pushed c q ≡ true → ((g : ℕ) → CanHold c g (held g)) → IsAscendingFrom 0 groups → HoldsOnly c held groups →
+    (g : ℕ) → Has groups g → is_large_from (out-Query q).from (task_tables c held g) [] ≡ true → is_large_from (out-Query q).from (whole c held) [] ≡ true

@@ -37,7 +37,8 @@ use Rattle.cq_groups.specs.Reads.{captured_of, groups_in, CanLook, AreShaped, Ar
 use Rattle.cq_groups.proofs.Failing.{fault_is_placed, named}
 use Rattle.cq_groups.proofs.Growth.{got, length_map, journal_at}
 use Rattle.cq_groups.proofs.ReadLaws.{nothing_read}
-use Rattle.cq_rebalance.specs.Loads.{size_seen, node_of_group, node_there, one_of, load_at, whole_look, looks_for}
+use Rattle.cq_cluster.specs.Cluster.{node_of_item, node_in}
+use Rattle.cq_rebalance.specs.Loads.{size_seen, one_of, load_at, whole_look, looks_for}
 use Rattle.cq_rebalance.specs.Planning.{sizes_in, loads_now, StopsPlan, ArePlanned}
 use Rattle.cq_rebalance.proofs.NumberLaws.{groups_looked, distributed_below, loads_apart}
 
@@ -92,19 +93,19 @@ module _ {X : Type 0} (c : Contents) (groups : List (GroupState X)) {nodes : ℕ
       ap (λ (o : Option (GroupState X)). size_seen (captured_of o (tables_in c g))) h.1
       ∙ sizes_from g h.0 h.1 0 (tables_in c g) (all_weaker (λ t. has_shard c g t ≡ true) (λ t. shapes h.0 t ≡ shape_in c t) (λ t s. ((shaped.each g h.0 h.1).tables t s).1) (tables_in c g) (filter_holds (has_shard c g) _))
 
-  sized : (gs : List ℕ) → ((g : ℕ) → among g gs ≡ true → g < c.groups) → map (load_at groups) (map (whole_look c) gs) ≡ map (λ g. record { group = g; node = node_there groups g; size = sizes_in true c groups g }) gs
+  sized : (gs : List ℕ) → ((g : ℕ) → among g gs ≡ true → g < c.groups) → map (load_at groups) (map (whole_look c) gs) ≡ map (λ g. record { group = g; node = node_in groups g; size = sizes_in true c groups g }) gs
   sized [] below = refl
   sized (g ∷ gs) below =
       let size = size_at g (below g (among_here g gs)) in
-      λ i. record { group = g; node = node_there groups g; size = size i } ∷ sized gs (λ h m. below h (among_more h g gs m)) i
+      λ i. record { group = g; node = node_in groups g; size = size i } ∷ sized gs (λ h m. below h (among_more h g gs m)) i
 
   pub loads_by_size : (by_size : Bool) → by_size ≡ true → map (load_at groups) (looks_for c) ≡ loads_now by_size c groups
   loads_by_size true e = sized (distributed_groups c) (distributed_below c)
   loads_by_size false e = cc
 
-  counted : (gs : List ℕ) → map (one_of groups) (map (whole_look c) gs) ≡ map (λ g. record { group = g; node = node_there groups g; size = 1 }) gs
+  counted : (gs : List ℕ) → map (one_of groups) (map (whole_look c) gs) ≡ map (λ g. record { group = g; node = node_in groups g; size = 1 }) gs
   counted [] = refl
-  counted (g ∷ gs) = ap (λ (ls : List Load). record { group = g; node = node_there groups g; size = 1 } ∷ ls) (counted gs)
+  counted (g ∷ gs) = ap (λ (ls : List Load). record { group = g; node = node_in groups g; size = 1 } ∷ ls) (counted gs)
 
   pub loads_by_number : (by_size : Bool) → by_size ≡ false → map (one_of groups) (looks_for c) ≡ loads_now by_size c groups
   loads_by_number true e = cc
@@ -114,10 +115,10 @@ module _ {X : Type 0} (c : Contents) (groups : List (GroupState X)) {nodes : ℕ
 
   module _ (state : X → StoreState) (resting : AreResting state groups) where
     -- each group is where its journal says
-    on_node : (g : ℕ) → g < c.groups → node_there groups g ≡ node_of (journal_in (journals_of groups) g)
+    on_node : (g : ℕ) → g < c.groups → node_in groups g ≡ node_of (journal_in (journals_of groups) g)
     on_node g below =
         let h = its_group g below in
-        ap node_of_group h.1 ∙ sym (resting g h.0 h.1).placed ∙ ap node_of (sym (journal_at groups g h.0 _ h.1))
+        ap node_of_item h.1 ∙ sym (resting g h.0 h.1).placed ∙ ap node_of (sym (journal_at groups g h.0 _ h.1))
 
     pub planned : (by_size : Bool) (loads : List Load) (moves : List Move) → loads ≡ loads_now by_size c groups → moves ≡ greedy loads nodes → ArePlanned by_size c nodes groups moves
     planned by_size loads moves are is = λ run workers. record {
@@ -129,7 +130,7 @@ module _ {X : Type 0} (c : Contents) (groups : List (GroupState X)) {nodes : ℕ
 
 -- where its loads are those of the groups, no two have one group
 pub loads_differ : {X : Type 0} (by_size : Bool) (c : Contents) (groups : List (GroupState X)) (loads : List Load) → loads ≡ loads_now by_size c groups → AreDistinct loads
-loads_differ by_size c groups loads e = subst AreDistinct (sym e) (loads_apart c (node_there groups) (sizes_in by_size c groups))
+loads_differ by_size c groups loads e = subst AreDistinct (sym e) (loads_apart c (node_in groups) (sizes_in by_size c groups))
 
 -- ---- the groups that are read
 

@@ -21,9 +21,7 @@ fn fill(rows: &mut Rows, place: u64, next: Move, report: MoveReport)
     ensures { rows.new ≡ slice_set rows.old place (rebalance_row (record { move = next; report = report_of report })) }
 {
     if let Some(row) = rows.get_mut(place) {
-        row.set(3, Value::Int(i128::from(report.copied)));
-        row.set(4, Value::Int(i128::from(report.caught)));
-        row.set(5, Value::Int(i128::from(report.last)));
+        report.put_into(row, 3);
     }
 }
 

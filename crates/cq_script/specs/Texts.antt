@@ -101,7 +101,6 @@ fault_text faults.ValueOutOfRange = codes "31 value out of range"
 fault_text (faults.Limit what number) = codes "33 limit " ++ what_text what ++ codes " " ++ decimal number
 fault_text (faults.NoNode node) = codes "34 no node " ++ decimal node
 fault_text (faults.Unsupported why) = unsupported_text why
-fault_text faults.NotBuilt = codes "35 not built"
 
 unfoldable pub tag_text : Done → List ℕ
 tag_text CreateTable = codes "CREATE TABLE"

@@ -168,6 +168,5 @@ pub(crate) fn push_fault(out: &mut Vec<u8>, fault: &Fault) -> Result<(), AllocEr
         Fault::Limit { what, number } => push_limit(out, *what, *number),
         Fault::NoNode { node } => push_with(out, b"34 no node ", u64::from(*node)),
         Fault::Unsupported(why) => push_unsupported(out, *why),
-        Fault::NotBuilt => push_words(out, b"35 not built"),
     }
 }

@@ -1,13 +1,10 @@
 -- What the groups hold before each statement of a serial script, and the undistributed database that this forms.
 use Rattle.std.proofs.Common.{suc, zero, ◌≡◌, ◌+◌, inl, inr, ℕ, cond, List, [], ◌∷◌, ◌++◌, length, map, filter, refl, sym, ◌∙◌, ap, subst, arith, Some, None, Option, slice_get}
-use Rattle.std.specs.Prelude.{nat_eq, not}
+use Rattle.std.specs.Prelude.{nat_eq}
 use Rattle.std.specs.List.{AllByRecursion}
 use Rattle.std.proofs.lemmas.Bool.Decides.{eqb_tells}
-use Rattle.std.proofs.lemmas.List.{map-append}
 use Rattle.cq_value.specs.declared.schema.Shape.{Shape}
-use Rattle.cq_value.specs.Tables.{Table, Pair, rows_of}
-use Rattle.cq_tree.specs.declared.expression.Cond.{Cond}
-use Rattle.cq_tree.specs.declared.write.Set.{Set}
+use Rattle.cq_value.specs.Tables.{Table, rows_of}
 use Rattle.cq_tree.specs.declared.write.ShardOp.{ShardOp}
 use Rattle.cq_tree.specs.declared.write.ShardOp.TheVariants.{Insert, Update, Remove}
 use Rattle.cq_tree.specs.declared.write.Reply.{Reply}
@@ -16,9 +13,8 @@ use Rattle.cq_tree.specs.declared.journal.Entry.{Entry}
 use Rattle.cq_tree.specs.declared.journal.EntryKind.{EntryKind}
 use Rattle.cq_tree.specs.declared.journal.EntryKind.TheVariants.{Read, Write, MoveStart, CatchUp, Cutover, MoveStop}
 use Rattle.cq_meaning.specs.Values.{Row, table_rows}
-use Rattle.cq_meaning.specs.Expressions.{keeps}
-use Rattle.cq_meaning.specs.Effects.{effect, reply_of, table_of, repeats, fit_kinds, updated, updates, renewed, is_kept, numbered, with_rows}
-use Rattle.cq_catalog.specs.Contents.{Contents, place_in, colocation_of, first_group_in, count_in}
+use Rattle.cq_meaning.specs.Effects.{effect, reply_of, table_of, repeats, fit_kinds, updates, is_kept}
+use Rattle.cq_catalog.specs.Contents.{Contents, colocation_of, first_group_in, count_in}
 use Rattle.cq_catalog.specs.Placement.{place_at, IsDistributed}
 use Rattle.cq_catalog.specs.declared.info.Colocation.{Colocation}
 use Rattle.cq_catalog.specs.declared.info.Place.{Place}
@@ -32,51 +28,13 @@ use Rattle.cq_history.specs.Run.{Continues}
 use Rattle.cq_history.specs.Journals.{journal_in, cut, kinds_of}
 use Rattle.cq_history.specs.Whole.{held_at}
 use Rattle.cq_history.specs.Legality.{CanFollow, IsLegal}
-use Rattle.cq_history.specs.Standing.{counted}
-use Rattle.cq_history.proofs.Joined.{table_in_whole, joined_none}
+use Rattle.cq_history.proofs.Joined.{table_in_whole, joined_none, at_alike, joined_equal}
 use Rattle.cq_history.proofs.Lists.{two_ways}
-use Rattle.cq_history.proofs.Orders.{joined_equal}
-use Rattle.cq_history.proofs.Replies.{kept_updates, rows-numbered}
+use Rattle.cq_history.proofs.Tables.{there_is}
 use Rattle.cq_serial.proofs.Places.{numbered_who, upto, own_entries, IsRising, IsSerialEntry, upto_next, take_upto, first_own}
 use Rattle.cq_serial.proofs.Quiet.{IsQuiet}
 
 -- ---- effects
-
--- the rows that a write leaves depend on the rows of its table alone
-abbrev renew : Cond → List Set → Row → Row
-renew f sets row = cond (keeps f [] row) (updated sets row) row
-
-abbrev effect_over : ShardOp → List Row → Shape → List Row
-effect_over (Insert table rows) there shape = cond (repeats shape.key there rows) there (there ++ rows)
-effect_over (Update table f sets) there shape = cond (fit_kinds shape.kinds (map (updated sets) (filter (keeps f []) there))) (map (renew f sets) there) there
-effect_over (Remove table f) there shape = filter (λ (row : Row). not (keeps f [] row)) there
-
-rows_of-with_rows : (t : Table) (rows : List Row) → rows_of (with_rows t rows) ≡ rows_of t ++ rows
-rows_of-with_rows t rows = map-append (λ (p : Pair). p.1) t.pairs (numbered t.next rows) ∙ ap (λ v. rows_of t ++ v) (rows-numbered t.next rows)
-
-renewed_rows : (f : Cond) (sets : List Set) (pairs : List Pair) → map (λ (p : Pair). p.1) (map (renewed f sets) pairs) ≡ map (renew f sets) (map (λ (p : Pair). p.1) pairs)
-renewed_rows f sets [] = refl
-renewed_rows f sets (p ∷ pairs) = elim (two_ways (keeps f [] p.1)) [
-  | inl t ↦ rw t (ap (λ v. updated sets p.1 ∷ v) (renewed_rows f sets pairs))
-  | inr n ↦ rw n (ap (λ v. p.1 ∷ v) (renewed_rows f sets pairs))
-]
-
-left_rows : (f : Cond) (pairs : List Pair) → map (λ (p : Pair). p.1) (filter (λ (p : Pair). not (is_kept f p)) pairs) ≡ filter (λ (row : Row). not (keeps f [] row)) (map (λ (p : Pair). p.1) pairs)
-left_rows f [] = refl
-left_rows f (p ∷ pairs) = elim (two_ways (keeps f [] p.1)) [ inl t ↦ rw t (left_rows f pairs) | inr n ↦ rw n (ap (λ v. p.1 ∷ v) (left_rows f pairs)) ]
-
-effect_by_rows : (op : ShardOp) (t : Table) (shape : Shape) → rows_of (effect op t shape) ≡ effect_over op (rows_of t) shape
-effect_by_rows (Insert table rows) t shape = elim (two_ways (repeats shape.key (rows_of t) rows)) [ inl y ↦ rw y refl | inr n ↦ rw n (rows_of-with_rows t rows) ]
-effect_by_rows (Update table f sets) t shape =
-    let same : fit_kinds shape.kinds (map (updated sets) (filter (keeps f []) (rows_of t))) ≡ fit_kinds shape.kinds (updates f sets t.pairs) = ap (fit_kinds shape.kinds) (sym (kept_updates f sets t.pairs)) in
-    elim (two_ways (fit_kinds shape.kinds (updates f sets t.pairs))) [
-      | inl y ↦ rw (y, same ∙ y) (renewed_rows f sets t.pairs)
-      | inr n ↦ rw (n, same ∙ n) refl
-    ]
-effect_by_rows (Remove table f) t shape = left_rows f t.pairs
-
-pub effect_of_counted : (op : ShardOp) (t : Table) (shape : Shape) → rows_of (effect op t shape) ≡ rows_of (effect op (counted (rows_of t)) shape)
-effect_of_counted op t shape = effect_by_rows op t shape ∙ sym (effect_by_rows op (counted (rows_of t)) shape ∙ ap (λ (v : List Row). effect_over op v shape) (rows-numbered 0 (rows_of t)))
 
 -- a refused write leaves its table
 pub refused_leaves : (op : ShardOp) (t : Table) (shape : Shape) (r : Reply) → r ≡ reply_of op t shape → IsRefusal r → effect op t shape ≡ t
@@ -110,22 +68,6 @@ quiet_replays table shape t (e ∷ es) q = ap (λ (v : Table). replay_from table
 
 -- ---- tables of the database
 
--- groups that hold the same of a table
-at_alike : (c : Contents) (a b : Held) (table : ℕ) (p : Place) → ((g : ℕ) → a g table ≡ b g table) → whole_at c a table p ≡ whole_at c b table p
-at_alike c a b table Local e = refl
-at_alike c a b table (Distributed at colocation first_shard) e = joined_equal a b table _ _ (λ g l m. e g)
-at_alike c a b table (Reference group shard) e = e group
-
-looked_alike : (c : Contents) (a b : Held) (k : ℕ) (ts : List TableInfo) (table : ℕ) → ((g : ℕ) → a g table ≡ b g table) → table_rows (whole_from c a k ts) table ≡ table_rows (whole_from c b k ts) table
-looked_alike c a b k [] table e = refl
-looked_alike c a b k (t ∷ ts) table e = elim (eqb_tells k table) [
-  | inl y ↦ rw y.0 (at_alike c a b k t.place (λ g. subst (λ n. a g n ≡ b g n) (sym y.1) (e g)))
-  | inr z ↦ rw z.0 (looked_alike c a b (k + 1) ts table e)
-]
-
-pub whole_alike : (c : Contents) (a b : Held) (table : ℕ) → ((g : ℕ) → a g table ≡ b g table) → table_rows (whole c a) table ≡ table_rows (whole c b) table
-whole_alike c a b table e = looked_alike c a b 0 c.tables table e
-
 -- groups that hold nothing of it
 at_none : (c : Contents) (held : Held) (table : ℕ) (p : Place) → ((g : ℕ) → held g table ≡ []) → whole_at c held table p ≡ []
 at_none c held table Local e = refl
@@ -151,10 +93,6 @@ local_rows c held table local = by_info (slice_get c.tables table) refl
     by_info None s =
         let here : 0 + table ≡ table = omega arith in
         subst (λ n. table_rows (whole c held) n ≡ []) here (not_listed c held 0 table c.tables s)
-
-there_is : (o : Option TableInfo) → (place_in o ≡ Local → ⊥) → (t : TableInfo) × (o ≡ Some t)
-there_is None n = absurd (n refl)
-there_is (Some t) n = (t, refl)
 
 -- ---- before each statement
 

@@ -20,11 +20,12 @@ use Rattle.cq_history.specs.Refusals.{rules}
 use Rattle.cq_history.specs.Standing.{in_journals, StandsIn}
 use Rattle.cq_history.proofs.Later.{continues_same, continues_on}
 use Rattle.cq_history.proofs.Lists.{all_weaker}
+use Rattle.cq_history.proofs.Joined.{whole_alike}
 use Rattle.cq_serial.specs.Serial.{Keeps, SerialFrom}
 use Rattle.cq_serial.specs.Laws.{BeginEmpty, database_of, AnswersAreSerial}
 use Rattle.cq_serial.proofs.Places.{numbered_who, IsRising, IsSerialEntry, rising, serial_entries, upto_first, upto_all, take_upto}
 use Rattle.cq_serial.proofs.Catalogs.{goes_on}
-use Rattle.cq_serial.proofs.Contents.{IsUnwritten, held_before, whole_alike}
+use Rattle.cq_serial.proofs.Contents.{IsUnwritten, held_before}
 use Rattle.cq_serial.proofs.Statements.{stands_gives}
 
 whole_nothing : IsWholeCatalog nothing

@@ -1,5 +1,5 @@
 -- Each statement's answer is one over the undistributed database that the statements before it leave, and so are those of a script.
-use Rattle.std.proofs.Common.{◌≡◌, ◌+◌, inl, inr, ℕ, Bool, true, false, not, cond, List, [], ◌∷◌, length, refl, sym, ◌∙◌, ap, subst, Some, None, Option, eq-eqb}
+use Rattle.std.proofs.Common.{◌≡◌, ◌+◌, inl, inr, ℕ, true, false, cond, List, [], ◌∷◌, length, refl, sym, ◌∙◌, ap, subst, Some, None, Option, eq-eqb}
 use Rattle.std.specs.Prelude.{⊤, nat_eq, option_map}
 use Rattle.std.specs.List.{AllByRecursion}
 use Rattle.std.specs.List.Sorted.{IsPermutation}
@@ -10,7 +10,6 @@ use Rattle.cq_tree.specs.declared.journal.Who.{Who}
 use Rattle.cq_tree.specs.declared.journal.EntryKind.{EntryKind}
 use Rattle.cq_tree.specs.declared.journal.EntryKind.TheVariants.{Write}
 use Rattle.cq_tree.specs.declared.write.ShardOp.{ShardOp}
-use Rattle.cq_tree.specs.declared.write.ShardOp.TheVariants.{Insert, Update, Remove}
 use Rattle.cq_tree.specs.declared.write.Reply.{Reply}
 use Rattle.cq_tree.specs.declared.write.Reply.TheVariants.{Count, Duplicate, OutOfRange}
 use Rattle.cq_tree.specs.declared.statement.Statement.{Statement}
@@ -18,7 +17,7 @@ use Rattle.cq_tree.specs.declared.statement.Statement.TheVariants as statement
 use Rattle.cq_tree.specs.declared.unsupported.Unsupported.{Unsupported}
 use Rattle.cq_meaning.specs.Values.{Row, Tables, table_rows}
 use Rattle.cq_meaning.specs.Effects.{effect, reply_of, table_of}
-use Rattle.cq_catalog.specs.Contents.{Contents, is_local}
+use Rattle.cq_catalog.specs.Contents.{Contents}
 use Rattle.cq_catalog.specs.Placement.{place_at}
 use Rattle.cq_catalog.specs.Whole.{IsWhole as IsWholeCatalog}
 use Rattle.cq_catalog.specs.declared.info.Place.{Place}
@@ -38,10 +37,10 @@ use Rattle.cq_planning_laws.proofs.Writes.{writes_touch}
 use Rattle.cq_history.specs.Run.{Run, Environment, after, Continues}
 use Rattle.cq_history.specs.Journals.{journal_in, cut, kinds_of, TakesPlaces, Step, steps_of, kinds_in}
 use Rattle.cq_history.specs.Legality.{IsLegal, IsKeyedBy, IsKeyed}
-use Rattle.cq_history.specs.Refusals.{rules, is_built, unless_built, refusal_in}
+use Rattle.cq_history.specs.Refusals.{rules, refusal_in}
 use Rattle.cq_history.specs.Standing.{View, in_journals, counted, IsMadeIn, IsRefusedIn, Yields, Runs, RunsUnless, StandsIn}
 use Rattle.cq_history.specs.Laws.{held_after}
-use Rattle.cq_history.proofs.Effects.{parts_have_effect}
+use Rattle.cq_history.proofs.Effects.{parts_have_effect, effect_of_counted}
 use Rattle.cq_history.proofs.Entries.{steps_kinds, with_list}
 use Rattle.cq_history.proofs.Later.{continues_same, can_hold_before}
 use Rattle.cq_history.proofs.Lists.{two_ways}
@@ -50,7 +49,9 @@ use Rattle.cq_history.proofs.Replies.{reply_by_rows, reply_counted}
 use Rattle.cq_serial.specs.Serial.{Keeps, IsWritten, IsSerialAnswer}
 use Rattle.cq_serial.proofs.Places.{numbered_who, IsRising, IsSerialEntry, upto_before}
 use Rattle.cq_serial.proofs.Quiet.{IsQuiet, AreQuiet, enters_none, quiet_runs}
-use Rattle.cq_serial.proofs.Contents.{kept, places, IsUnwritten, same_rows_before, held_before, held_is, rows_are, quiet_keeps, write_keeps, write_replies, effect_of_counted, refused_leaves, whole_alike}
+use Rattle.cq_serial.proofs.Contents.{kept, places, IsUnwritten, same_rows_before, held_before, held_is, rows_are, quiet_keeps, write_keeps, write_replies, refused_leaves}
+use Rattle.cq_history.proofs.Doing.{table_of_part}
+use Rattle.cq_history.proofs.Joined.{whole_alike}
 
 -- ---- refusals by planning
 
@@ -61,20 +62,9 @@ IsCommon fault.Duplicate = ⊥
 IsCommon fault.ValueOutOfRange = ⊥
 IsCommon f = ⊤
 
-planned_fault : (b : Bool) (o : Option Unsupported) (f : Fault) → unless_built b (option_map (λ why. fault.Unsupported why) o) ≡ Some f → IsCommon f
-planned_fault b (Some why) f e = subst IsCommon (let same : fault.Unsupported why ≡ f = cc in same) tt
-planned_fault true None f e = absurd (cc e)
-planned_fault false None f e = subst IsCommon (let same : fault.NotBuilt ≡ f = cc in same) tt
-
-built : (b : Bool) (o : Option Fault) → unless_built b o ≡ None → b ≡ true
-built b (Some f) e = absurd (cc e)
-built true None e = refl
-built false None e = absurd (cc e)
-
-not_local : (p : Place) → not (is_local p) ≡ true → p ≡ Local → ⊥
-not_local Local h e = absurd (cc h)
-not_local (Distributed at colocation first_shard) h e = cc e
-not_local (Reference group shard) h e = cc e
+planned_fault : (o : Option Unsupported) (f : Fault) → option_map (λ why. fault.Unsupported why) o ≡ Some f → IsCommon f
+planned_fault (Some why) f e = subst IsCommon (let same : fault.Unsupported why ≡ f = cc in same) tt
+planned_fault None f e = absurd (cc e)
 
 module _ (c : Contents) (db later : Tables) (keeps : Keeps db later) where
   failed_keeps : (s : Statement) (f : Fault) → IsCommon f → IsSerialAnswer c db (Some s) (answer.Failed f) later
@@ -88,11 +78,6 @@ module _ (c : Contents) (db later : Tables) (keeps : Keeps db later) where
   refused_keeps s f (answer.Table names rows) p y = absurd (cc y)
   refused_keeps s f (answer.Failed fault.Memory) p y = failed_keeps s fault.Memory tt
   refused_keeps s f (answer.Failed x) p y = failed_keeps s x (subst IsCommon (sym (let same : x ≡ f = cc in same)) p)
-
-table_of_part : (c : Contents) (op : ShardOp) (g : ℕ) → table_of (part c op g) ≡ table_of op
-table_of_part c (Insert table rows) g = refl
-table_of_part c (Update table f sets) g = refl
-table_of_part c (Remove table f) g = refl
 
 -- ---- one statement
 
@@ -185,7 +170,10 @@ module _ (run : Run) (last : Contents) (journals : List Journal) (rises : (g : �
                   | inr z ↦ keeps ∙ ap (λ b. cond b (effect p (kept last journals n g table) (shape_in last table)) (kept last journals n g table)) z
                 ]
 
-        module _ (nl : place_at c own ≡ Local → ⊥) (m : ℕ) (h : IsMadeIn c (touched c (statement.Write op)) view op m) where
+        module _ (m : ℕ) (h : IsMadeIn c (touched c (statement.Write op)) view op m) where
+          abbrev nl : place_at c own ≡ Local → ⊥
+          nl = h.shared
+
           abbrev groups : List ℕ
           groups = touched c (statement.Write op)
 
@@ -270,25 +258,24 @@ module _ (run : Run) (last : Contents) (journals : List Journal) (rises : (g : �
       of_view : (g : ℕ) (P : List Step → Type 0) → view.made g P → P (steps_of who (journal_in journals g))
       of_view g P h = h
 
-      runs_give : (s : Statement) (a : Answer) → refusal_in e s ≡ None → Runs (touched c s) run e view s a → Gives (Some s) a
-      runs_give (statement.Select q) (answer.Table names rows) no_refusal h goes on_next =
+      runs_give : (s : Statement) (a : Answer) → Runs (touched c s) run e view s a → Gives (Some s) a
+      runs_give (statement.Select q) (answer.Table names rows) h goes on_next =
           let s = quiet_stays (quiet_runs view (λ g. steps_of who (journal_in journals g)) of_view (touched c (statement.Select q)) run e (statement.Select q) (answer.Table names rows) (λ x. x) h) in
           ((h.0, h.2 (places last journals n) takes, stays_keeps c goes on_next s), stays_unwritten c goes on_next s)
-      runs_give (statement.Select q) (answer.Failed (fault.Limit what.Rows k)) no_refusal h goes on_next =
+      runs_give (statement.Select q) (answer.Failed (fault.Limit what.Rows k)) h goes on_next =
           let s = quiet_stays (quiet_runs view (λ g. steps_of who (journal_in journals g)) of_view (touched c (statement.Select q)) run e (statement.Select q) (answer.Failed (fault.Limit what.Rows k)) (λ x. x) h) in
           ((λ alone simple. h.2 alone simple (places last journals n) takes, stays_keeps c goes on_next s), stays_unwritten c goes on_next s)
-      runs_give (statement.Write op) (answer.Tag t) no_refusal h goes on_next =
-          let nl = not_local (place_at c (table_of op)) (built (is_built c (statement.Write op)) _ no_refusal) in
-          ((h.0, h.1, h.2.replied (places last journals n) takes, made_writes op nl h.0 h.2), made_unwritten op nl h.0 h.2)
-      runs_give (statement.Write op) (answer.Failed fault.Duplicate) no_refusal h goes on_next =
+      runs_give (statement.Write op) (answer.Tag t) h goes on_next =
+          ((h.0, h.1, h.2.replied (places last journals n) takes, made_writes op h.0 h.2), made_unwritten op h.0 h.2)
+      runs_give (statement.Write op) (answer.Failed fault.Duplicate) h goes on_next =
           let s = refused_stays op Duplicate tt h in
           ((h.replied (places last journals n) takes, stays_keeps c goes on_next s), stays_unwritten c goes on_next s)
-      runs_give (statement.Write op) (answer.Failed fault.ValueOutOfRange) no_refusal h goes on_next =
+      runs_give (statement.Write op) (answer.Failed fault.ValueOutOfRange) h goes on_next =
           let s = refused_stays op OutOfRange tt h in
           ((h.replied (places last journals n) takes, stays_keeps c goes on_next s), stays_unwritten c goes on_next s)
-      runs_give (statement.Select q) (answer.Tag t) no_refusal h goes on_next = absurd h
-      runs_give (statement.Write op) (answer.Table names rows) no_refusal h goes on_next = absurd h
-      runs_give s a no_refusal h goes on_next =
+      runs_give (statement.Select q) (answer.Tag t) h goes on_next = absurd h
+      runs_give (statement.Write op) (answer.Table names rows) h goes on_next = absurd h
+      runs_give s a h goes on_next =
           let same = quiet_stays (quiet_runs view (λ g. steps_of who (journal_in journals g)) of_view (touched c s) run e s a (λ x. x) h) in
           (stays_keeps (after e (Some s) a).catalog goes on_next same, stays_unwritten (after e (Some s) a).catalog goes on_next same)
 
@@ -299,9 +286,9 @@ module _ (run : Run) (last : Contents) (journals : List Journal) (rises : (g : �
       stands_gives (Some s) a h goes on_next = by_refusal (refusal_in e s) refl h goes on_next
         where
           by_refusal : (o : Option Fault) → refusal_in e s ≡ o → RunsUnless o (touched c s) run e view s a → Gives (Some s) a
-          by_refusal None is h goes on_next = runs_give s a is h goes on_next
+          by_refusal None is h goes on_next = runs_give s a h goes on_next
           by_refusal (Some f) is h goes on_next =
               let same = quiet_stays (enters_none view (λ g. steps_of who (journal_in journals g)) of_view h.0) in (
-                refused_keeps c db (later (after e (Some s) a).catalog goes on_next) (stays_keeps (after e (Some s) a).catalog goes on_next same) s f a (planned_fault (is_built c s) (refusal_of e.settings.repartition c s) f is) h.1,
+                refused_keeps c db (later (after e (Some s) a).catalog goes on_next) (stays_keeps (after e (Some s) a).catalog goes on_next same) s f a (planned_fault (refusal_of e.settings.repartition c s) f is) h.1,
                 stays_unwritten (after e (Some s) a).catalog goes on_next same,
               )

@@ -38,7 +38,7 @@ use Rattle.cq_cluster.specs.declared.retired.Retired.{Retired}
 use Rattle.cq_bound_laws.specs.Laws.{HasColumns}
 use Rattle.cq_bound_laws.proofs.Statements.{copies_are_there}
 use Rattle.cq_bound_laws.proofs.Copies.{copies_fit, inserts_compute}
-use Rattle.cq_coordinator.specs.Coordination.{IsNoCopy}
+use Rattle.cq_coordinator.specs.Coordination.{IsNoCopy, NeedsNoData}
 use Rattle.cq_session.specs.Responses.{fault_of_copy, insertion, insertion_into, with_data, is_copy, IsThere, tagged, IsTagged}
 use Rattle.cq_session.proofs.ReadingLaws.{computable_read}
 
@@ -130,7 +130,7 @@ module _ (bytes : List ℕ) (tables : List TableInfo) where
 
 -- a COPY that is read names a table that there is
 there_read : (tables : List TableInfo) (a : Ast) (s : Statement) → reading tables a ≡ Ok s → IsThere tables s
-there_read tables a (statement.Copy table columns csv header) is = copies_are_there tables a table columns csv header is
+there_read tables a (statement.Copy table columns csv header) is = (copies_are_there tables a table columns csv header is).0
 there_read tables a (statement.CreateTable name columns key) is = tt
 there_read tables a (statement.Distribute table column count beside) is = tt
 there_read tables a (statement.Reference table) is = tt
@@ -148,8 +148,31 @@ there_in text tables s read means is = let m = subst (Means text tables) is mean
 -- it can be computed and planned
 pub computable_with : (c : Contents) (text bytes : List ℕ) (s : Statement) (read : Result Statement Fault) → IsWhole c → HasColumns c → Means text c.tables read → with_data bytes c.tables read ≡ Ok s → IsComputable c s
 computable_with c text bytes s read whole columns means is = elim (stands_for bytes c.tables read s is) [
-  | inl x ↦ subst (IsComputable c) (sym x.is) (inserts_compute c x.table x.rows whole (copies_fit c.tables x.table x.info bytes x.columns x.csv x.header x.rows x.there x.given))
+  | inl x ↦
+      let m = subst (Means text c.tables) x.copy means in
+      let shared = (copies_are_there c.tables m.tree x.table x.columns x.csv x.header m.reads).1 in
+      subst (IsComputable c) (sym x.is) (inserts_compute c x.table x.rows whole shared (copies_fit c.tables x.table x.info bytes x.columns x.csv x.header x.rows x.there x.given))
   | inr x ↦ computable_read c text s read whole columns means x.0
+]
+
+-- it has no data behind it
+no_copy : (s : Statement) → is_copy (Ok s) ≡ false → NeedsNoData s
+no_copy (statement.Copy table columns csv header) h = absurd (cc h)
+no_copy (statement.CreateTable name columns key) h = tt
+no_copy (statement.Distribute table column count beside) h = tt
+no_copy (statement.Reference table) h = tt
+no_copy (statement.Setting which value) h = tt
+no_copy (statement.Select q) h = tt
+no_copy (statement.Write op) h = tt
+no_copy (statement.Explain q) h = tt
+no_copy (statement.Move shard from to) h = tt
+no_copy (statement.Rebalance by_size) h = tt
+no_copy (statement.RebalancePlan by_size) h = tt
+
+pub no_data_with : (tables : List TableInfo) (bytes : List ℕ) (s : Statement) (read : Result Statement Fault) → with_data bytes tables read ≡ Ok s → NeedsNoData s
+no_data_with tables bytes s read is = elim (stands_for bytes tables read s is) [
+  | inl x ↦ subst NeedsNoData (sym x.is) tt
+  | inr x ↦ no_copy s (ap is_copy (sym x.0) ∙ x.1)
 ]
 
 -- ---- its answer

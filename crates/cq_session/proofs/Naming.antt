@@ -1,5 +1,5 @@
 -- The refusals of a text and of its data name no store.
-use Rattle.std.proofs.Common.{◌≡◌, ℕ, Bool, List, length, subst, refl, Ok, Err, Result, None, Some, Option, slice_get}
+use Rattle.std.proofs.Common.{◌≡◌, ℕ, Bool, List, [], length, subst, refl, Ok, Err, Result, None, Some, Option, slice_get}
 use Rattle.cq_token.specs.declared.token.Token.{Token}
 use Rattle.cq_token.specs.declared.error.LexError.{LexError}
 use Rattle.cq_token.specs.declared.error.LexError.TheVariants as lexing
@@ -87,15 +87,12 @@ copy_named (copying.BadValue row column) = refl
 copy_named (copying.Encoding row) = refl
 copy_named copying.Memory = refl
 
-not_built_named : NamesNoStore fault.NotBuilt
-not_built_named = refl
-
 rows_named : (table : ℕ) (r : Result (List Row) CopyError) (f : Fault) → insertion table r ≡ Err f → NamesNoStore f
 rows_named table (Ok rows) f is = absurd (cc is)
 rows_named table (Err e) f is = subst NamesNoStore (same_error (fault_of_copy e) f is) (copy_named e)
 
 table_named : (o : Option TableInfo) (table : ℕ) (columns : List ℕ) (csv header : Bool) (bytes : List ℕ) (f : Fault) → insertion_into o table columns csv header bytes ≡ Err f → NamesNoStore f
-table_named None table columns csv header bytes f is = subst NamesNoStore (same_error fault.NotBuilt f is) not_built_named
+table_named None table columns csv header bytes f is = subst NamesNoStore (same_error (fault.UnknownTable []) f is) refl
 table_named (Some t) table columns csv header bytes f is = rows_named table (rows_of bytes t columns csv header) f is
 
 data_named : (bytes : List ℕ) (tables : List TableInfo) (f : Fault) (read : Result Statement Fault) → (read ≡ Err f → NamesNoStore f) → with_data bytes tables read ≡ Err f → NamesNoStore f

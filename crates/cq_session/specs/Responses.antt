@@ -1,5 +1,5 @@
 -- What a statement's text and its data were read as, and how that is answered.
-use Rattle.std.specs.Prelude.{◌≡◌, ◌<◌, ⊤, ℕ, Bool, true, false, if◌then◌else◌, List, length, slice_get, Option, Some, None, Result, Ok, Err}
+use Rattle.std.specs.Prelude.{◌≡◌, ◌<◌, ⊤, ℕ, Bool, true, false, if◌then◌else◌, List, [], length, slice_get, Option, Some, None, Result, Ok, Err}
 use Rattle.cq_tree.specs.declared.statement.Statement.{Statement}
 use Rattle.cq_tree.specs.declared.statement.Statement.TheVariants as statement
 use Rattle.cq_tree.specs.declared.write.ShardOp.TheVariants.{Insert}
@@ -33,7 +33,7 @@ insertion table (Err e) = Err (fault_of_copy e)
 
 -- the INSERT of the rows of data into a table that is there, as that of each COPY is
 abbrev pub insertion_into : Option TableInfo → ℕ → List ℕ → Bool → Bool → List ℕ → Result Statement Fault
-insertion_into None table columns csv header bytes = Err fault.NotBuilt
+insertion_into None table columns csv header bytes = Err (fault.UnknownTable [])
 insertion_into (Some t) table columns csv header bytes = insertion table (rows_of bytes t columns csv header)
 
 -- a COPY stands for the INSERT of the rows of its data, and another statement for itself

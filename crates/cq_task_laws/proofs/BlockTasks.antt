@@ -16,6 +16,7 @@ use Rattle.cq_meaning.specs.Sorting.{sorted_by, placed}
 use Rattle.cq_meaning.specs.Queries.{item_rows, from_rows, meaning, AnswersWith}
 use Rattle.cq_meaning.specs.Safety.{IsSafeQuery, IsSafeFrom}
 use Rattle.cq_meaning.proofs.AnswerLaws.{mean_answers}
+use Rattle.cq_meaning.proofs.MapLaws.{has_mapped}
 use Rattle.cq_meaning.proofs.Reorder.{Reordered}
 use Rattle.cq_meaning_laws.proofs.OrderFree.{itemed_width, distinct_width}
 use Rattle.cq_task_laws.specs.Partial.{partial}
@@ -28,23 +29,24 @@ use Rattle.cq_task_laws.proofs.PartLaws.{flat_map_of_map}
 use Rattle.cq_task_laws.proofs.TaskLaws.{from_cut}
 use Rattle.cq_task_laws.proofs.GatherRows.{whole_rows, shown_whole}
 use Rattle.cq_task_laws.proofs.GatherLaws.{part_width, length_push, gather, some_map}
-use Rattle.cq_task_laws.proofs.LargeLaws.{any_at, length_map, large_task, large_together}
+use Rattle.cq_task_laws.proofs.LargeLaws.{any_at, or_true, length_map, large_task, large_together}
 use Rattle.cq_task_laws.proofs.OneTable.{safe_task, safe_merge}
 
--- ---- a query whose FROM has no group that is too large
+-- ---- a query, from its WHERE on
 
--- it is safe where it is from its WHERE on
+-- over the rows of its FROM, where this has no group that is too large
 pub query_over : (q : Query) (db : Tables) (rs : List (List Row)) → is_large_from (from_of q) db rs ≡ false → IsSafeQuery q db rs → IsSafeOver q rs (from_rows (from_of q) 0 db rs)
 query_over (Query' cs ctes ss subs from filter_ grouped keys aggs having items shown distinct order limit offset names) db rs small h = h.1 small
 
-pub over_query : (q : Query) (db : Tables) (rs : List (List Row)) → IsSafeFrom (from_of q) 0 db rs → IsSafeOver q rs (from_rows (from_of q) 0 db rs) → IsSafeQuery q db rs
-over_query (Query' cs ctes ss subs from filter_ grouped keys aggs having items shown distinct order limit offset names) db rs safe h = (safe, λ small. h)
+over_query : (q : Query) (db : Tables) (rs : List (List Row)) → IsSafeFrom (from_of q) 0 db rs → (is_large_from (from_of q) db rs ≡ false → IsSafeOver q rs (from_rows (from_of q) 0 db rs)) → IsSafeQuery q db rs
+over_query (Query' cs ctes ss subs from filter_ grouped keys aggs having items shown distinct order limit offset names) db rs safe h = (safe, h)
 
-pub query_from : (q : Query) (db : Tables) (rs : List (List Row)) → IsSafeQuery q db rs → IsSafeFrom (from_of q) 0 db rs
+query_from : (q : Query) (db : Tables) (rs : List (List Row)) → IsSafeQuery q db rs → IsSafeFrom (from_of q) 0 db rs
 query_from (Query' cs ctes ss subs from filter_ grouped keys aggs having items shown distinct order limit offset names) db rs h = h.0
 
-pub large_over : (q : Query) (db : Tables) (rs : List (List Row)) → is_large_from (from_of q) db rs ≡ false → is_large q db rs ≡ has_large_over q rs (from_rows (from_of q) 0 db rs)
-large_over (Query' cs ctes ss subs from filter_ grouped keys aggs having items shown distinct order limit offset names) db rs small = rw small refl
+-- it has a group that is too large in its FROM or of its own
+pub large_over : (q : Query) (db : Tables) (rs : List (List Row)) → is_large q db rs ≡ (is_large_from (from_of q) db rs || has_large_over q rs (from_rows (from_of q) 0 db rs))
+large_over (Query' cs ctes ss subs from filter_ grouped keys aggs having items shown distinct order limit offset names) db rs = refl
 
 -- its rows are an answer over those of its FROM
 pub answers_over : (q : Query) (db : Tables) (rs : List (List Row)) (rows : List Row) → AnswersOver q rs (from_rows (from_of q) 0 db rs) rows → AnswersWith q db rs rows
@@ -93,7 +95,7 @@ groups_wide (Query' cs ctes ss subs from filter_ true keys aggs having items sho
 
 -- ---- the tasks of a block, over what each reads
 
-module _ (q : Query) (rs : List (List Row)) (small : (db : Tables) → is_large_from (from_of q) db rs ≡ false) (kind : Combine) where
+module _ (q : Query) (rs : List (List Row)) (kind : Combine) where
   -- the rows of a task's FROM
   abbrev pub part_of : Tables → List Row
   part_of db = from_rows (from_of q) 0 db rs
@@ -104,29 +106,32 @@ module _ (q : Query) (rs : List (List Row)) (small : (db : Tables) → is_large_
   abbrev pub is_large_task : Tables → Bool
   is_large_task db = is_large (partial kind q) db rs
 
-  small_task : (db : Tables) → is_large_from (from_of (partial kind q)) db rs ≡ false
-  small_task db = ap (λ f. is_large_from f db rs) (partial_from kind q) ∙ small db
-
   same_part : (db : Tables) → from_rows (from_of (partial kind q)) 0 db rs ≡ part_of db
   same_part db = ap (λ f. from_rows f 0 db rs) (partial_from kind q)
 
   -- where the block is safe, so is its task
-  pub task_safe : (db : Tables) → IsSafeQuery q db rs → IsSafeQuery (partial kind q) db rs
+  task_safe : (db : Tables) → IsSafeQuery q db rs → IsSafeQuery (partial kind q) db rs
   task_safe db h = over_query (partial kind q) db rs (subst (λ f. IsSafeFrom f 0 db rs) (sym (partial_from kind q)) (query_from q db rs h))
-      (subst (IsSafeOver (partial kind q) rs) (sym (same_part db)) (safe_task kind q rs (part_of db) (query_over q db rs (small db) h)))
+      (λ small. subst (IsSafeOver (partial kind q) rs) (sym (same_part db))
+      (safe_task kind q rs (part_of db) (query_over q db rs (ap (λ f. is_large_from f db rs) (sym (partial_from kind q)) ∙ small) h)))
 
   pub tasks_safe : (dbs : List Tables) → AllByRecursion (λ db. IsSafeQuery q db rs) dbs → AllByRecursion (λ db. IsSafeQuery (partial kind q) db rs) dbs
   tasks_safe [] h = tt
   tasks_safe (db ∷ dbs) h = (task_safe db h.0, tasks_safe dbs h.1)
 
-  task_large : (db : Tables) → is_large_task db ≡ has_large_over q rs (part_of db)
-  task_large db = large_over (partial kind q) db rs (small_task db) ∙ (ap (has_large_over (partial kind q) rs) (same_part db) ∙ large_partial kind q rs (part_of db))
+  -- a group that is too large for a task is one of its FROM or one of the block over its rows
+  pub task_large : (db : Tables) → is_large_task db ≡ (is_large_from (from_of q) db rs || has_large_over q rs (part_of db))
+  task_large db = large_over (partial kind q) db rs
+      ∙ (λ i. is_large_from (partial_from kind q i) db rs || (ap (has_large_over (partial kind q) rs) (same_part db) ∙ large_partial kind q rs (part_of db)) i)
 
-  none_large : (dbs : List Tables) → list_any is_large_task dbs ≡ false → AllByRecursion (λ part. has_large_over q rs part ≡ false) (map part_of dbs)
-  none_large [] e = tt
+  -- of tasks none of which has one
+  pub none_large : (dbs : List Tables) → list_any is_large_task dbs ≡ false → AllByRecursion (λ db. is_large_from (from_of q) db rs ≡ false) dbs × AllByRecursion (λ part. has_large_over q rs part ≡ false) (map part_of dbs)
+  none_large [] e = (tt, tt)
   none_large (db ∷ dbs) e =
       let f : (is_large_task db ≡ false) × (list_any is_large_task dbs ≡ false) = or_false (is_large_task db) (list_any is_large_task dbs) e in
-      (sym (task_large db) ∙ f.0, none_large dbs f.1)
+      let own : (is_large_from (from_of q) db rs ≡ false) × (has_large_over q rs (part_of db) ≡ false) = or_false (is_large_from (from_of q) db rs) (has_large_over q rs (part_of db)) (sym (task_large db) ∙ f.0) in
+      let more = none_large dbs f.1 in
+      ((own.0, more.0), (own.1, more.1))
     where
       or_false : (a b : Bool) → (a || b) ≡ false → (a ≡ false) × (b ≡ false)
       or_false true b e = cc
@@ -142,18 +147,17 @@ module _ (q : Query) (rs : List (List Row)) (small : (db : Tables) → is_large_
     pub tasks_gather : (rows : List Row) → Serves kind q rs (map part_of dbs) → GathersTo kind q rs (map task_meaning_of dbs) rows → AnswersOver q rs whole rows
     tasks_gather rows serves gathers = gather kind q rs (map part_of dbs) (map task_meaning_of dbs) whole rows cut serves (all_answer dbs) gathers
 
-    -- a group that is too large for a task or over all tasks is too large for the block
-    pub tasks_large : IsNonEmpty dbs → length dbs ≤ 2 ^ 31 → (list_any is_large_task dbs ≡ true) ⊎ (has_large_together kind q rs (map task_meaning_of dbs) ≡ true) → has_large_over q rs whole ≡ true
+    -- a group of a task's that is too large, or one over all tasks, is too large for the block, unless it is one of its FROM
+    pub tasks_large : IsNonEmpty dbs → length dbs ≤ 2 ^ 31 → (list_any is_large_task dbs ≡ true) ⊎ (has_large_together kind q rs (map task_meaning_of dbs) ≡ true) →
+        ((db : Tables) × Has dbs db × (is_large_from (from_of q) db rs ≡ true)) ⊎ (has_large_over q rs whole ≡ true)
     tasks_large some few (inl e) =
         let u : (db : Tables) × Has dbs db × (is_large_task db ≡ true) = any_at is_large_task dbs e in
-        large_task kind q rs (map part_of dbs) whole (part_of u.0) cut (has_map dbs u.0 u.1) (large_partial kind q rs (part_of u.0) ∙ (sym (task_large u.0) ∙ u.2))
-      where
-        has_map : (ds : List Tables) (d : Tables) → Has ds d → Has (map part_of ds) (part_of d)
-        has_map [] d h = absurd h
-        has_map (e ∷ ds) d (inl same) = inl (ap part_of same)
-        has_map (e ∷ ds) d (inr h) = inr (has_map ds d h)
+        elim (or_true (is_large_from (from_of q) u.0 rs) (has_large_over q rs (part_of u.0)) (sym (task_large u.0) ∙ u.2)) [
+          | inl below ↦ inl (u.0, u.1, below)
+          | inr own ↦ inr (large_task kind q rs (map part_of dbs) whole (part_of u.0) cut (has_mapped part_of dbs u.0 u.1) (large_partial kind q rs (part_of u.0) ∙ own))
+        ]
     tasks_large some few (inr e) =
-        large_together kind q rs (map part_of dbs) (map task_meaning_of dbs) whole cut (some_map part_of dbs some) (subst (λ n. n ≤ 2 ^ 31) (sym (length_map part_of dbs)) few) (all_answer dbs) e
+        inr (large_together kind q rs (map part_of dbs) (map task_meaning_of dbs) whole cut (some_map part_of dbs some) (subst (λ n. n ≤ 2 ^ 31) (sym (length_map part_of dbs)) few) (all_answer dbs) e)
 
 -- what a task gives, as it is made
 task_gives : (q : Query) (rs : List (List Row)) (kind : Combine) → (kind ≡ Nothing → ⊥) → (db : Tables) → meaning (partial kind q) db rs ≡ full_over (partial kind q) rs (from_rows (from_of q) 0 db rs)
@@ -162,16 +166,16 @@ task_gives q rs RowsOnly h db = task_meaning q db rs ∙ in_order (items_in q) (
 task_gives q rs Groups h db = task_group_meaning q db rs ∙ in_order (task_columns q) (full_over (partial Groups q) rs (from_rows (from_of q) 0 db rs)) (groups_wide q rs (from_rows (from_of q) 0 db rs))
 
 -- what tasks give can be merged
-module _ (q : Query) (rs : List (List Row)) (small : (db : Tables) → is_large_from (from_of q) db rs ≡ false) where
-  made : (kind : Combine) → (kind ≡ Nothing → ⊥) → (dbs : List Tables) → map (full_over (partial kind q) rs) (map (part_of q rs small kind) dbs) ≡ map (task_meaning_of q rs small kind) dbs
+module _ (q : Query) (rs : List (List Row)) where
+  made : (kind : Combine) → (kind ≡ Nothing → ⊥) → (dbs : List Tables) → map (full_over (partial kind q) rs) (map (part_of q rs kind) dbs) ≡ map (task_meaning_of q rs kind) dbs
   made kind h [] = refl
   made kind h (db ∷ dbs) = let e : meaning (partial kind q) db rs ≡ full_over (partial kind q) rs (from_rows (from_of q) 0 db rs) = task_gives q rs kind h db in
-      let more : map (full_over (partial kind q) rs) (map (part_of q rs small kind) dbs) ≡ map (task_meaning_of q rs small kind) dbs = made kind h dbs in λ i. sym e i ∷ more i
+      let more : map (full_over (partial kind q) rs) (map (part_of q rs kind) dbs) ≡ map (task_meaning_of q rs kind) dbs = made kind h dbs in λ i. sym e i ∷ more i
 
-  pub tasks_merge : (kind : Combine) (dbs : List Tables) → (kind ≡ Nothing → length dbs ≡ 1) → IsNonEmpty dbs → length dbs ≤ 2 ^ 31 → IsSafeOver q rs (joined (map (part_of q rs small kind) dbs)) →
-      list_any (is_large_task q rs small kind) dbs ≡ false → CanMerge kind q rs (map (task_meaning_of q rs small kind) dbs)
+  pub tasks_merge : (kind : Combine) (dbs : List Tables) → (kind ≡ Nothing → length dbs ≡ 1) → IsNonEmpty dbs → length dbs ≤ 2 ^ 31 → IsSafeOver q rs (joined (map (part_of q rs kind) dbs)) →
+      list_any (is_large_task q rs kind) dbs ≡ false → CanMerge kind q rs (map (task_meaning_of q rs kind) dbs)
   tasks_merge Nothing dbs only some few safe none = length_map (λ db. meaning q db rs) dbs ∙ only refl
   tasks_merge RowsOnly dbs only some few safe none = subst (CanMerge RowsOnly q rs) (made RowsOnly (λ e. cc) dbs)
-      (safe_merge RowsOnly q rs (map (part_of q rs small RowsOnly) dbs) (λ e. cc) (some_map (part_of q rs small RowsOnly) dbs some) (subst (λ n. n ≤ 2 ^ 31) (sym (length_map (part_of q rs small RowsOnly) dbs)) few) safe (none_large q rs small RowsOnly dbs none))
+      (safe_merge RowsOnly q rs (map (part_of q rs RowsOnly) dbs) (λ e. cc) (some_map (part_of q rs RowsOnly) dbs some) (subst (λ n. n ≤ 2 ^ 31) (sym (length_map (part_of q rs RowsOnly) dbs)) few) safe (none_large q rs RowsOnly dbs none).1)
   tasks_merge Groups dbs only some few safe none = subst (CanMerge Groups q rs) (made Groups (λ e. cc) dbs)
-      (safe_merge Groups q rs (map (part_of q rs small Groups) dbs) (λ e. cc) (some_map (part_of q rs small Groups) dbs some) (subst (λ n. n ≤ 2 ^ 31) (sym (length_map (part_of q rs small Groups) dbs)) few) safe (none_large q rs small Groups dbs none))
+      (safe_merge Groups q rs (map (part_of q rs Groups) dbs) (λ e. cc) (some_map (part_of q rs Groups) dbs some) (subst (λ n. n ≤ 2 ^ 31) (sym (length_map (part_of q rs Groups) dbs)) few) safe (none_large q rs Groups dbs none).1)

@@ -1,4 +1,4 @@
-use Rattle.cq_pushdown_laws.proofs.Serving.{pushdown_serves, parts_serve}
+use Rattle.cq_pushdown_laws.proofs.Serving.{large_below, parts_serve, pushdown_serves}
 use Rattle.cq_pushdown_laws.proofs.pushdown_laws.Goals as goal
 
 pub returns-clause-pushdown : goal.returns-clause-pushdown
@@ -6,3 +6,6 @@ returns-clause-pushdown c = pushdown_serves
 
 pub returns-clause-parts : goal.returns-clause-parts
 returns-clause-parts c = parts_serve
+
+pub returns-clause-large : goal.returns-clause-large
+returns-clause-large c = large_below

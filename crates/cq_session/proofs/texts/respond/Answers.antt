@@ -9,7 +9,7 @@ use Rattle.cq_cluster.proofs.AnswerLaws.{other_is_accounted}
 use Rattle.cq_cluster.specs.Accounts.{Retires}
 use Rattle.cq_coordinator.proofs.Naming.{none_retired}
 use Rattle.cq_session.proofs.Naming.{unread_named, unread_names_none}
-use Rattle.cq_session.proofs.Copies.{computable_with, answered_with, accounted_with, retires_with, tagged_is, failed_is_tagged}
+use Rattle.cq_session.proofs.Copies.{computable_with, no_data_with, answered_with, accounted_with, retires_with, tagged_is, failed_is_tagged}
 use Rattle.cq_session.proofs.ReadingLaws.{bound_ok, bound_err}
 use Rattle.cq_session.specs.Responses.{tagged, is_copy, reading_with, IsTagged}
 use Rattle.cq_statement.specs.Reading.{reading_of}
@@ -21,6 +21,11 @@ answer-answer-requires-clause-computable g c = λ lifetimes outlive.
     let tables = c.args.coordinator.now.cluster.catalog.tables in
     computable_with c.args.coordinator.now.cluster.catalog c.args.text.now c.args.copied.now c.in-Ok.read.statement (reading_of c.args.text.now tables) c.requires.sound.whole c.requires.columns
     c.read_with_data.ensures.means c.in-Ok.ensures.ok
+
+pub answer-answer-requires-clause-no_data : goal.answer-answer-requires-clause-no_data
+answer-answer-requires-clause-no_data g c = λ lifetimes outlive.
+    let tables = c.args.coordinator.now.cluster.catalog.tables in
+    no_data_with tables c.args.copied.now c.in-Ok.read.statement (reading_of c.args.text.now tables) c.in-Ok.ensures.ok
 
 pub returns-in-Ok-clause-answered : goal.returns-in-Ok-clause-answered
 returns-in-Ok-clause-answered g c = λ initial entry are.
