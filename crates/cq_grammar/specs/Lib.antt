@@ -2,6 +2,7 @@ pub mod Words
 pub mod Lang
 pub mod Terminals
 pub mod Nodes
+pub mod Roots
 pub mod Grammar
 pub mod Statements
 pub mod Read

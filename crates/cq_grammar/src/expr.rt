@@ -1,3 +1,7 @@
+ghost use Rattle.std.specs.Prelude.{◌≡◌};
+ghost use Rattle.cq_grammar.specs.Roots.{sum_parts, product_parts};
+ghost use Rattle.cq_grammar.specs.declared.expr.Expr.{out-Expr};
+
 use crate::name::Name;
 use crate::query::Select;
 use cq_value::{Boxed, Items, Text};
@@ -37,7 +41,6 @@ pub enum Aggregate {
 /// place of its operator's token, and of its first token where it has none. A chain is one node, with its parts but the
 /// first in `rest`; a chain of one part is that part.
 #[cycle(ast)]
-#[derive(Drop)]
 pub enum Expr {
     Or {
         first: Boxed<Expr>,
@@ -127,9 +130,107 @@ pub enum Expr {
     },
 }
 
+// A drop written by hand is a call: a derived one is written out in each function that lets a tree go, and proved there.
+impl Drop for Expr {
+    #[cycle(ast)]
+    fn drop(self) {
+        match self {
+            Expr::Or { first, rest } => {
+                drop(first);
+                drop(rest);
+            }
+            Expr::And { first, rest } => {
+                drop(first);
+                drop(rest);
+            }
+            Expr::Not { inner, at: _ } => drop(inner),
+            Expr::Is { first, rest } => {
+                drop(first);
+                drop(rest);
+            }
+            Expr::Compare {
+                left,
+                operator: _,
+                right,
+                at: _,
+            } => {
+                drop(left);
+                drop(right);
+            }
+            Expr::Tested {
+                operand,
+                negated: _,
+                test,
+                at: _,
+            } => {
+                drop(operand);
+                drop(test);
+            }
+            Expr::Sum { first, rest } => {
+                drop(first);
+                drop(rest);
+            }
+            Expr::Product { first, rest } => {
+                drop(first);
+                drop(rest);
+            }
+            Expr::Signed {
+                sign: _,
+                inner,
+                at: _,
+            } => drop(inner),
+            Expr::Number { value: _, at: _ } => {}
+            Expr::Quoted { text, at: _ } => drop(text),
+            Expr::Null { at: _ } => {}
+            Expr::Column { column } => drop(column),
+            Expr::ColumnOf { relation, column } => {
+                drop(relation);
+                drop(column);
+            }
+            Expr::Group { inner, at: _ } => drop(inner),
+            Expr::Case {
+                arms,
+                otherwise,
+                at: _,
+            } => {
+                drop(arms);
+                drop(otherwise);
+            }
+            Expr::Coalesce { items, at: _ } => drop(items),
+            Expr::CountAll { at: _ } => {}
+            Expr::Aggregate {
+                function: _,
+                argument,
+                at: _,
+            } => drop(argument),
+        }
+    }
+}
+
+impl Expr {
+    /// The first term of a sum and the later ones, each with its sign; any other tree comes back as it is.
+    pub fn into_sum(self) -> Result<(Boxed<Expr>, Items<Added>), Expr>
+        ensures { result ≡ sum_parts (out-Expr self) self }
+    {
+        match self {
+            Expr::Sum { first, rest } => Ok((first, rest)),
+            other => Err(other),
+        }
+    }
+
+    /// The first factor of a product and the later ones, each with its sign; any other tree comes back as it is.
+    pub fn into_product(self) -> Result<(Boxed<Expr>, Items<Multiplied>), Expr>
+        ensures { result ≡ product_parts (out-Expr self) self }
+    {
+        match self {
+            Expr::Product { first, rest } => Ok((first, rest)),
+            other => Err(other),
+        }
+    }
+}
+
 /// What is asked of the operand of IN or BETWEEN.
 #[cycle(ast)]
-#[derive(Drop)]
 pub enum Test {
     /// `IN ( select )`
     InSelect { select: Boxed<Select> },
@@ -137,6 +238,20 @@ pub enum Test {
     InList { items: Items<Expr> },
     /// `BETWEEN low AND high`
     Between { low: Boxed<Expr>, high: Boxed<Expr> },
+}
+
+impl Drop for Test {
+    #[cycle(ast)]
+    fn drop(self) {
+        match self {
+            Test::InSelect { select } => drop(select),
+            Test::InList { items } => drop(items),
+            Test::Between { low, high } => {
+                drop(low);
+                drop(high);
+            }
+        }
+    }
 }
 
 /// A later part of a chain of AND or OR, with the place of the word before it.

@@ -4,7 +4,6 @@ use cq_value::{Boxed, Items};
 
 /// A SELECT. `at` is the place of its first token.
 #[cycle(ast)]
-#[derive(Drop)]
 pub struct Select {
     pub distinct: bool,
     pub items: Items<Item>,
@@ -20,9 +19,35 @@ pub struct Select {
     pub at: u64,
 }
 
+// A drop written by hand is a call: a derived one is written out in each function that lets a tree go, and proved there.
+impl Drop for Select {
+    #[cycle(ast)]
+    fn drop(self) {
+        let Select {
+            distinct: _,
+            items,
+            from,
+            filter,
+            groups,
+            having,
+            order,
+            limit,
+            offset,
+            at: _,
+        } = self;
+        drop(items);
+        drop(from);
+        drop(filter);
+        drop(groups);
+        drop(having);
+        drop(order);
+        drop(limit);
+        drop(offset);
+    }
+}
+
 /// An item of a select list.
 #[cycle(ast)]
-#[derive(Drop)]
 pub enum Item {
     /// `*`
     All { at: u64 },
@@ -30,6 +55,20 @@ pub enum Item {
     AllOf { relation: Name },
     /// `value AS name`
     Value { value: Expr, name: Option<Name> },
+}
+
+impl Drop for Item {
+    #[cycle(ast)]
+    fn drop(self) {
+        match self {
+            Item::All { at: _ } => {}
+            Item::AllOf { relation } => drop(relation),
+            Item::Value { value, name } => {
+                drop(value);
+                drop(name);
+            }
+        }
+    }
 }
 
 /// A relation of a FROM with its joins.
@@ -42,7 +81,6 @@ pub struct From {
 
 /// A table by its name, or a subquery. `spelled` says whether AS stands before the alias.
 #[cycle(ast)]
-#[derive(Drop)]
 pub enum Relation {
     Table {
         name: Name,
@@ -60,9 +98,34 @@ pub enum Relation {
     },
 }
 
+impl Drop for Relation {
+    #[cycle(ast)]
+    fn drop(self) {
+        match self {
+            Relation::Table { name } => drop(name),
+            Relation::TableAs {
+                name,
+                spelled: _,
+                alias,
+            } => {
+                drop(name);
+                drop(alias);
+            }
+            Relation::Subquery {
+                select,
+                spelled: _,
+                alias,
+                at: _,
+            } => {
+                drop(select);
+                drop(alias);
+            }
+        }
+    }
+}
+
 /// A join to what stands before it. `spelled` says whether INNER or OUTER is written.
 #[cycle(ast)]
-#[derive(Drop)]
 pub enum Join {
     Inner {
         spelled: bool,
@@ -80,6 +143,33 @@ pub enum Join {
         relation: Relation,
         at: u64,
     },
+}
+
+impl Drop for Join {
+    #[cycle(ast)]
+    fn drop(self) {
+        match self {
+            Join::Inner {
+                spelled: _,
+                relation,
+                on,
+                at: _,
+            } => {
+                drop(relation);
+                drop(on);
+            }
+            Join::Left {
+                spelled: _,
+                relation,
+                on,
+                at: _,
+            } => {
+                drop(relation);
+                drop(on);
+            }
+            Join::Cross { relation, at: _ } => drop(relation),
+        }
+    }
 }
 
 #[cycle(ast)]

@@ -5,7 +5,6 @@ use cq_value::{Items, Text};
 
 /// A statement as it is written: a variant for each production of the grammar, with its parts in order. `at` is the place
 /// of its first token.
-#[derive(Drop)]
 pub enum Ast {
     /// `CREATE TABLE name ( columns, PRIMARY KEY ( key ) )`; `key` is empty where that last part isn't written.
     Create {
@@ -61,6 +60,84 @@ pub enum Ast {
     Query {
         query: Query,
     },
+}
+
+// A drop written by hand is a call: a derived one is written out in each function that lets a tree go, and proved there.
+impl Drop for Ast {
+    fn drop(self) {
+        match self {
+            Ast::Create {
+                name,
+                columns,
+                key,
+                at: _,
+            } => {
+                drop(name);
+                drop(columns);
+                drop(key);
+            }
+            Ast::Insert {
+                table,
+                columns,
+                rows,
+                at: _,
+            } => {
+                drop(table);
+                drop(columns);
+                drop(rows);
+            }
+            Ast::Update {
+                table,
+                sets,
+                filter,
+                at: _,
+            } => {
+                drop(table);
+                drop(sets);
+                drop(filter);
+            }
+            Ast::Delete {
+                table,
+                filter,
+                at: _,
+            } => {
+                drop(table);
+                drop(filter);
+            }
+            Ast::Copy {
+                table,
+                columns,
+                spelled: _,
+                options,
+                at: _,
+            } => {
+                drop(table);
+                drop(columns);
+                drop(options);
+            }
+            Ast::Set {
+                space,
+                name,
+                spelled: _,
+                value,
+                at: _,
+            } => {
+                drop(space);
+                drop(name);
+                drop(value);
+            }
+            Ast::Explain { query, at: _ } => drop(query),
+            Ast::Call {
+                function,
+                arguments,
+                at: _,
+            } => {
+                drop(function);
+                drop(arguments);
+            }
+            Ast::Query { query } => drop(query),
+        }
+    }
 }
 
 #[derive(Clone, Copy, Debug, PartialEq, Eq)]

@@ -20,7 +20,7 @@ pub struct Key {
 
 /// The FROM of a query. The columns of a condition count over the whole FROM.
 #[cycle(query)]
-#[derive(Debug, Drop)]
+#[derive(Debug)]
 pub enum FromTree {
     /// The number of a table, and of its columns.
     Table(u32, u32),
@@ -30,6 +30,32 @@ pub enum FromTree {
     Cross(Boxed<FromTree>, Boxed<FromTree>),
     Inner(Boxed<FromTree>, Boxed<FromTree>, Cond),
     Left(Boxed<FromTree>, Boxed<FromTree>, Cond),
+}
+
+// A drop written by hand is a call: a derived one is written out in each function that lets a tree go, and proved there.
+impl Drop for FromTree {
+    #[cycle(query)]
+    fn drop(self) {
+        match self {
+            FromTree::Table(_, _) => {}
+            FromTree::Sub(query) => drop(query),
+            FromTree::Result(_, _) => {}
+            FromTree::Cross(a, b) => {
+                drop(a);
+                drop(b);
+            }
+            FromTree::Inner(a, b, on) => {
+                drop(a);
+                drop(b);
+                drop(on);
+            }
+            FromTree::Left(a, b, on) => {
+                drop(a);
+                drop(b);
+                drop(on);
+            }
+        }
+    }
 }
 
 /// A query.
