@@ -39,7 +39,7 @@ use Rattle.cq_grammar.specs.declared.statement.SettingValue.TheVariants as setti
 use Rattle.cq_grammar.specs.declared.statement.Literal.TheVariants as literals
 use Rattle.cq_grammar.specs.declared.statement.Argument.{Argument}
 use Rattle.cq_token.specs.Printed.{printed}
-use Rattle.cq_spelling.specs.Spelling.{spelling}
+use Rattle.cq_grammar.specs.Spelling.{spelling}
 use Rattle.cq_print.specs.Cases.{word_of}
 use Rattle.cq_print_phrases.specs.declared.forms.Phrase.{Phrase}
 use Rattle.cq_print_phrases.specs.Phrases.{a_name, integer, literal, plain}

@@ -12,3 +12,12 @@ pub mod Commands
 pub mod Wider
 pub mod Whole
 pub mod Shorter
+pub mod Spelled
+pub mod Bared
+pub mod Keeping
+pub mod Letters
+pub mod Terms
+pub mod SpelledExpressions
+pub mod SpelledSelects
+pub mod SpelledStatements
+pub mod Placing

@@ -2,7 +2,6 @@ pub mod Words
 pub mod Lang
 pub mod Terminals
 pub mod Nodes
-pub mod Roots
 pub mod Grammar
 pub mod Statements
 pub mod Read
@@ -10,3 +9,5 @@ pub mod Descent
 pub mod Conditions
 pub mod Reading
 pub mod Verdicts
+pub mod Spelling
+pub mod Bare

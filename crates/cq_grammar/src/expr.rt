@@ -1,7 +1,3 @@
-ghost use Rattle.std.specs.Prelude.{◌≡◌};
-ghost use Rattle.cq_grammar.specs.Roots.{sum_parts, product_parts};
-ghost use Rattle.cq_grammar.specs.declared.expr.Expr.{out-Expr};
-
 use crate::name::Name;
 use crate::query::Select;
 use cq_value::{Boxed, Items, Text};
@@ -203,28 +199,6 @@ impl Drop for Expr {
                 argument,
                 at: _,
             } => drop(argument),
-        }
-    }
-}
-
-impl Expr {
-    /// The first term of a sum and the later ones, each with its sign; any other tree comes back as it is.
-    pub fn into_sum(self) -> Result<(Boxed<Expr>, Items<Added>), Expr>
-        ensures { result ≡ sum_parts (out-Expr self) self }
-    {
-        match self {
-            Expr::Sum { first, rest } => Ok((first, rest)),
-            other => Err(other),
-        }
-    }
-
-    /// The first factor of a product and the later ones, each with its sign; any other tree comes back as it is.
-    pub fn into_product(self) -> Result<(Boxed<Expr>, Items<Multiplied>), Expr>
-        ensures { result ≡ product_parts (out-Expr self) self }
-    {
-        match self {
-            Expr::Product { first, rest } => Ok((first, rest)),
-            other => Err(other),
         }
     }
 }

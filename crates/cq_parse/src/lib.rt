@@ -1,6 +1,5 @@
 //! The parser: it reads a statement's tokens into a syntax tree, or says why and where they are no statement. Each
-//! function mirrors a rule of the grammar's reader, and its contract is that it gives what that rule gives. The printer of
-//! trees, `print_ast`, is handed on.
+//! function mirrors a rule of the grammar's reader, and its contract is that it gives what that rule gives.
 #![tactic(auto)]
 
 mod conditions;
@@ -8,6 +7,5 @@ mod error;
 mod statement;
 mod verdict;
 
-pub use cq_print::print_ast;
 pub use error::ParseError;
 pub use verdict::parse;

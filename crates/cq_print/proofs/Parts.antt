@@ -1,8 +1,8 @@
 -- A SELECT is spelled part by part.
 use Rattle.std.proofs.Common.{◌≡◌, ◌++◌, sym, ◌∙◌, ap, rules}
 use Rattle.cq_grammar.specs.declared.query.Select.{Select, out-Select, roll-Select, the_lemmas}
-use Rattle.cq_spelling.specs.Spelling.{select_spelling}
-use Rattle.cq_spelling.proofs.Spelled.{spelled-Select}
+use Rattle.cq_grammar.specs.Spelling.{select_spelling}
+use Rattle.cq_grammar.proofs.Spelled.{spelled-Select}
 use Rattle.cq_print.specs.Parts.{selection_spelling, grouping_spelling, ordering_spelling}
 
 rolled : (q : Select) → q ≡ roll-Select (out-Select q)

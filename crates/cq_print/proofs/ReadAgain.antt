@@ -11,10 +11,10 @@ use Rattle.cq_token.specs.Printed.{IsKind, printed, kinds}
 use Rattle.cq_token.proofs.Again.{printed_kinds}
 use Rattle.cq_grammar.specs.declared.statement.Ast.{Ast}
 use Rattle.cq_grammar.specs.Verdicts.{Accepted}
-use Rattle.cq_spelling.specs.Spelling.{Kinds, spelling}
-use Rattle.cq_spelling.specs.Bare.{bare}
-use Rattle.cq_spelling.proofs.Keeping.{kinds_of}
-use Rattle.cq_spelling.proofs.Placing.{accepted_spelled, accepted_again}
+use Rattle.cq_grammar.specs.Spelling.{Kinds, spelling}
+use Rattle.cq_grammar.specs.Bare.{bare}
+use Rattle.cq_grammar.proofs.Keeping.{kinds_of}
+use Rattle.cq_grammar.proofs.Placing.{accepted_spelled, accepted_again}
 use Rattle.cq_print.specs.Cases.{word_of}
 
 same_kind : (i : TokenKind) → (word_of i).kind ≡ i

@@ -1,7 +1,7 @@
 -- The parts of a SELECT, each with what it is spelled with.
 use Rattle.std.specs.Prelude.{List, ◌++◌, map, codes}
 use Rattle.cq_grammar.specs.declared.query.Select.{Select, out-Select}
-use Rattle.cq_spelling.specs.Spelling.{
+use Rattle.cq_grammar.specs.Spelling.{
   Kinds,
   word,
   if_written,
@@ -17,7 +17,7 @@ use Rattle.cq_spelling.specs.Spelling.{
   having_spelling,
   order_key_spelling,
 }
-use Rattle.cq_spelling.specs.Bare.{if_any}
+use Rattle.cq_grammar.specs.Bare.{if_any}
 
 -- what is selected from where
 abbrev pub selection_spelling : Select → Kinds

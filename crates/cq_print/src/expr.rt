@@ -1,8 +1,8 @@
 ghost use Rattle.std.specs.Prelude.{◌≡◌, ◌++◌, map, codes, OnOk};
 ghost use Rattle.cq_token.specs.declared.sign.Sign.TheVariants as s;
-ghost use Rattle.cq_spelling.specs.Spelling as spelled;
-ghost use Rattle.cq_spelling.specs.Spelling.{word, sign, named, in_a_row, each_behind, commas, if_some_behind, expr_spelling, test_spelling};
-ghost use Rattle.cq_spelling.specs.Bare.{if_any};
+ghost use Rattle.cq_grammar.specs.Spelling as spelled;
+ghost use Rattle.cq_grammar.specs.Spelling.{word, sign, named, in_a_row, each_behind, commas, if_some_behind, expr_spelling, test_spelling};
+ghost use Rattle.cq_grammar.specs.Bare.{if_any};
 
 use crate::operators::{add_sign, aggregate_word, comparison_sign, multiply_sign};
 use crate::writer::Writer;

@@ -1,5 +1,5 @@
 ghost use Rattle.std.specs.Prelude.{◌≡◌};
-ghost use Rattle.cq_spelling.specs.Spelling as spelled;
+ghost use Rattle.cq_grammar.specs.Spelling as spelled;
 
 use cq_grammar::{AddOperator, Aggregate, Comparison, Direction, MultiplyOperator, TypeName};
 use cq_token::Sign;

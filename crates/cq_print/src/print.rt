@@ -5,8 +5,8 @@ ghost use Rattle.cq_token.specs.Tokens as lexed;
 ghost use Rattle.cq_token.specs.Printed.{IsKind, printed};
 ghost use Rattle.cq_grammar.specs.Verdicts.{Accepted};
 ghost use Rattle.cq_grammar.specs.declared.statement.Ast.{Ast};
-ghost use Rattle.cq_spelling.specs.Spelling.{spelling};
-ghost use Rattle.cq_spelling.specs.Bare.{bare};
+ghost use Rattle.cq_grammar.specs.Spelling.{spelling};
+ghost use Rattle.cq_grammar.specs.Bare.{bare};
 ghost use Rattle.cq_print.specs.Cases as cases;
 
 use crate::reserved::is_reserved;

@@ -1,7 +1,7 @@
 ghost use Rattle.std.specs.Prelude.{◌≡◌, ◌++◌, map, codes, OnOk};
-ghost use Rattle.cq_spelling.specs.Spelling as spelled;
-ghost use Rattle.cq_spelling.specs.Spelling.{word, in_a_row, commas, if_some, if_some_behind, list_behind, expr_spelling, select_spelling};
-ghost use Rattle.cq_spelling.specs.Bare.{if_any};
+ghost use Rattle.cq_grammar.specs.Spelling as spelled;
+ghost use Rattle.cq_grammar.specs.Spelling.{word, in_a_row, commas, if_some, if_some_behind, list_behind, expr_spelling, select_spelling};
+ghost use Rattle.cq_grammar.specs.Bare.{if_any};
 ghost use Rattle.cq_print.specs.Parts.{selection_spelling, grouping_spelling, ordering_spelling};
 
 use crate::operators::direction_word;

@@ -1,7 +1,7 @@
 ghost use Rattle.std.specs.Prelude.{◌≡◌, ◌++◌, map, codes, OnOk};
 ghost use Rattle.cq_token.specs.declared.sign.Sign.TheVariants as s;
-ghost use Rattle.cq_spelling.specs.Spelling as spelled;
-ghost use Rattle.cq_spelling.specs.Spelling.{word, sign, named, commas, in_brackets, list_behind, expr_spelling};
+ghost use Rattle.cq_grammar.specs.Spelling as spelled;
+ghost use Rattle.cq_grammar.specs.Spelling.{word, sign, named, commas, in_brackets, list_behind, expr_spelling};
 
 use crate::operators::type_word;
 use crate::writer::Writer;

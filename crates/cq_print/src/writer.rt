@@ -1,5 +1,5 @@
 ghost use Rattle.std.specs.Prelude.{◌≡◌, [], ◌++◌, IfOk, OnOk};
-ghost use Rattle.cq_spelling.specs.Spelling.{word, sign, named, number, quoted, if_written};
+ghost use Rattle.cq_grammar.specs.Spelling.{word, sign, named, number, quoted, if_written};
 
 use cq_grammar::Name;
 use cq_token::{Sign, TokenKind};

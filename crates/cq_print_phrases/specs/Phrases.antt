@@ -1,5 +1,5 @@
 -- Expressions as they are written, and the brackets that they need.
-use Rattle.std.specs.Prelude.{ℕ, suc, ℤ, pos, negsuc, Bool, true, false, nat_eq, nat_le, if◌then◌else◌, List, [], ◌∷◌, ◌++◌, Option, None, Some, Result, Ok, Err}
+use Rattle.std.specs.Prelude.{ℕ, suc, ℤ, pos, negsuc, Bool, true, false, nat_eq, nat_le, if◌then◌else◌, List, [], ◌∷◌, ◌++◌, Option, None, Some}
 use Rattle.cq_value.specs.declared.value.Value.{Value}
 use Rattle.cq_value.specs.declared.value.Value.TheVariants as value
 use Rattle.cq_grammar.specs.declared.rule.Rule.{Rule}
@@ -24,12 +24,15 @@ use Rattle.cq_grammar.specs.declared.query.GroupBy.{GroupBy}
 use Rattle.cq_grammar.specs.declared.query.Having.{Having}
 use Rattle.cq_grammar.specs.declared.query.OrderKey.{OrderKey}
 use Rattle.cq_grammar.specs.declared.query.Select.{Select}
-use Rattle.cq_grammar.specs.Roots.{Root, sum_parts, product_parts}
 use Rattle.cq_print_phrases.specs.declared.forms.Phrase.{Phrase}
 
 -- all places are 0
 abbrev pub a_name : List ℕ → Name
 a_name text = record { text = text; at = 0 }
+
+-- the layer of a tree at its root
+abbrev pub Root : Type 0
+Root = Expr-F Expr Test Item Join Relation Added Arm Chained Multiplied From GroupBy Having OrderKey Select
 
 -- ---- brackets
 
@@ -110,12 +113,12 @@ Terms = Expr × List Added
 abbrev pub one_term : Expr → Terms
 one_term tree = (in_rule rule.Term tree, [])
 
-abbrev pub terms : Result Terms Expr → Terms
-terms (Ok parts) = parts
-terms (Err tree) = one_term tree
+abbrev pub terms : Root → Expr → Terms
+terms (Expr-F.Sum first rest) tree = (first, rest)
+terms _ tree = one_term tree
 
 abbrev pub terms_of : Phrase → Terms
-terms_of p = if p.own then terms (sum_parts (out-Expr p.tree) p.tree) else one_term p.tree
+terms_of p = if p.own then terms (out-Expr p.tree) p.tree else one_term p.tree
 
 abbrev pub a_term : AddOperator → Expr → Added
 a_term operator tree = roll-Added (record { operator = operator; term = in_rule rule.Term tree; at = 0 })
@@ -136,12 +139,12 @@ Factors = Expr × List Multiplied
 abbrev pub one_factor : Expr → Factors
 one_factor tree = (in_rule rule.Unary tree, [])
 
-abbrev pub factors : Result Factors Expr → Factors
-factors (Ok parts) = parts
-factors (Err tree) = one_factor tree
+abbrev pub factors : Root → Expr → Factors
+factors (Expr-F.Product first rest) tree = (first, rest)
+factors _ tree = one_factor tree
 
 abbrev pub factors_of : Phrase → Factors
-factors_of p = if p.own then factors (product_parts (out-Expr p.tree) p.tree) else one_factor p.tree
+factors_of p = if p.own then factors (out-Expr p.tree) p.tree else one_factor p.tree
 
 abbrev pub a_factor : MultiplyOperator → Expr → Multiplied
 a_factor operator tree = roll-Multiplied (record { operator = operator; factor = in_rule rule.Unary tree; at = 0 })

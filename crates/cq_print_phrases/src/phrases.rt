@@ -2,7 +2,6 @@
 
 ghost use Rattle.std.specs.Prelude.{◌≡◌, ◌++◌, ◌∷◌, [], Ok, IfOk};
 ghost use Rattle.cq_grammar.specs.declared.expr.Expr.{out-Expr};
-ghost use Rattle.cq_grammar.specs.Roots.{sum_parts, product_parts};
 ghost use Rattle.cq_print_phrases.specs.Phrases as written;
 
 use crate::forms::Phrase;
@@ -191,11 +190,11 @@ fn one_term(alloc: Global, tree: Expr) -> Result<Terms, NoMemory>
 
 /// The terms of a sum, or the one that another tree is.
 fn terms(alloc: Global, tree: Expr) -> Result<Terms, NoMemory>
-    ensures { IfOk result (λ p. p ≡ written.terms (sum_parts (out-Expr tree) tree)) }
+    ensures { IfOk result (λ p. p ≡ written.terms (out-Expr tree) tree) }
 {
-    match tree.into_sum() {
-        Ok(parts) => Ok(parts),
-        Err(tree) => one_term(alloc, tree),
+    match tree {
+        Expr::Sum { first, rest } => Ok((first, rest)),
+        tree => one_term(alloc, tree),
     }
 }
 
@@ -257,11 +256,11 @@ fn one_factor(alloc: Global, tree: Expr) -> Result<Factors, NoMemory>
 
 /// The factors of a product, or the one that another tree is.
 fn factors(alloc: Global, tree: Expr) -> Result<Factors, NoMemory>
-    ensures { IfOk result (λ p. p ≡ written.factors (product_parts (out-Expr tree) tree)) }
+    ensures { IfOk result (λ p. p ≡ written.factors (out-Expr tree) tree) }
 {
-    match tree.into_product() {
-        Ok(parts) => Ok(parts),
-        Err(tree) => one_factor(alloc, tree),
+    match tree {
+        Expr::Product { first, rest } => Ok((first, rest)),
+        tree => one_factor(alloc, tree),
     }
 }
 

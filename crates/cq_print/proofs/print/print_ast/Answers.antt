@@ -1,6 +1,6 @@
 use Rattle.std.proofs.Common.{rules, ◌≡◌, map, IfOk, sym, subst}
 use Rattle.cq_token.specs.Printed.{printed}
-use Rattle.cq_spelling.specs.Spelling.{spelling}
+use Rattle.cq_grammar.specs.Spelling.{spelling}
 use Rattle.cq_print.specs.Cases.{word_of}
 use Rattle.cq_print.proofs.ReadAgain.{ReadAgain, read_again, if_ok}
 use Rattle.cq_print.proofs.print.print_ast.Goals as goal

@@ -1,6 +1,6 @@
 use Rattle.std.proofs.Common.{◌≡◌, ◌++◌, map, drop}
 use Rattle.cq_token.specs.declared.sign.Sign.TheVariants as s
-use Rattle.cq_spelling.specs.Spelling.{
+use Rattle.cq_grammar.specs.Spelling.{
   word,
   sign,
   in_a_row,

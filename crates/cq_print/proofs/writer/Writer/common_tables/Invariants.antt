@@ -1,6 +1,6 @@
 use Rattle.std.proofs.Common.{◌≡◌, ◌++◌, map, drop}
 use Rattle.cq_token.specs.declared.sign.Sign.TheVariants as s
-use Rattle.cq_spelling.specs.Spelling.{sign, each_behind, common_table_spelling}
+use Rattle.cq_grammar.specs.Spelling.{sign, each_behind, common_table_spelling}
 use Rattle.cq_print.proofs.writer.Writer.common_tables.Given as goal
 
 abbrev pub invariant-rest : goal.invariant-rest

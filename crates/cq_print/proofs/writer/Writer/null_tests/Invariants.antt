@@ -1,5 +1,5 @@
 use Rattle.std.proofs.Common.{◌≡◌, ◌++◌, map, drop}
-use Rattle.cq_spelling.specs.Spelling.{in_a_row, null_test_spelling}
+use Rattle.cq_grammar.specs.Spelling.{in_a_row, null_test_spelling}
 use Rattle.cq_print.proofs.writer.Writer.null_tests.Given as goal
 
 abbrev pub invariant-tests : goal.invariant-tests

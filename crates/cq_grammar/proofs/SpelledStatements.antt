@@ -26,13 +26,13 @@ use Rattle.cq_grammar.specs.Grammar.{Deeper, expr, select, Tree, below, upto}
 use Rattle.cq_grammar.specs.Nodes as node
 use Rattle.cq_grammar.specs.Statements as r
 use Rattle.cq_grammar.specs.Statements.{max_depth, Written, Shallow}
-use Rattle.cq_spelling.specs.Spelling.{Kinds, word, sign, named, commas, in_brackets, list_behind, type_word, expr_spelling, names_spelling, column_def_spelling, primary_key_spelling, row_values_spelling, set_clause_spelling, filter_spelling, copy_option_spelling, copy_options_spelling, to_spelling, setting_value_spelling, literal_spelling, argument_name_spelling, argument_spelling, common_table_spelling, query_spelling, spelling}
-use Rattle.cq_spelling.specs.Bare.{bare_name, if_any, bare_expr, bare_column_def, bare_row_values, bare_set_clause, bare_copy_option, bare_setting_value, bare_literal, bare_argument, bare_common_table, bare_query, bare}
-use Rattle.cq_spelling.proofs.Letters.{says_word, says_sign}
-use Rattle.cq_spelling.proofs.Terms.{the_word, the_sign, some_keeps, name_keeps, a_name_keeps, number_keeps, quoted_keeps}
-use Rattle.cq_spelling.proofs.Keeping.{kinds_of, Keeps, made_keeps, both_keeps, either_keeps, optional_keeps, behind_keeps, commas_keep, if_known}
-use Rattle.cq_spelling.proofs.Expressions.{KeepsThe, comma, opening, closing, dot, written_known, no_place, still_some, spelling_of, bare_of, or_chain_keeps}
-use Rattle.cq_spelling.proofs.Selects.{as_, select_, from_, on, IsSome, commas_some, behind_some, or_none_keeps, keeps_as, phrases_keep_as, filter_keeps, selected_keeps, below_keeps, upto_keeps}
+use Rattle.cq_grammar.specs.Spelling.{Kinds, word, sign, named, commas, in_brackets, list_behind, type_word, expr_spelling, names_spelling, column_def_spelling, primary_key_spelling, row_values_spelling, set_clause_spelling, filter_spelling, copy_option_spelling, copy_options_spelling, to_spelling, setting_value_spelling, literal_spelling, argument_name_spelling, argument_spelling, common_table_spelling, query_spelling, spelling}
+use Rattle.cq_grammar.specs.Bare.{bare_name, if_any, bare_expr, bare_column_def, bare_row_values, bare_set_clause, bare_copy_option, bare_setting_value, bare_literal, bare_argument, bare_common_table, bare_query, bare}
+use Rattle.cq_grammar.proofs.Letters.{says_word, says_sign}
+use Rattle.cq_grammar.proofs.Terms.{the_word, the_sign, some_keeps, name_keeps, a_name_keeps, number_keeps, quoted_keeps}
+use Rattle.cq_grammar.proofs.Keeping.{kinds_of, Keeps, made_keeps, both_keeps, either_keeps, optional_keeps, behind_keeps, commas_keep, if_known}
+use Rattle.cq_grammar.proofs.SpelledExpressions.{KeepsThe, comma, opening, closing, dot, written_known, no_place, still_some, spelling_of, bare_of, or_chain_keeps}
+use Rattle.cq_grammar.proofs.SpelledSelects.{as_, select_, from_, on, IsSome, commas_some, behind_some, or_none_keeps, keeps_as, phrases_keep_as, filter_keeps, selected_keeps, below_keeps, upto_keeps}
 
 create_ : KeepsThe k.Create (word (codes "create"))
 unfolding of same_kind

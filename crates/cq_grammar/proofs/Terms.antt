@@ -9,10 +9,10 @@ use Rattle.cq_grammar.specs.declared.kind.Kind.TheVariants as k
 use Rattle.cq_grammar.specs.Words.{kind, kind_of, kind_of_sign, of, same_kind, names, column_names, text_of, number_of, reserved_words, other_words}
 use Rattle.cq_grammar.specs.Lang.{One, Made}
 use Rattle.cq_grammar.specs.Terminals.{The, Some-of, place_of, kind_at, name_of, count_of, quoted_of, a_name, a_column_name, a_number, a_quoted}
-use Rattle.cq_spelling.specs.Spelling.{word, sign, named, number, quoted}
-use Rattle.cq_spelling.specs.Bare.{bare_name, bare_count}
-use Rattle.cq_spelling.proofs.Letters.{OfEach, of_each, Says, says_word, says_sign, only, no_words, sign_kinds, sign_only, sign_among, word_no_sign, and_first, and_second, not_true, true_false}
-use Rattle.cq_spelling.proofs.Keeping.{Keeps, one_keeps}
+use Rattle.cq_grammar.specs.Spelling.{word, sign, named, number, quoted}
+use Rattle.cq_grammar.specs.Bare.{bare_name, bare_count}
+use Rattle.cq_grammar.proofs.Letters.{OfEach, of_each, Says, says_word, says_sign, only, no_words, sign_kinds, sign_only, sign_among, word_no_sign, and_first, and_second, not_true, true_false}
+use Rattle.cq_grammar.proofs.Keeping.{Keeps, one_keeps}
 
 this_one : (i : Kind) (t : Token) → of (i ∷ []) (kind t) ≡ true → kind t ≡ i
 this_one i t h = of_each (λ j. j ≡ i) (i ∷ []) (refl, tt) (kind t) h

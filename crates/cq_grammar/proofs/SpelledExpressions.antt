@@ -25,7 +25,7 @@ use Rattle.cq_grammar.specs.Grammar as g
 use Rattle.cq_grammar.specs.declared.rule.Rule.TheVariants.{Or as or_, And as and_, Not as not_, Term as term_, Unary as unary_}
 use Rattle.cq_grammar.specs.Grammar.{Deeper, expr, select, Tree, digits}
 use Rattle.cq_grammar.specs.Nodes as node
-use Rattle.cq_spelling.specs.Spelling.{
+use Rattle.cq_grammar.specs.Spelling.{
   Kinds,
   word,
   sign,
@@ -48,7 +48,7 @@ use Rattle.cq_spelling.specs.Spelling.{
   multiplied_spelling,
   select_spelling,
 }
-use Rattle.cq_spelling.specs.Bare.{
+use Rattle.cq_grammar.specs.Bare.{
   Layer,
   bare_name,
   bare_null_test,
@@ -61,7 +61,7 @@ use Rattle.cq_spelling.specs.Bare.{
   bare_multiplied,
   bare_select,
 }
-use Rattle.cq_spelling.proofs.Spelled.{
+use Rattle.cq_grammar.proofs.Spelled.{
   spelled-Or,
   spelled-And,
   spelled-Not,
@@ -89,7 +89,7 @@ use Rattle.cq_spelling.proofs.Spelled.{
   spelled-Multiplied,
   spelled-Arm,
 }
-use Rattle.cq_spelling.proofs.Bared.{
+use Rattle.cq_grammar.proofs.Bared.{
   bare-Or,
   bare-And,
   bare-Not,
@@ -117,9 +117,9 @@ use Rattle.cq_spelling.proofs.Bared.{
   bare-Multiplied,
   bare-Arm,
 }
-use Rattle.cq_spelling.proofs.Letters.{says_word, says_sign}
-use Rattle.cq_spelling.proofs.Terms.{the_word, the_sign, some_keeps, a_name_keeps, a_column_name_keeps, number_keeps, quoted_keeps}
-use Rattle.cq_spelling.proofs.Keeping.{
+use Rattle.cq_grammar.proofs.Letters.{says_word, says_sign}
+use Rattle.cq_grammar.proofs.Terms.{the_word, the_sign, some_keeps, a_name_keeps, a_column_name_keeps, number_keeps, quoted_keeps}
+use Rattle.cq_grammar.proofs.Keeping.{
   Keeps,
   made_keeps,
   made_of_phrases,

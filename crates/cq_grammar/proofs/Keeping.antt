@@ -10,8 +10,8 @@ use Rattle.cq_grammar.specs.declared.kind.Kind.TheVariants as k
 use Rattle.cq_grammar.specs.Words.{kind, of}
 use Rattle.cq_grammar.specs.Lang.{Lang, One, Both, Either, Made, Nothing, Many, Empty, Optional, Behind, Several}
 use Rattle.cq_grammar.specs.Terminals.{The, Commas}
-use Rattle.cq_spelling.specs.Spelling.{Kinds, sign, in_a_row, each_behind, commas}
-use Rattle.cq_spelling.specs.Bare.{if_any}
+use Rattle.cq_grammar.specs.Spelling.{Kinds, sign, in_a_row, each_behind, commas}
+use Rattle.cq_grammar.specs.Bare.{if_any}
 
 abbrev pub kinds_of : List Token → Kinds
 kinds_of ts = map (λ t. t.kind) ts

@@ -25,8 +25,8 @@ use Rattle.cq_grammar.specs.Terminals.{Some-of, Commas}
 use Rattle.cq_grammar.specs.Grammar as g
 use Rattle.cq_grammar.specs.Grammar.{Deeper, expr, select, Tree, below, upto}
 use Rattle.cq_grammar.specs.Nodes as node
-use Rattle.cq_spelling.specs.Spelling.{Kinds, word, sign, named, number, if_some, list_behind, direction_word, count_spelling, expr_spelling, item_spelling, join_spelling, relation_spelling, from_spelling, group_by_spelling, having_spelling, order_key_spelling, select_spelling}
-use Rattle.cq_spelling.specs.Bare.{
+use Rattle.cq_grammar.specs.Spelling.{Kinds, word, sign, named, number, if_some, list_behind, direction_word, count_spelling, expr_spelling, item_spelling, join_spelling, relation_spelling, from_spelling, group_by_spelling, having_spelling, order_key_spelling, select_spelling}
+use Rattle.cq_grammar.specs.Bare.{
   bare_name,
   bare_count,
   if_any,
@@ -40,7 +40,7 @@ use Rattle.cq_spelling.specs.Bare.{
   bare_order_key,
   bare_select,
 }
-use Rattle.cq_spelling.proofs.Spelled.{
+use Rattle.cq_grammar.proofs.Spelled.{
   spelled-All,
   spelled-AllOf,
   spelled-Value,
@@ -56,7 +56,7 @@ use Rattle.cq_spelling.proofs.Spelled.{
   spelled-OrderKey,
   spelled-Select,
 }
-use Rattle.cq_spelling.proofs.Bared.{
+use Rattle.cq_grammar.proofs.Bared.{
   bare-All,
   bare-AllOf,
   bare-Value,
@@ -72,9 +72,9 @@ use Rattle.cq_spelling.proofs.Bared.{
   bare-OrderKey,
   bare-Select,
 }
-use Rattle.cq_spelling.proofs.Letters.{says_word}
-use Rattle.cq_spelling.proofs.Terms.{the_word, some_keeps, a_name_keeps, a_column_name_keeps, number_keeps}
-use Rattle.cq_spelling.proofs.Keeping.{
+use Rattle.cq_grammar.proofs.Letters.{says_word}
+use Rattle.cq_grammar.proofs.Terms.{the_word, some_keeps, a_name_keeps, a_column_name_keeps, number_keeps}
+use Rattle.cq_grammar.proofs.Keeping.{
   Keeps,
   made_keeps,
   made_of_phrases,
@@ -87,7 +87,7 @@ use Rattle.cq_spelling.proofs.Keeping.{
   commas_keep,
   if_known,
 }
-use Rattle.cq_spelling.proofs.Expressions.{
+use Rattle.cq_grammar.proofs.SpelledExpressions.{
   KeepsThe,
   comma,
   opening,

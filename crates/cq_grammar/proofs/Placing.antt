@@ -35,10 +35,10 @@ use Rattle.cq_grammar.specs.Conditions.{
   miscalled,
 }
 use Rattle.cq_grammar.specs.Verdicts.{Accepted}
-use Rattle.cq_spelling.specs.Spelling.{spelling}
-use Rattle.cq_spelling.specs.Bare.{bare_name, bare_literal, bare_argument, if_any, bare}
-use Rattle.cq_spelling.proofs.Keeping.{kinds_of}
-use Rattle.cq_spelling.proofs.Statements.{shallow_keeps}
+use Rattle.cq_grammar.specs.Spelling.{spelling}
+use Rattle.cq_grammar.specs.Bare.{bare_name, bare_literal, bare_argument, if_any, bare}
+use Rattle.cq_grammar.proofs.Keeping.{kinds_of}
+use Rattle.cq_grammar.proofs.SpelledStatements.{shallow_keeps}
 
 -- ---- words in their places
 

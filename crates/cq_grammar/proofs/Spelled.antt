@@ -28,7 +28,7 @@ use Rattle.cq_grammar.specs.declared.query.GroupBy.{GroupBy, roll-GroupBy}
 use Rattle.cq_grammar.specs.declared.query.Having.{Having, roll-Having}
 use Rattle.cq_grammar.specs.declared.query.OrderKey.{OrderKey, roll-OrderKey}
 use Rattle.cq_grammar.specs.declared.query.Select.{Select, roll-Select}
-use Rattle.cq_spelling.specs.Spelling.{
+use Rattle.cq_grammar.specs.Spelling.{
   word,
   sign,
   named,
@@ -63,7 +63,7 @@ use Rattle.cq_spelling.specs.Spelling.{
   order_key_spelling,
   select_spelling,
 }
-use Rattle.cq_spelling.specs.Bare.{if_any}
+use Rattle.cq_grammar.specs.Bare.{if_any}
 
 pub spelled-Or : (first : Expr) (rest : List Chained) → expr_spelling (e.Or first rest) ≡ expr_spelling first ++ each_behind (word (codes "or")) (map chained_spelling rest)
 spelled-Or first rest = search (rules, the_lemmas)

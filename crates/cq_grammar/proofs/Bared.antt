@@ -27,7 +27,7 @@ use Rattle.cq_grammar.specs.declared.query.GroupBy.{GroupBy, roll-GroupBy}
 use Rattle.cq_grammar.specs.declared.query.Having.{Having, roll-Having}
 use Rattle.cq_grammar.specs.declared.query.OrderKey.{OrderKey, roll-OrderKey}
 use Rattle.cq_grammar.specs.declared.query.Select.{Select, roll-Select}
-use Rattle.cq_spelling.specs.Bare.{
+use Rattle.cq_grammar.specs.Bare.{
   bare_name,
   bare_count,
   bare_null_test,

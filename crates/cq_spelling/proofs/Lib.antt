@@ -1,9 +1,0 @@
-pub mod Spelled
-pub mod Bared
-pub mod Keeping
-pub mod Letters
-pub mod Terms
-pub mod Expressions
-pub mod Selects
-pub mod Statements
-pub mod Placing
