@@ -13,7 +13,7 @@ use cq_token::Sign;
 use cq_value::{Items, NoMemory};
 
 impl Writer {
-    #[tactic(auto, unfolding(cq_spelling::specs::Spelling::spelling))]
+    #[tactic(auto, unfolding(cq_grammar::specs::Spelling::spelling))]
     pub(crate) fn statement(&mut self, statement: &Ast) -> Result<(), NoMemory>
         ensures { OnOk result (self.new ≡ self.old ++ spelled.spelling statement.now) }
     {
