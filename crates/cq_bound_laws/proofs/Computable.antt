@@ -23,10 +23,10 @@ use Rattle.cq_planning_laws.proofs.Laid.{bound_is_laid}
 use Rattle.cq_planning_laws.proofs.Statements.{queries_narrow, large_narrow}
 use Rattle.cq_planning_laws.proofs.Writes.{writes_touch}
 use Rattle.cq_reading.specs.Statements.{reading}
-use Rattle.cq_typing_laws.specs.Queries.{over, IsTypedWrite}
-use Rattle.cq_text_typing.proofs.Texts.{text_writes_typed}
-use Rattle.cq_written_laws.specs.TextLaws.{Spells}
-use Rattle.cq_written_laws.proofs.Texts.{text_writes_bound, text_statements_bound}
+use Rattle.cq_reading_laws.specs.TypedQueries.{over, IsTypedWrite}
+use Rattle.cq_reading_laws.proofs.TextTypingTexts.{text_writes_typed}
+use Rattle.cq_reading_laws.specs.TextLaws.{Spells}
+use Rattle.cq_reading_laws.proofs.WrittenTexts.{text_writes_bound, text_statements_bound}
 use Rattle.cq_history.specs.Computable.{column_bits, AreWithin, IsReadable, FitsTable, IsWritable, IsComputable}
 use Rattle.cq_bound_laws.specs.Laws.{UpdatesSetSorts, HasColumns, TextsCompute}
 use Rattle.cq_bound_laws.proofs.Sorts.{typed_sets_sorts}

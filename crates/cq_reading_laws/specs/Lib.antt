@@ -6,3 +6,10 @@ pub mod SelectLaws
 pub mod WriteLaws
 pub mod QueryLaws
 pub mod StepLaws
+pub mod Typing
+pub mod TypedQueries
+pub mod Reach
+pub mod TypingLaws
+pub mod WrittenLaws
+pub mod TextLaws
+pub mod TextTypingLaws

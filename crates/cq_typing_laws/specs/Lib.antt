@@ -1,4 +1,0 @@
-pub mod Typing
-pub mod Queries
-pub mod Reach
-pub mod Laws

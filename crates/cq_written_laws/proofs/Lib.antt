@@ -1,9 +1,0 @@
-pub mod Pieces
-pub mod Nodes
-pub mod Truths
-pub mod Numbers
-pub mod Expressions
-pub mod Selects
-pub mod Statements
-pub mod Endings
-pub mod Texts
