@@ -11,3 +11,4 @@ pub mod Limits
 pub mod Safety
 pub mod Widths
 pub mod Effects
+pub mod Chains

@@ -6,7 +6,7 @@ use Rattle.cq_tree.specs.declared.expression.Op.TheVariants.{Eq}
 use Rattle.cq_tree.specs.declared.expression.Expr.{Literal, Column}
 use Rattle.cq_tree.specs.declared.expression.Cond.{Cond, Compare, Or}
 use Rattle.cq_tree.proofs.Opened.{or_is}
-use Rattle.cq_reading.specs.Rules.{halves, halved}
+use Rattle.cq_meaning.specs.Chains.{halves, halved}
 use Rattle.cq_planning.specs.Conjuncts.{in_list, both_halves}
 
 in_list_or : (a b : Cond) → in_list (Or a b) ≡ both_halves (in_list a) (in_list b)

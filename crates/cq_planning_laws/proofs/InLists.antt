@@ -6,7 +6,7 @@ use Rattle.cq_tree.specs.declared.expression.Expr.{Expr, Literal, Column}
 use Rattle.cq_tree.specs.declared.expression.Cond.{Cond, Compare, Or, Or', end_of-Cond, more_of-Cond, roll-Cond, out-Cond, roll-out-Cond}
 use Rattle.cq_tree.specs.declared.expression.Cond.TheBlock.{shown-the_row-Cond-0}
 use denote.Hole.Carrier.{roll, out, shown}
-use Rattle.cq_reading.specs.Rules.{halves}
+use Rattle.cq_meaning.specs.Chains.{halves}
 use Rattle.cq_planning.specs.Conjuncts.{column_of, literal_of, both_of, one_value, both_halves, in_list}
 use Rattle.cq_planning_laws.specs.Laws.{InsAreExact}
 use Rattle.cq_planning_laws.proofs.Halves.{equal_to, in_is_found}

@@ -19,7 +19,7 @@ use Rattle.cq_catalog.specs.Contents.{Contents}
 use Rattle.cq_catalog.specs.Placement.{place_at}
 use Rattle.cq_catalog.specs.Whole.{IsWhole}
 use Rattle.cq_catalog.specs.declared.info.Place.TheVariants.{Local}
-use Rattle.cq_reading.specs.Rules.{halved}
+use Rattle.cq_meaning.specs.Chains.{halved}
 use Rattle.cq_planning.specs.Conjuncts.{in_list}
 use Rattle.cq_planning.specs.Classes.{Connected, first_of_class}
 use Rattle.cq_planning.specs.ValueSets.{ascending, IsAscending, IsAscendingSet}

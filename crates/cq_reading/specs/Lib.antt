@@ -11,3 +11,4 @@ pub mod Steps
 pub mod Titles
 pub mod Walk
 pub mod Widths
+pub mod Faults

@@ -19,6 +19,7 @@ use Rattle.cq_grammar.specs.declared.expr.Comparison.{Comparison}
 use Rattle.cq_grammar.specs.declared.expr.Comparison.TheVariants as comparison
 use Rattle.cq_grammar.specs.declared.expr.Aggregate.{Aggregate}
 use Rattle.cq_grammar.specs.declared.expr.Aggregate.TheVariants as aggregate
+pub use Rattle.cq_meaning.specs.Chains.{joined_by, halves, halved}
 use Rattle.cq_reading.specs.declared.bound.Found.{Found}
 use Rattle.cq_reading.specs.declared.bound.Type.TheVariants as type
 use Rattle.cq_reading.specs.declared.bound.Bound.{Bound}
@@ -106,23 +107,7 @@ abbrev pub between : Bool → Bound → Bound → Bound → ℕ → Reading Boun
 between negate x a b at =
     condition (negated_if negate (And (Compare op.Ge (expr_of x) (expr_of a)) (Compare op.Le (expr_of x) (expr_of b)))) (agree (x ∷ a ∷ b ∷ [])) at
 
--- ---- chains: the first n - n / 2 parts and the last n / 2, again and again
-
-abbrev pub joined_by : Bool → Cond → Cond → Cond
-joined_by true c d = Or c d
-joined_by false c d = And c d
-
--- at most so many times
-abbrev pub halves : ℕ → Bool → List Cond → Cond
-halves most any [] = Always
-halves most any (c ∷ []) = c
-halves zero any (c ∷ d ∷ more) = Always
-halves (suc most) any (c ∷ d ∷ more) =
-    let cs = c ∷ d ∷ more in let n = length cs in
-    joined_by any (halves most any (take (n - n / 2) cs)) (halves most any (drop (n - n / 2) cs))
-
-abbrev pub halved : Bool → List Cond → Cond
-halved any cs = halves (length cs) any cs
+-- ---- chains
 
 -- `x IN (a, b)` is `x = a OR x = b`, of operands that can all be compared with each other
 abbrev pub listed : Bool → Bound → List Bound → ℕ → Reading Bound

@@ -1,8 +1,9 @@
 //! What a syntax tree stands for over the tables that there are: a bound statement, or the first refusal of the walk. Types and
-//! definitions; no code.
+//! definitions, and how a refusal becomes a fault.
 #![tactic(auto)]
 
 mod bound;
+mod conversion;
 mod error;
 mod scope;
 

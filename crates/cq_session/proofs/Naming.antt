@@ -15,7 +15,8 @@ use Rattle.cq_answer.specs.declared.answer.Answer.{Answer}
 use Rattle.cq_answer.specs.declared.answer.Answer.TheVariants as answer
 use Rattle.cq_answer.specs.declared.fault.Fault.{Fault}
 use Rattle.cq_answer.specs.declared.fault.Fault.TheVariants as fault
-use Rattle.cq_answer.specs.Faults.{fault_of_lexing, fault_of_bind}
+use Rattle.cq_answer.specs.Faults.{fault_of_lexing}
+use Rattle.cq_reading.specs.Faults.{fault_of_bind}
 use Rattle.cq_statement.specs.Reading.{fault_of_complaint, of_reading, of_verdict, of_tokens, reading_of}
 use Rattle.cq_statement.specs.Finding.{Reads}
 use Rattle.cq_history.specs.Faults.{NamesNoStore}

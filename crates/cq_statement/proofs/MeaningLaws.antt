@@ -13,7 +13,8 @@ use Rattle.cq_reading.specs.declared.error.BindError.{BindError}
 use Rattle.cq_reading.specs.declared.error.BindError.TheVariants as binding
 use Rattle.cq_reading.specs.declared.error.Limited.TheVariants as limited
 use Rattle.cq_reading.specs.Statements.{reading}
-use Rattle.cq_answer.specs.Faults.{fault_of_lexing, what_of_bind, fault_of_bind}
+use Rattle.cq_answer.specs.Faults.{fault_of_lexing}
+use Rattle.cq_reading.specs.Faults.{what_of_bind, fault_of_bind}
 use Rattle.cq_statement.specs.Meanings.{IsTree, Means}
 use Rattle.cq_statement.specs.Reading.{of_reading, of_verdict, of_tokens, reading_of}
 use Rattle.cq_statement.proofs.LexingLaws.{never_memory}

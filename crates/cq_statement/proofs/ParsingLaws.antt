@@ -21,7 +21,8 @@ use Rattle.cq_reading.specs.Statements.{reading}
 use Rattle.cq_answer.specs.declared.fault.What.TheVariants.{Depth}
 use Rattle.cq_answer.specs.declared.fault.Fault.{Fault}
 use Rattle.cq_answer.specs.declared.fault.Fault.TheVariants as fault
-use Rattle.cq_answer.specs.Faults.{fault_of_lexing, what_of_parsing, fault_of_bind}
+use Rattle.cq_answer.specs.Faults.{fault_of_lexing, what_of_parsing}
+use Rattle.cq_reading.specs.Faults.{fault_of_bind}
 use Rattle.cq_statement.specs.Finding.{Reads}
 use Rattle.cq_statement.specs.Reading.{fault_of_parsing, of_reading, of_verdict, of_tokens, reading_of}
 

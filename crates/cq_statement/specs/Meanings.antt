@@ -13,7 +13,7 @@ use Rattle.cq_reading.specs.Statements.{reading}
 use Rattle.cq_answer.specs.declared.fault.What.TheVariants.{Depth}
 use Rattle.cq_answer.specs.declared.fault.Fault.{Fault}
 use Rattle.cq_answer.specs.declared.fault.Fault.TheVariants as fault
-use Rattle.cq_answer.specs.Faults.{fault_of_bind}
+use Rattle.cq_reading.specs.Faults.{fault_of_bind}
 
 -- the text's tokens spell a statement of the grammar that this is over the tables: a bound statement, or a refusal of the walk
 pub record IsTree (text : List ℕ) (tables : List TableInfo) (is : Result Statement BindError) : Type 0 where
