@@ -11,12 +11,9 @@ use Rattle.cq_tree.specs.declared.write.ShardOp.TheVariants.{Insert, Update, Rem
 use Rattle.cq_tree.specs.declared.statement.Statement.{Statement}
 use Rattle.cq_tree.specs.declared.statement.Statement.TheVariants as statement
 use Rattle.cq_meaning.specs.declared.Columns.{Columns}
-use Rattle.cq_meaning.specs.Values.{table_rows}
-use Rattle.cq_meaning.specs.Widths.{bits_of_kind, AllWithin, IsBoundWrite}
+use Rattle.cq_meaning.specs.Widths.{bits_of_kind, IsBoundWrite}
 use Rattle.cq_meaning.specs.Effects.{table_of}
-use Rattle.cq_meaning_laws.specs.WholeRules.{AreTablesWithin}
-use Rattle.cq_meaning_laws.proofs.SafeLaws.{together_weaker, safe_write}
-use Rattle.cq_meaning_laws.proofs.WholeLaws.{fit_together, statements_fit}
+use Rattle.cq_meaning_laws.proofs.SafeLaws.{safe_write}
 use Rattle.cq_planning.specs.Database.{shape_in}
 use Rattle.cq_planning_laws.specs.Laid.{IsLaidStatement}
 use Rattle.cq_planning_laws.proofs.Laid.{bound_is_laid}
@@ -27,7 +24,7 @@ use Rattle.cq_typing_laws.specs.Queries.{over, IsTypedWrite}
 use Rattle.cq_text_typing.proofs.Texts.{text_writes_typed}
 use Rattle.cq_written_laws.specs.TextLaws.{Spells}
 use Rattle.cq_written_laws.proofs.Texts.{text_writes_bound, text_statements_bound}
-use Rattle.cq_history.specs.Computable.{column_bits, AreWithin, IsReadable, FitsTable, IsWritable, IsComputable}
+use Rattle.cq_history.specs.Computable.{column_bits, IsReadable, FitsTable, IsWritable, IsComputable}
 use Rattle.cq_bound_laws.specs.Laws.{UpdatesSetSorts, HasColumns, TextsCompute}
 use Rattle.cq_bound_laws.proofs.Sorts.{typed_sets_sorts}
 use Rattle.cq_bound_laws.proofs.Statements.{rows_of_insertions_fit, settings_fit, writes_are_shared}
@@ -49,12 +46,7 @@ module _ (c : Contents) (text : List ℕ) (a : Ast) (whole : IsWhole c) (columns
       let cs : Columns = record { tables = bits_from c.tables 0; results = b.0 } in
       let laid : IsLaidStatement c (λ i. length (slice_index_or b.0 i [])) q = bound_is_laid cs c q (λ t. ap length (bits_are c.tables t) ∙ length-map (shape_in c t).kinds bits_of_kind) columns b.1 in
       record {
-        safe = λ db within.
-            let fits = statements_fit cs db q (λ t. subst (λ ks. AllWithin ks (table_rows db t)) (sym (bits_are c.tables t)) (within t)) b.1 in
-            (fits.0, λ small. (fits.1 small).1);
-        together = λ simple dbs.
-            together_weaker (AreTablesWithin cs) (AreWithin c) (λ db within t. subst (λ ks. AllWithin ks (table_rows db t)) (sym (bits_are c.tables t)) (within t)) q [] dbs (fit_together cs q b.1 simple dbs);
-        laid = ((λ i. length (slice_index_or b.0 i [])), laid.0);
+        bound = record { widths = cs; columns = bits_are c.tables; whole = b.1; laid = laid };
         narrows = queries_narrow c (λ i. length (slice_index_or b.0 i [])) q whole laid;
         large = large_narrow c (λ i. length (slice_index_or b.0 i [])) q whole laid;
       }
