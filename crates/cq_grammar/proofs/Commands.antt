@@ -13,7 +13,7 @@ use Rattle.cq_grammar.specs.Reading as reading
 use Rattle.cq_grammar.specs.Descent as descent
 use Rattle.cq_grammar.specs.Descent.{conditions}
 use Rattle.cq_grammar.specs.Read.{Reader, Test, sees_three, tail}
-use Rattle.cq_grammar.proofs.Laws.{Begins, apart_starts, starts_front, among_starts, regroup, first_of_kinds}
+use Rattle.cq_grammar.proofs.Laws.{Mode, Begins, apart_starts, starts_front, among_starts, regroup, first_of_kinds}
 use Rattle.cq_grammar.proofs.Tokens.{token_of}
 use Rattle.cq_grammar.proofs.Sets.{of_apart, of_among, of_in}
 use Rattle.cq_grammar.proofs.Shapes.{Ruled, after, both_true, one_shape, token, seen, ◌then◌, either, maybe, second, word, commas, stated, rule, option}
@@ -23,7 +23,7 @@ use Rattle.cq_grammar.proofs.Expressions.{or_goes, select_goes, deeper, number, 
 use Rattle.cq_grammar.proofs.Selects.{condition, filter, selected, selected_no_call}
 use Rattle.cq_grammar.proofs.Columns.{optional_names, table_columns}
 
-module _ {S H : Type 0} where
+module _ {S : Type 0} {H : Mode} where
   create : Ruled S H reading.create grammar.create grammar.create (rule (k.Create ∷ []) [])
   unfolding grammar.create reading.create of same_kind
   create = stated (seen _ (word k.Create then second (word k.Table) name then word k.Open then table_columns then word k.Close)) _ refl
@@ -96,7 +96,7 @@ call_begins t u is_select is_call = sees_so _ (behind_so place_of (k.Select ∷ 
 abbrev pub statement_goes : List Kind
 statement_goes = k.With ∷ select_goes
 
-module _ (S H : Type 0) (r : ℕ → (d : Deeper) → Reader (Tree d)) (P W : ℕ → (d : Deeper) → Lang (Tree d)) (lower : (n : ℕ) (d : Deeper) → Ruled S H (r n d) (P n d) (W n d) (deeper d)) where
+module _ (S : Type 0) (H : Mode) (r : ℕ → (d : Deeper) → Reader (Tree d)) (P W : ℕ → (d : Deeper) → Lang (Tree d)) (lower : (n : ℕ) (d : Deeper) → Ruled S H (r n d) (P n d) (W n d) (deeper d)) where
   pub row_values : Ruled S H (reading.row_values r) (grammar.row_values P) (grammar.row_values W) (rule (k.Open ∷ []) [])
   unfolding grammar.row_values reading.row_values of same_kind
   row_values = stated (seen _ (word k.Open then commas (λ _. lower 1 (expr or_)) then word k.Close)) _ refl
