@@ -39,7 +39,7 @@ opens_of fs gs l a y w = elim (l.opens a y w) [
   | inr u ↦ true_false u.0 refl
 ]
 
-lower_of : {S : Type 0} {H : Mode} (d : Deeper) {p : Reader (Tree d)} {P W : Lang (Tree d)} → (S → Begins W []) → Opens (of (firsts d)) W → (Reads H → Lawful H p P W (of (goes d))) → Ruled S H p P W (deeper d)
+pub lower_of : {S : Type 0} {H : Mode} (d : Deeper) {p : Reader (Tree d)} {P W : Lang (Tree d)} → (S → Begins W []) → Opens (of (firsts d)) W → (Reads H → Lawful H p P W (of (goes d))) → Ruled S H p P W (deeper d)
 lower_of d some opens lawful = record {
   some = some;
   full = λ _ h. let bad : false ≡ true = h in absurd (cc);

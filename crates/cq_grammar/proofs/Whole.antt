@@ -213,10 +213,10 @@ written_refused : (ts : List Token) (f : Fault) → written ts ≡ Err f → Bad
 unfolding written
 written_refused ts f e = refused_by ts (reader ts) refl f e
 
-deeper : (a : Ast) (ts : List Token) → Shallow a ts → Written a ts
-deeper a ts w = (enough, (at_height enough first_height).sub a ts w)
+pub deeper_tree : (a : Ast) (ts : List Token) → Shallow a ts → Written a ts
+deeper_tree a ts w = (enough, (at_height enough first_height).sub a ts w)
 
-whole_begins : (P : Lang Ast) (ts : List Token) (a : Ast) (n : ℕ) → P a ts → BeginsOne P (take n ts)
+pub whole_begins : (P : Lang Ast) (ts : List Token) (a : Ast) (n : ℕ) → P a ts → BeginsOne P (take n ts)
 whole_begins P ts a n w = (a, drop n ts, subst (λ (i : List Token). P a i) (sym (take-append-drop n ts)) w)
 
 -- each beginning of a statement within the depth is within it
@@ -227,8 +227,8 @@ not_bad : (ts : List Token) (a : Ast) → Shallow a ts → (f : Fault) → Bad t
 not_bad ts a w (bad r) b = by_case (eq-or-lt_of_le b.2.inside)
   where
     by_case : (length b.0 ≡ length ts) ⊎ (length b.0 < length ts) → ⊥
-    by_case (inr lt) = b.2.next lt (whole_begins Written ts a (length b.0 + 1) (deeper a ts w))
-    by_case (inl is) = b.2.end is a (deeper a ts w)
+    by_case (inr lt) = b.2.next lt (whole_begins Written ts a (length b.0 + 1) (deeper_tree a ts w))
+    by_case (inl is) = b.2.end is a (deeper_tree a ts w)
 not_bad ts a w (too_deep r) b = b.2.deep (begins_shallow ts a (length b.0 + 1) w)
 
 same_read : (ts : List Token) (a b : Ast) → Shallow a ts → reader ts ≡ Ok (b, []) → a ≡ b
@@ -243,7 +243,7 @@ accepts_by ts a (Ok b) is w = is ∙ ap Ok (sym (same_read ts a b w (by_ok (read
 accepts_by ts a (Err f) is w = absurd (not_bad ts a w f (written_refused ts f is))
 
 -- each statement is accepted
-written_accepts : (ts : List Token) (a : Ast) → Shallow a ts → written ts ≡ Ok a
+pub written_accepts : (ts : List Token) (a : Ast) → Shallow a ts → written ts ≡ Ok a
 written_accepts ts a w = accepts_by ts a (written ts) refl w
 
 -- ---- words and arguments in their places
@@ -328,10 +328,10 @@ refused_case : (ts : List Token) (end at : ℕ) (o : Result Ast Fault) → writt
 refused_case ts end at (Ok b) is e = elim (unless_err (misplaced (read_of (Ok b) ts)) (called b (miscalled b)) (syntax at) e) [
   | inl u ↦
       let all : length ts - 0 ≡ length ts = omega arith in
-      inr (inl (misplaced_in ts at (length ts - 0) (length ts) all (omega arith) (whole_begins Written ts b (length ts) (deeper b ts (written_accepted ts b is))) (u.1 ∙ ap Some (sym (place_same u.2)))))
+      inr (inl (misplaced_in ts at (length ts - 0) (length ts) all (omega arith) (whole_begins Written ts b (length ts) (deeper_tree b ts (written_accepted ts b is))) (u.1 ∙ ap Some (sym (place_same u.2)))))
   | inr u ↦
       let c = called_err b (syntax at) (miscalled b) u.1 in
-      inr (inr (record { statement = b; spelled = deeper b ts (written_accepted ts b is); placed = sym (ap misplaced (all_read b ts)) ∙ u.0; here = c.1 ∙ ap Some (sym (place_same c.2)) }))
+      inr (inr (record { statement = b; spelled = deeper_tree b ts (written_accepted ts b is); placed = sym (ap misplaced (all_read b ts)) ∙ u.0; here = c.1 ∙ ap Some (sym (place_same c.2)) }))
 ]
 refused_case ts end at (Err (bad r)) is e =
     let w = written_refused ts (bad r) is in
