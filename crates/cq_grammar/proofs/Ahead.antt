@@ -6,7 +6,7 @@ use Rattle.cq_grammar.specs.declared.kind.Kind.{Kind}
 use Rattle.cq_grammar.specs.Words.{kind, Kinds, of, starts}
 use Rattle.cq_grammar.specs.Lang.{Lang, Either}
 use Rattle.cq_grammar.specs.Read.{Fault, bad, deep, Reader, Test, choice, sees_two, sees_three}
-use Rattle.cq_grammar.proofs.Laws.{Lawful, Read, Stops, Never, Begins, begins_by, Only, SameHead, true_false}
+use Rattle.cq_grammar.proofs.Laws.{Mode, Lawful, Read, Stops, Never, Begins, begins_by, Only, first, SameHead, same_starts, left_begins, right_begins, true_false}
 use Rattle.cq_grammar.proofs.Sets.{and_first, and_second, starts_in}
 use Rattle.cq_grammar.proofs.Laws.{widen}
 use Rattle.cq_grammar.proofs.Shapes.{Shape, Ruled, of_both, of_left, of_right, among_left, among_right}
@@ -18,12 +18,12 @@ GoesOn Q before r = (t : Token) × (s : List Token) × (r ≡ t ∷ s) × Begins
 goes_never : {A : Type 0} (Q : Lang A) (g : Kinds) (before r : List Token) → GoesOn Q before r → Never Q g before r → ⊥
 goes_never Q g before r n never =
     let b = n.3 in
-    never b.value ((before ++ n.0 ∷ []) ++ b.more) [] (n.0 ∷ b.more) b.phrase refl (λ f. ap (starts f) n.2) (append-nil ((before ++ n.0 ∷ []) ++ b.more) ∙ append_assoc before (n.0 ∷ []) b.more)
+    never b.value ((before ++ n.0 ∷ []) ++ b.more) [] (n.0 ∷ b.more) b.phrase refl (ap first n.2) (append-nil ((before ++ n.0 ∷ []) ++ b.more) ∙ append_assoc before (n.0 ∷ []) b.more)
 
 goes_only : {A : Type 0} (Q V : Lang A) (g : Kinds) (before r : List Token) (v : A) → ((v : A) (x : List Token) → Q v x → V v x) → GoesOn Q before r → Only V g v before r → ⊥
 goes_only Q V g before r v sub n only =
     let b = n.3 in
-    let o = only b.value ((before ++ n.0 ∷ []) ++ b.more) [] (n.0 ∷ b.more) (sub b.value ((before ++ n.0 ∷ []) ++ b.more) b.phrase) refl (λ f. ap (starts f) n.2)
+    let o = only b.value ((before ++ n.0 ∷ []) ++ b.more) [] (n.0 ∷ b.more) (sub b.value ((before ++ n.0 ∷ []) ++ b.more) b.phrase) refl (ap first n.2)
     (append-nil ((before ++ n.0 ∷ []) ++ b.more) ∙ append_assoc before (n.0 ∷ []) b.more) in
     let all : true ≡ true = refl in true_false all (ap (starts (λ i. true)) (sym o.rest))
 
@@ -72,48 +72,46 @@ module _ {A : Type 0} (test : Test) (grows : Grows test) (p q : Reader A) (P W Q
   only_q v x r off only u y n z (inl i) sm same e =
       absurd (goes_only Q V g x r v sub_q (set_q x r z false same off (λ h. not_both (sym (ap test e) ∙ grows y n (opens u y i)) h)) only)
 
-  left_begins : (before : List Token) → Begins W before → Begins (Either W V) before
-  left_begins before s = record { value = s.value; more = s.more; phrase = inl s.phrase }
-
-  right_begins : (before : List Token) → Begins V before → Begins (Either W V) before
-  right_begins before s = record { value = s.value; more = s.more; phrase = inr s.phrase }
-
   clear_q : ClearBy test Q g
   clear_q v y n w sm = clear v y n (sub_q v y w) sm
 
   opens_p : OpensBy test P
   opens_p v y w = opens v y (sub_p v y w)
 
-  pub stops_p : (ts : List Token) (e : Fault) → test ts ≡ true → Stops P W g ts e → Stops (Either P Q) (Either W V) g ts e
+  pub stops_p : {mode : Mode} (ts : List Token) (e : Fault) → test ts ≡ true → Stops mode P W g ts e → Stops mode (Either P Q) (Either W V) g ts e
   stops_p ts (bad r) on s = record {
     before = s.before;
     whole = s.whole;
-    begins = left_begins s.before s.begins;
+    begins = left_begins W V s.before s.begins;
+    kept = λ fills. left_begins P Q s.before (s.kept fills);
     never = never_p W V (wider P W sub_p set_p) clear ts s.before r s.whole on s.never;
   }
   stops_p ts (deep r) on s = record {
     before = s.before;
     whole = s.whole;
-    begins = begins_by W (Either W V) [] s.before (deep r) left_begins s.begins;
-    never = never_p P Q set_p clear_q ts s.before r s.whole on s.never;
+    begins = begins_by W (Either W V) [] s.before (deep r) (left_begins W V) s.begins;
+    kept = λ fills. left_begins P Q s.before (s.kept fills);
+    never = λ marks. never_p P Q set_p clear_q ts s.before r s.whole on (s.never marks);
   }
 
-  pub stops_q : (ts : List Token) (e : Fault) → test ts ≡ false → Stops Q V g ts e → Stops (Either P Q) (Either W V) g ts e
+  pub stops_q : {mode : Mode} (ts : List Token) (e : Fault) → test ts ≡ false → Stops mode Q V g ts e → Stops mode (Either P Q) (Either W V) g ts e
   stops_q ts (bad r) off s = record {
     before = s.before;
     whole = s.whole;
-    begins = right_begins s.before s.begins;
+    begins = right_begins W V s.before s.begins;
+    kept = λ fills. right_begins P Q s.before (s.kept fills);
     never = never_q W V (wider Q V sub_q set_q) opens ts s.before r s.whole off s.never;
   }
   stops_q ts (deep r) off s = record {
     before = s.before;
     whole = s.whole;
-    begins = begins_by V (Either W V) [] s.before (deep r) right_begins s.begins;
-    never = never_q P Q set_q opens_p ts s.before r s.whole off s.never;
+    begins = begins_by V (Either W V) [] s.before (deep r) (right_begins W V) s.begins;
+    kept = λ fills. right_begins P Q s.before (s.kept fills);
+    never = λ marks. never_q P Q set_q opens_p ts s.before r s.whole off (s.never marks);
   }
 
-module _ {A : Type 0} (test : Test) (grows : Grows test) (p q : Reader A) (P W Q V : Lang A) (g : Kinds)
-    (l : Lawful p P W g) (m : Lawful q Q V g) (opens : OpensBy test W) (clear : ClearBy test V g) (set_p : Settles test P) (set_q : Settles test Q) where
+module _ {mode : Mode} {A : Type 0} (test : Test) (grows : Grows test) (p q : Reader A) (P W Q V : Lang A) (g : Kinds)
+    (l : Lawful mode p P W g) (m : Lawful mode q Q V g) (opens : OpensBy test W) (clear : ClearBy test V g) (set_p : Settles test P) (set_q : Settles test Q) where
   sound_by : (t : Bool) (ts : List Token) (v : A) (r : List Token) → test ts ≡ t → cond t (p ts) (q ts) ≡ Ok (v, r) → Read (Either P Q) (Either W V) g v r ts
   sound_by true ts v r on e = let d = l.sound ts v r e in record {
     front = d.front;
@@ -128,7 +126,7 @@ module _ {A : Type 0} (test : Test) (grows : Grows test) (p q : Reader A) (P W Q
     only = only_q test grows p q P W Q V g opens clear l.sub m.sub set_p set_q v d.front r (sym (ap test d.whole) ∙ off) d.only;
   }
 
-  fails_by : (t : Bool) (ts : List Token) (e : Fault) → test ts ≡ t → cond t (p ts) (q ts) ≡ Err e → Stops (Either P Q) (Either W V) g ts e
+  fails_by : (t : Bool) (ts : List Token) (e : Fault) → test ts ≡ t → cond t (p ts) (q ts) ≡ Err e → Stops mode (Either P Q) (Either W V) g ts e
   fails_by true ts e on h = stops_p test grows p q P W Q V g opens clear l.sub m.sub set_p set_q ts e on (l.fails ts e h)
   fails_by false ts e off h = stops_q test grows p q P W Q V g opens clear l.sub m.sub set_p set_q ts e off (m.fails ts e h)
 
@@ -136,10 +134,11 @@ module _ {A : Type 0} (test : Test) (grows : Grows test) (p q : Reader A) (P W Q
   either_sub v x (inl w) = inl (l.sub v x w)
   either_sub v x (inr w) = inr (m.sub v x w)
 
-  pub ahead_lawful : Lawful (choice test p q) (Either P Q) (Either W V) g
+  pub ahead_lawful : Lawful mode (choice test p q) (Either P Q) (Either W V) g
   ahead_lawful = record {
     sub = either_sub;
-    some = record { value = l.some.value; more = l.some.more; phrase = inl l.some.phrase };
+    some = left_begins W V [] l.some;
+    filled = λ fills. left_begins P Q [] (l.filled fills);
     sound = λ ts v r e. sound_by (test ts) ts v r refl e;
     fails = λ ts e h. fails_by (test ts) ts e refl h;
   }
@@ -171,7 +170,7 @@ pub two_settles : {A : Type 0} (a b : List Kind) (Q : Lang A) → ((t : Token) �
 two_settles a b Q next [] [] z bit same is out =
     absurd (elim (on_one (sees_two a b []) (sees_two a b z) bit is out) [
       | inl u ↦ let bad : false ≡ true = u in cc
-      | inr u ↦ not_both (and_first (starts (of a) z) _ u) (sym (same (of a)))
+      | inr u ↦ not_both (and_first (starts (of a) z) _ u) (sym (same_starts [] z same (of a)))
     ])
 two_settles a b Q next [] (t ∷ r) z bit same is out = (
   t,
@@ -179,10 +178,10 @@ two_settles a b Q next [] (t ∷ r) z bit same is out = (
   refl,
   next t (elim (on_one (sees_two a b (t ∷ r)) (sees_two a b z) bit is out) [
     | inl u ↦ and_first (of a (kind t)) _ u
-    | inr u ↦ same (of a) ∙ and_first (starts (of a) z) _ u
+    | inr u ↦ same_starts (t ∷ r) z same (of a) ∙ and_first (starts (of a) z) _ u
   ]),
 )
-two_settles a b Q next (t ∷ []) r z bit same is out = absurd (differ (sees_two a b (t ∷ r)) (sees_two a b (t ∷ z)) bit is out (ap (λ i. of a (kind t) && i) (same (of b))))
+two_settles a b Q next (t ∷ []) r z bit same is out = absurd (differ (sees_two a b (t ∷ r)) (sees_two a b (t ∷ z)) bit is out (ap (λ i. of a (kind t) && i) (same_starts r z same (of b))))
 two_settles a b Q next (t ∷ u ∷ w) r z bit same is out = absurd (out is)
 
 -- tokens of these kinds begin a phrase of Q
@@ -193,19 +192,19 @@ pub three_settles : {A : Type 0} (a b c : List Kind) (Q : Lang A) (token : Token
 three_settles a b c Q token is_b sibling [] [] z bit same is out =
     absurd (elim (on_one (sees_three a b c []) (sees_three a b c z) bit is out) [
       | inl u ↦ let bad : false ≡ true = u in cc
-      | inr u ↦ not_both (and_first (starts (of a) z) _ u) (sym (same (of a)))
+      | inr u ↦ not_both (and_first (starts (of a) z) _ u) (sym (same_starts [] z same (of a)))
     ])
 three_settles a b c Q token is_b sibling [] (t ∷ r) z bit same is out =
     let is_a : of a (kind t) ≡ true = elim (on_one (sees_three a b c (t ∷ r)) (sees_three a b c z) bit is out) [
       | inl u ↦ and_first (of a (kind t)) _ u
-      | inr u ↦ same (of a) ∙ and_first (starts (of a) z) _ u
+      | inr u ↦ same_starts (t ∷ r) z same (of a) ∙ and_first (starts (of a) z) _ u
     ] in
     let s = sibling t token is_a is_b in
     (t, r, refl, record { value = s.value; more = token ∷ s.more; phrase = s.phrase })
 three_settles a b c Q token is_b sibling (t ∷ []) [] z bit same is out =
     absurd (elim (on_one (sees_three a b c (t ∷ [])) (sees_three a b c (t ∷ z)) bit is out) [
       | inl u ↦ let bad : false ≡ true = and_second (of a (kind t)) false u in cc
-      | inr u ↦ not_both (and_first (starts (of b) z) _ (and_second (of a (kind t)) _ u)) (sym (same (of b)))
+      | inr u ↦ not_both (and_first (starts (of b) z) _ (and_second (of a (kind t)) _ u)) (sym (same_starts [] z same (of b)))
     ])
 three_settles a b c Q token is_b sibling (t ∷ []) (u ∷ r) z bit same is out =
     let found = on_one (sees_three a b c (t ∷ u ∷ r)) (sees_three a b c (t ∷ z)) bit is out in
@@ -215,11 +214,11 @@ three_settles a b c Q token is_b sibling (t ∷ []) (u ∷ r) z bit same is out 
     ] in
     let is_u : of b (kind u) ≡ true = elim found [
       | inl i ↦ and_first (of b (kind u)) _ (and_second (of a (kind t)) _ i)
-      | inr i ↦ same (of b) ∙ and_first (starts (of b) z) _ (and_second (of a (kind t)) _ i)
+      | inr i ↦ same_starts (u ∷ r) z same (of b) ∙ and_first (starts (of b) z) _ (and_second (of a (kind t)) _ i)
     ] in
     (u, r, refl, sibling t u is_a is_u)
 three_settles a b c Q token is_b sibling (t ∷ u ∷ []) r z bit same is out =
-    absurd (differ (sees_three a b c (t ∷ u ∷ r)) (sees_three a b c (t ∷ u ∷ z)) bit is out (ap (λ i. of a (kind t) && (of b (kind u) && i)) (same (of c))))
+    absurd (differ (sees_three a b c (t ∷ u ∷ r)) (sees_three a b c (t ∷ u ∷ z)) bit is out (ap (λ i. of a (kind t) && (of b (kind u) && i)) (same_starts r z same (of c))))
 three_settles a b c Q token is_b sibling (t ∷ u ∷ v ∷ w) r z bit same is out = absurd (out is)
 
 -- ---- the rule of such a choice
@@ -234,7 +233,7 @@ ahead_shape s t = record {
   fine = s.fine && t.fine;
 }
 
-module _ {S H A : Type 0} {p q : Reader A} {P W Q V : Lang A} {s t : Shape} (l : Ruled S H p P W s) (m : Ruled S H q Q V t) (s_filled : s.empty ≡ false) (t_filled : t.empty ≡ false)
+module _ {S : Type 0} {H : Mode} {A : Type 0} {p q : Reader A} {P W Q V : Lang A} {s t : Shape} (l : Ruled S H p P W s) (m : Ruled S H q Q V t) (s_filled : s.empty ≡ false) (t_filled : t.empty ≡ false)
     (test : Test) (grows : Grows test) (opens : OpensBy test W) (clear : ClearBy test V (of (s.goes ++ t.goes))) (set_p : Settles test P) (set_q : Settles test Q) where
   left_so : (before : List Token) → Begins W before → Begins (Either W V) before
   left_so before b = record { value = b.value; more = b.more; phrase = inl b.phrase }

@@ -12,14 +12,14 @@ use Rattle.cq_grammar.specs.Statements as grammar
 use Rattle.cq_grammar.specs.Reading as reading
 use Rattle.cq_grammar.specs.Descent as descent
 use Rattle.cq_grammar.specs.Read.{Fault, Outcome, Reader, Test, and_then, both, made, nothing, many_by, many, behind, comma_item, sees, sees_two}
-use Rattle.cq_grammar.proofs.Laws.{Lawful, Read, Stops, Begins, Only, Clear, went_ok, went_err, ok_same, ok_err, true_false, nonempty, among_starts, both_read, both_fails_first, both_fails_second, made_only, made_fails, same_stops, same_lang, made_lawful, both_lawful, widen}
+use Rattle.cq_grammar.proofs.Laws.{Mode, Reads, unseen, within, Fills, Lawful, Read, Stops, Begins, Only, Clear, went_ok, went_err, ok_same, ok_err, true_false, nonempty, among_starts, both_read, both_fails_first, both_fails_second, made_only, made_fails, same_stops, same_lang, made_lawful, both_lawful, widen}
 use Rattle.cq_grammar.proofs.Sets.{of_apart, of_among}
 use Rattle.cq_grammar.proofs.Shapes.{Shape, Ruled, seen, ◌then◌, maybe, some_of_these, second, word, commas, comma, clear_by, both_true, stated, rule, option}
 use Rattle.cq_grammar.proofs.Ahead.{OpensBy, ClearBy, Settles, two_grows, two_settles, only_p, only_q, stops_p, stops_q}
 use Rattle.cq_grammar.proofs.Begun.{sees_so, first_so}
 use Rattle.cq_grammar.proofs.Expressions.{name, some_of}
 
-module _ {S H : Type 0} where
+module _ {S : Type 0} {H : Mode} where
   pub name_list : Ruled S H reading.name_list grammar.name_list grammar.name_list (rule (k.Open ∷ []) [])
   unfolding grammar.name_list reading.name_list of same_kind
   name_list = stated (seen _ (word k.Open then commas (λ _. name) then word k.Close)) _ refl
@@ -109,7 +109,7 @@ more_opens i v y w =
     let item = w.phrase.left.phrase in
     ap Test_column (w.phrase.whole ∙ ap (λ z. z ++ w.phrase.back) (item.whole ∙ ap (λ z. z ++ item.back) item.left.phrase.alone))
     ∙ two_grows comma names (item.left.from ∷ item.back) w.phrase.back (both_true (of comma (kind item.left.from)) (starts (of names) item.back) item.left.phrase.kind
-    (elim ((column_def {S = ⊥} {H = ⊥}).opens w.phrase.left.from.1 item.back item.right) [
+    (elim ((column_def {S = ⊥} {H = unseen}).opens w.phrase.left.from.1 item.back item.right) [
       | inl u ↦ u
       | inr u ↦ true_false u.0 refl
     ]))
@@ -203,31 +203,31 @@ tails (suc n) i ts = tails_by n i ts (Test_column ts) (tails n (suc i))
 abbrev unsettled : List Kind → Bool → Shape
 unsettled fs empty = record { firsts = fs; goes = rest_goes; empty = empty; whole = true; plain = false; fine = false }
 
-rest_rule : {S H : Type 0} (i : ℕ) → Ruled S H (both (many (sees comma) item i) reading.primary_key) (Rest i) (Rest i) (unsettled comma true)
+rest_rule : {S : Type 0} {H : Mode} (i : ℕ) → Ruled S H (both (many (sees comma) item i) reading.primary_key) (Rest i) (Rest i) (unsettled comma true)
 unfolding of same_kind
 rest_rule i = stated (some_of_these comma (λ _. comma_column) refl i then primary_key) _ refl
 
 rest_clear : (i : ℕ) → Clear (of (k.Primary ∷ [])) (Rest i) (of rest_goes)
 unfolding of same_kind
-rest_clear i = clear_by (k.Primary ∷ []) rest_goes (rest_rule {S = ⊥} {H = ⊥} i) refl (λ _. of_among (k.Primary ∷ []) rest_goes refl)
+rest_clear i = clear_by (k.Primary ∷ []) rest_goes (rest_rule {S = ⊥} {H = unseen} i) refl (λ _. of_among (k.Primary ∷ []) rest_goes refl)
 
 rest_some : (i : ℕ) → Begins (Rest i) []
-rest_some i = (rest_rule {S = Unit {0}} {H = ⊥} i).some tt
+rest_some i = (rest_rule {S = Unit {0}} {H = unseen} i).some tt
 
 more_settles : (i : ℕ) → Settles Test_column (More i)
-more_settles i = two_settles comma names (More i) (λ t is_comma. sees_so joined (first_so ((comma_column {S = Unit {0}} {H = ⊥}).full tt refl t is_comma) (rest_some (suc i))))
+more_settles i = two_settles comma names (More i) (λ t is_comma. sees_so joined (first_so ((comma_column {S = Unit {0}} {H = unseen}).full tt refl t is_comma) (rest_some (suc i))))
 
 end_settles : Settles Test_column End
-end_settles = two_settles comma names End (λ t is_comma. sees_so no_more ((primary_key {S = Unit {0}} {H = ⊥}).full tt refl t is_comma))
+end_settles = two_settles comma names End (λ t is_comma. sees_so no_more ((primary_key {S = Unit {0}} {H = unseen}).full tt refl t is_comma))
 
 -- the law of a column and of the key
-column_law : Lawful (behind (descent.the k.Comma) reading.column_def) (Behind (The k.Comma) grammar.column_def) (Behind (The k.Comma) grammar.column_def) (of (k.Primary ∷ []))
-column_law = (comma_column {S = ⊥} {H = Unit {0}}).lawful tt refl
+column_law : {mode : Mode} → Reads mode → Lawful mode (behind (descent.the k.Comma) reading.column_def) (Behind (The k.Comma) grammar.column_def) (Behind (The k.Comma) grammar.column_def) (of (k.Primary ∷ []))
+column_law {mode} reads = (comma_column {S = ⊥} {H = mode}).lawful reads refl
 
-end_law : Lawful (made no_more reading.primary_key) End End (of rest_goes)
+end_law : {mode : Mode} → Reads mode → Lawful mode (made no_more reading.primary_key) End End (of rest_goes)
 unfolding of same_kind
-end_law = made_lawful no_more reading.primary_key grammar.primary_key grammar.primary_key (of rest_goes)
-    (widen reading.primary_key grammar.primary_key grammar.primary_key (of comma) (of rest_goes) (of_among comma rest_goes refl) ((primary_key {S = ⊥} {H = Unit {0}}).lawful tt refl))
+end_law {mode} reads = made_lawful no_more reading.primary_key grammar.primary_key grammar.primary_key (of rest_goes)
+    (widen reading.primary_key grammar.primary_key grammar.primary_key (of comma) (of rest_goes) (of_among comma rest_goes refl) ((primary_key {S = ⊥} {H = mode}).lawful reads refl))
 
 module _ (i : ℕ) where
   abbrev Item : Lang ColumnDef
@@ -241,12 +241,12 @@ module _ (i : ℕ) where
   end_only = only_q Test_column (two_grows comma names) (made joined (both (item i) (tail_by 0 (suc i)))) (made no_more reading.primary_key) (More i) (More i) End End (of rest_goes)
       (more_opens i) end_clear (λ v x w. w) (λ v x w. w) (more_settles i) end_settles
 
-  more_stops : (ts : List Token) (e : Fault) → Test_column ts ≡ true → Stops (More i) (More i) (of rest_goes) ts e → Stops (Rest i) (Rest i) (of rest_goes) ts e
+  more_stops : {mode : Mode} (ts : List Token) (e : Fault) → Test_column ts ≡ true → Stops mode (More i) (More i) (of rest_goes) ts e → Stops mode (Rest i) (Rest i) (of rest_goes) ts e
   more_stops ts e on s = same_stops (Either (More i) End) (Rest i) (Either (More i) End) (Rest i) (of rest_goes) (λ v x. (into i v x, out i v x)) (λ v x. (into i v x, out i v x)) ts e
       (stops_p Test_column (two_grows comma names) (made joined (both (item i) (tail_by 0 (suc i)))) (made no_more reading.primary_key) (More i) (More i) End End (of rest_goes)
       (more_opens i) end_clear (λ v x w. w) (λ v x w. w) (more_settles i) end_settles ts e on s)
 
-  end_stops : (ts : List Token) (e : Fault) → Test_column ts ≡ false → Stops End End (of rest_goes) ts e → Stops (Rest i) (Rest i) (of rest_goes) ts e
+  end_stops : {mode : Mode} (ts : List Token) (e : Fault) → Test_column ts ≡ false → Stops mode End End (of rest_goes) ts e → Stops mode (Rest i) (Rest i) (of rest_goes) ts e
   end_stops ts e off s = same_stops (Either (More i) End) (Rest i) (Either (More i) End) (Rest i) (of rest_goes) (λ v x. (into i v x, out i v x)) (λ v x. (into i v x, out i v x)) ts e
       (stops_q Test_column (two_grows comma names) (made joined (both (item i) (tail_by 0 (suc i)))) (made no_more reading.primary_key) (More i) (More i) End End (of rest_goes)
       (more_opens i) end_clear (λ v x w. w) (λ v x w. w) (more_settles i) end_settles ts e off s)
@@ -273,7 +273,7 @@ module _ (i : ℕ) where
 
   shorter : (ts : List Token) (c : ColumnDef) (r : List Token) (n : ℕ) → Read Item Item (of (k.Primary ∷ [])) c r ts → length ts ≤ suc n → length r ≤ n
   shorter ts c r n d le =
-      let some : starts (of comma) d.front ≡ true = elim ((comma_column {S = ⊥} {H = ⊥}).opens c d.front d.phrase) [ inl u ↦ u | inr u ↦ true_false u.0 refl ] in
+      let some : starts (of comma) d.front ≡ true = elim ((comma_column {S = ⊥} {H = unseen}).opens c d.front d.phrase) [ inl u ↦ u | inr u ↦ true_false u.0 refl ] in
       let long : 1 ≤ length d.front = nonempty (of comma) d.front some in
       omega (arith, ap length d.whole, length-append d.front r)
 
@@ -282,12 +282,12 @@ Sound n = (i : ℕ) (ts : List Token) (v : List ColumnDef × List Name) (r : Lis
 
 sound_by : (n : ℕ) → Sound n → (b : Bool) (o : ℕ) (ts : List Token) (v : List ColumnDef × List Name) (r : List Token) → Test_column ts ≡ b → length ts ≤ suc n
     → cond b (made joined (both (item o) (tail_by n (suc o))) ts) (made no_more reading.primary_key ts) ≡ Ok (v, r) → Read (Rest o) (Rest o) (of rest_goes) v r ts
-sound_by n more false o ts v r off le d = end_read o ts v r off (end_law.sound ts v r d)
+sound_by n more false o ts v r off le d = end_read o ts v r off ((end_law {mode = within} tt).sound ts v r d)
 sound_by n more true o ts v r on le d =
     let i = went_ok (both (item o) (tail_by n (suc o)) ts) (λ c r. Ok (joined c, r)) (v, r) d in
     let j = went_ok (item o ts) (λ c r. and_then (tail_by n (suc o) r) (λ b s. Ok ((c, b), s))) (i.value, i.rest) i.first in
     let u = went_ok (tail_by n (suc o) j.rest) (λ b s. Ok ((j.value, b), s)) (i.value, i.rest) j.second in
-    let x = column_law.sound ts j.value j.rest j.first in
+    let x = (column_law {mode = within} tt).sound ts j.value j.rest j.first in
     let y = more (suc o) j.rest u.value u.rest (shorter o ts j.value j.rest n x le) u.first in
     let e1 : ((j.value, u.value), u.rest) ≡ (i.value, i.rest) = ok_same u.second in
     let e2 : (joined i.value, i.rest) ≡ (v, r) = ok_same i.second in
@@ -295,25 +295,25 @@ sound_by n more true o ts v r on le d =
     (ap (λ (w : (ColumnDef × (List ColumnDef × List Name)) × List Token). (joined w.0, w.1)) e1 ∙ e2) (more_read o ts j.value u.value j.rest u.rest x y)
 
 tail_sound : (n : ℕ) → Sound n
-tail_sound zero i [] v r le d = end_read i [] v r refl (end_law.sound [] v r d)
+tail_sound zero i [] v r le d = end_read i [] v r refl ((end_law {mode = within} tt).sound [] v r d)
 tail_sound zero i (t ∷ ts) v r le d = absurd (omega arith)
 tail_sound (suc n) i ts v r le d = sound_by n (tail_sound n) (Test_column ts) i ts v r refl le d
 
-abbrev Fails : ℕ → Type 0
-Fails n = (i : ℕ) (ts : List Token) (d : Fault) → length ts ≤ n → tail_by n i ts ≡ Err d → Stops (Rest i) (Rest i) (of rest_goes) ts d
+abbrev Fails : Mode → ℕ → Type 0
+Fails mode n = (i : ℕ) (ts : List Token) (d : Fault) → length ts ≤ n → tail_by n i ts ≡ Err d → Stops mode (Rest i) (Rest i) (of rest_goes) ts d
 
-fails_by : (n : ℕ) → Fails n → (b : Bool) (o : ℕ) (ts : List Token) (d : Fault) → Test_column ts ≡ b → length ts ≤ suc n
-    → cond b (made joined (both (item o) (tail_by n (suc o))) ts) (made no_more reading.primary_key ts) ≡ Err d → Stops (Rest o) (Rest o) (of rest_goes) ts d
-fails_by n more false o ts d off le h = end_stops o ts d off (end_law.fails ts d h)
-fails_by n more true o ts d on le h = more_stops o ts d on (made_fails joined (Both (Item o) (Rest (suc o))) (Both (Item o) (Rest (suc o))) (of rest_goes) ts d
+fails_by : {mode : Mode} → Reads mode → (n : ℕ) → Fails mode n → (b : Bool) (o : ℕ) (ts : List Token) (d : Fault) → Test_column ts ≡ b → length ts ≤ suc n
+    → cond b (made joined (both (item o) (tail_by n (suc o))) ts) (made no_more reading.primary_key ts) ≡ Err d → Stops mode (Rest o) (Rest o) (of rest_goes) ts d
+fails_by reads n more false o ts d off le h = end_stops o ts d off ((end_law reads).fails ts d h)
+fails_by {mode} reads n more true o ts d on le h = more_stops o ts d on (made_fails joined (Both (Item o) (Rest (suc o))) (Both (Item o) (Rest (suc o))) (of rest_goes) ts d
     (elim (went_err (both (item o) (tail_by n (suc o)) ts) (λ c r. Ok (joined c, r)) d h) [
       | inl u ↦ elim (went_err (item o ts) (λ c r. and_then (tail_by n (suc o) r) (λ b s. Ok ((c, b), s))) d u) [
-        | inl v ↦ both_fails_first (item o) (tail_by n (suc o)) (Item o) (Item o) (Rest (suc o)) (Rest (suc o)) (of (k.Primary ∷ [])) (of rest_goes) (rest_clear (suc o)) (rest_clear (suc o)) (rest_some (suc o)) ts d
-            (column_law.fails ts d v)
+        | inl v ↦ both_fails_first (item o) (tail_by n (suc o)) (Item o) (Item o) (Rest (suc o)) (Rest (suc o)) (of (k.Primary ∷ [])) (of rest_goes) (rest_clear (suc o)) (rest_clear (suc o)) (rest_some (suc o)) (λ _. rest_some (suc o)) ts d
+            ((column_law reads).fails ts d v)
         | inr i ↦
-            let x = column_law.sound ts i.value i.rest i.first in
+            let x = (column_law {mode = within} tt).sound ts i.value i.rest i.first in
             elim (went_err (tail_by n (suc o) i.rest) (λ b s. Ok ((i.value, b), s)) d i.second) [
-              | inl v ↦ both_fails_second (item o) (tail_by n (suc o)) (Item o) (Item o) (Rest (suc o)) (Rest (suc o)) (of (k.Primary ∷ [])) (of rest_goes) column_law (rest_clear (suc o)) (rest_clear (suc o)) ts i.rest i.value d x
+              | inl v ↦ both_fails_second (item o) (tail_by n (suc o)) (Item o) (Item o) (Rest (suc o)) (Rest (suc o)) (of (k.Primary ∷ [])) (of rest_goes) (column_law reads) (rest_clear (suc o)) (rest_clear (suc o)) ts i.rest i.value d x
                   (more (suc o) i.rest d (shorter o ts i.value i.rest n x le) v)
               | inr j ↦ absurd (ok_err j.second)
             ]
@@ -321,24 +321,25 @@ fails_by n more true o ts d on le h = more_stops o ts d on (made_fails joined (B
       | inr i ↦ absurd (ok_err i.second)
     ]))
 
-tail_fails : (n : ℕ) → Fails n
-tail_fails zero i [] d le h = end_stops i [] d refl (end_law.fails [] d h)
-tail_fails zero i (t ∷ ts) d le h = absurd (omega arith)
-tail_fails (suc n) i ts d le h = fails_by n (tail_fails n) (Test_column ts) i ts d refl le h
+tail_fails : {mode : Mode} → Reads mode → (n : ℕ) → Fails mode n
+tail_fails reads zero i [] d le h = end_stops i [] d refl ((end_law reads).fails [] d h)
+tail_fails reads zero i (t ∷ ts) d le h = absurd (omega arith)
+tail_fails reads (suc n) i ts d le h = fails_by reads n (tail_fails reads n) (Test_column ts) i ts d refl le h
 
-rest_law : Lawful (both (many Test_column item 1) reading.primary_key) (Rest 1) (Rest 1) (of rest_goes)
-rest_law = record {
+rest_law : {mode : Mode} → Reads mode → Lawful mode (both (many Test_column item 1) reading.primary_key) (Rest 1) (Rest 1) (of rest_goes)
+rest_law reads = record {
   sub = λ a x w. w;
   some = rest_some 1;
+  filled = λ _. rest_some 1;
   sound = λ ts v r d. tail_sound (length ts) 1 ts v r (omega arith) (sym (tails (length ts) 1 ts) ∙ d);
-  fails = λ ts d h. tail_fails (length ts) 1 ts d (omega arith) (sym (tails (length ts) 1 ts) ∙ h);
+  fails = λ ts d h. tail_fails reads (length ts) 1 ts d (omega arith) (sym (tails (length ts) 1 ts) ∙ h);
 }
 
 -- ---- the whole
 
 -- a reader that answers the same
-same_reader : {A : Type 0} (p q : Reader A) (P W : Lang A) (g : Kinds) → ((ts : List Token) → q ts ≡ p ts) → Lawful p P W g → Lawful q P W g
-same_reader p q P W g same l = record { sub = l.sub; some = l.some; sound = λ ts a r e. l.sound ts a r (sym (same ts) ∙ e); fails = λ ts e h. l.fails ts e (sym (same ts) ∙ h) }
+same_reader : {mode : Mode} {A : Type 0} (p q : Reader A) (P W : Lang A) (g : Kinds) → ((ts : List Token) → q ts ≡ p ts) → Lawful mode p P W g → Lawful mode q P W g
+same_reader p q P W g same l = record { sub = l.sub; some = l.some; filled = l.filled; sound = λ ts a r e. l.sound ts a r (sym (same ts) ∙ e); fails = λ ts e h. l.fails ts e (sym (same ts) ∙ h) }
 
 abbrev All : Lang (List ColumnDef × List Name)
 All = Made joined (Both grammar.column_def (Rest 1))
@@ -371,19 +372,19 @@ out_all v x w = record {
   };
 }
 
-all_law : Lawful (made joined (both reading.column_def (both (many Test_column item 1) reading.primary_key))) All All (of rest_goes)
-all_law = made_lawful joined _ _ _ (of rest_goes)
+all_law : {mode : Mode} → Reads mode → Lawful mode (made joined (both reading.column_def (both (many Test_column item 1) reading.primary_key))) All All (of rest_goes)
+all_law {mode} reads = made_lawful joined _ _ _ (of rest_goes)
     (both_lawful reading.column_def (both (many Test_column item 1) reading.primary_key) grammar.column_def grammar.column_def (Rest 1) (Rest 1) (of (k.Primary ∷ [])) (of rest_goes)
-    ((column_def {S = ⊥} {H = Unit {0}}).lawful tt refl) rest_law (rest_clear 1))
+    ((column_def {S = ⊥} {H = mode}).lawful reads refl) (rest_law reads) (rest_clear 1))
 
-columns_law : Lawful reading.table_columns grammar.table_columns grammar.table_columns (of rest_goes)
+columns_law : {mode : Mode} → Reads mode → Lawful mode reading.table_columns grammar.table_columns grammar.table_columns (of rest_goes)
 unfolding reading.table_columns
-columns_law = same_lang reading.table_columns All grammar.table_columns All grammar.table_columns (of rest_goes) (λ v x. (into_all v x, out_all v x)) (λ v x. (into_all v x, out_all v x))
-    (same_reader _ reading.table_columns All All (of rest_goes) (λ ts. regrouped (many Test_column item 1) reading.primary_key (reading.column_def ts)) all_law)
+columns_law reads = same_lang reading.table_columns All grammar.table_columns All grammar.table_columns (of rest_goes) (λ v x. (into_all v x, out_all v x)) (λ v x. (into_all v x, out_all v x))
+    (same_reader _ reading.table_columns All All (of rest_goes) (λ ts. regrouped (many Test_column item 1) reading.primary_key (reading.column_def ts)) (all_law reads))
 
-pub table_columns : {S H : Type 0} → Ruled S H reading.table_columns grammar.table_columns grammar.table_columns (rule names rest_goes)
+pub table_columns : {S : Type 0} {H : Mode} → Ruled S H reading.table_columns grammar.table_columns grammar.table_columns (rule names rest_goes)
 unfolding grammar.table_columns of same_kind
 table_columns {S} {H} =
     let l : Ruled S H (both (descent.list (λ _. reading.column_def)) reading.primary_key) (Both (Commas (λ _. grammar.column_def)) grammar.primary_key) (Both (Commas (λ _. grammar.column_def)) grammar.primary_key)
     (unsettled names false) = stated (commas (λ _. column_def) then primary_key) _ refl in
-    record { some = l.some; full = l.full; none = l.none; opens = l.opens; plain = l.plain; lawful = λ _ _. columns_law }
+    record { some = l.some; full = l.full; none = l.none; opens = l.opens; plain = l.plain; lawful = λ reads _. columns_law reads }

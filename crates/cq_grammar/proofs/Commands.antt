@@ -3,7 +3,10 @@ use Rattle.std.proofs.Common.{◌≡◌, ℕ, List, [], ◌∷◌, ◌++◌, tru
 use Rattle.cq_token.specs.declared.token.Token.{Token}
 use Rattle.cq_grammar.specs.declared.kind.Kind.{Kind}
 use Rattle.cq_grammar.specs.declared.kind.Kind.TheVariants as k
+use Rattle.cq_grammar.specs.declared.name.Name.{Name}
+use Rattle.cq_grammar.specs.declared.statement.Ast.{Ast}
 use Rattle.cq_grammar.specs.declared.statement.Ast.TheVariants as ast
+use Rattle.cq_grammar.specs.declared.statement.Argument.{Argument}
 use Rattle.cq_grammar.specs.Words.{kind, of, starts, same_kind, names}
 use Rattle.cq_grammar.specs.Lang.{Lang, Made}
 use Rattle.cq_grammar.specs.Terminals.{name_of, place_of}
@@ -13,9 +16,9 @@ use Rattle.cq_grammar.specs.Reading as reading
 use Rattle.cq_grammar.specs.Descent as descent
 use Rattle.cq_grammar.specs.Descent.{conditions}
 use Rattle.cq_grammar.specs.Read.{Reader, Test, sees_three, tail}
-use Rattle.cq_grammar.proofs.Laws.{Begins, apart_starts, starts_front, among_starts, regroup, first_of_kinds}
+use Rattle.cq_grammar.proofs.Laws.{Mode, unseen, Begins, true_false, apart_starts, starts_front, among_starts, regroup, first_of_kinds}
 use Rattle.cq_grammar.proofs.Tokens.{token_of}
-use Rattle.cq_grammar.proofs.Sets.{of_apart, of_among, of_in}
+use Rattle.cq_grammar.proofs.Sets.{outside, of_apart, of_among, of_in}
 use Rattle.cq_grammar.proofs.Shapes.{Ruled, after, both_true, one_shape, token, seen, ◌then◌, either, maybe, second, word, commas, stated, rule, option}
 use Rattle.cq_grammar.proofs.Ahead.{OpensBy, ClearBy, three_grows, three_settles, by_sight}
 use Rattle.cq_grammar.proofs.Begun.{sees_so, second_so, first_so, behind_so, none_so, selected_so, name_item, the_so}
@@ -23,7 +26,7 @@ use Rattle.cq_grammar.proofs.Expressions.{or_goes, select_goes, deeper, number, 
 use Rattle.cq_grammar.proofs.Selects.{condition, filter, selected, selected_no_call}
 use Rattle.cq_grammar.proofs.Columns.{optional_names, table_columns}
 
-module _ {S H : Type 0} where
+module _ {S : Type 0} {H : Mode} where
   create : Ruled S H reading.create grammar.create grammar.create (rule (k.Create ∷ []) [])
   unfolding grammar.create reading.create of same_kind
   create = stated (seen _ (word k.Create then second (word k.Table) name then word k.Open then table_columns then word k.Close)) _ refl
@@ -96,7 +99,7 @@ call_begins t u is_select is_call = sees_so _ (behind_so place_of (k.Select ∷ 
 abbrev pub statement_goes : List Kind
 statement_goes = k.With ∷ select_goes
 
-module _ (S H : Type 0) (r : ℕ → (d : Deeper) → Reader (Tree d)) (P W : ℕ → (d : Deeper) → Lang (Tree d)) (lower : (n : ℕ) (d : Deeper) → Ruled S H (r n d) (P n d) (W n d) (deeper d)) where
+module _ (S : Type 0) (H : Mode) (r : ℕ → (d : Deeper) → Reader (Tree d)) (P W : ℕ → (d : Deeper) → Lang (Tree d)) (lower : (n : ℕ) (d : Deeper) → Ruled S H (r n d) (P n d) (W n d) (deeper d)) where
   pub row_values : Ruled S H (reading.row_values r) (grammar.row_values P) (grammar.row_values W) (rule (k.Open ∷ []) [])
   unfolding grammar.row_values reading.row_values of same_kind
   row_values = stated (seen _ (word k.Open then commas (λ _. lower 1 (expr or_)) then word k.Close)) _ refl
@@ -164,3 +167,53 @@ module _ (S H : Type 0) (r : ℕ → (d : Deeper) → Reader (Tree d)) (P W : �
       (by_sight call (seen ast.Query query) refl refl _ (three_grows (k.Select ∷ []) (k.Call ∷ []) (k.Open ∷ [])) call_opens query_clear
       (three_settles (k.Select ∷ []) (k.Call ∷ []) (k.Open ∷ []) _ (token_of k.Call) (first_of_kinds k.Call []) call_begins)
       (three_settles (k.Select ∷ []) (k.Call ∷ []) (k.Open ∷ []) _ (token_of k.Call) (first_of_kinds k.Call []) query_begins)) refl) refl) refl) refl) refl) refl) refl) _ refl
+
+-- ---- which statements begin with CREATE and COPY, and which are calls
+
+-- a phrase that begins otherwise
+other : {A : Type 0} {p : Reader A} {P V : Lang A} {fs gs : List Kind} (j : Kind) → Ruled ⊥ unseen p P V (rule fs gs) → outside (j ∷ []) fs ≡ true
+    → (a : A) (t : Token) (x : List Token) → V a (t ∷ x) → of (j ∷ []) (kind t) ≡ true → ⊥
+other {fs = fs} j r out a t x w is = elim (r.opens a (t ∷ x) w) [
+  | inl u ↦ true_false is (of_apart fs (j ∷ []) out (kind t) u)
+  | inr u ↦ true_false u.0 refl
+]
+
+module _ (r : ℕ → (d : Deeper) → Reader (Tree d)) (P W : ℕ → (d : Deeper) → Lang (Tree d)) (lower : (n : ℕ) (d : Deeper) → Ruled ⊥ unseen (r n d) (P n d) (W n d) (deeper d)) where
+  pub created : (a : Ast) (t : Token) (x : List Token) → grammar.statement W a (t ∷ x) → of (k.Create ∷ []) (kind t) ≡ true → grammar.create a (t ∷ x)
+  unfolding grammar.statement of same_kind
+  created a t x (inl w) is = w
+  created a t x (inr (inl w)) is = absurd (other k.Create (insert ⊥ unseen r P W lower) refl a t x w is)
+  created a t x (inr (inr (inl w))) is = absurd (other k.Create (update ⊥ unseen r P W lower) refl a t x w is)
+  created a t x (inr (inr (inr (inl w)))) is = absurd (other k.Create (delete ⊥ unseen r P W lower) refl a t x w is)
+  created a t x (inr (inr (inr (inr (inl w))))) is = absurd (other k.Create copy refl a t x w is)
+  created a t x (inr (inr (inr (inr (inr (inl w)))))) is = absurd (other k.Create set refl a t x w is)
+  created a t x (inr (inr (inr (inr (inr (inr (inl w))))))) is = absurd (other k.Create (explain ⊥ unseen r P W lower) refl a t x w is)
+  created a t x (inr (inr (inr (inr (inr (inr (inr (inl w)))))))) is = absurd (other k.Create call refl a t x w is)
+  created a t x (inr (inr (inr (inr (inr (inr (inr (inr w)))))))) is = absurd (other k.Create (seen ast.Query (query ⊥ unseen r P W lower)) refl a t x w is)
+
+  pub copied : (a : Ast) (t : Token) (x : List Token) → grammar.statement W a (t ∷ x) → of (k.Copy ∷ []) (kind t) ≡ true → grammar.copy a (t ∷ x)
+  unfolding grammar.statement of same_kind
+  copied a t x (inl w) is = absurd (other k.Copy create refl a t x w is)
+  copied a t x (inr (inl w)) is = absurd (other k.Copy (insert ⊥ unseen r P W lower) refl a t x w is)
+  copied a t x (inr (inr (inl w))) is = absurd (other k.Copy (update ⊥ unseen r P W lower) refl a t x w is)
+  copied a t x (inr (inr (inr (inl w)))) is = absurd (other k.Copy (delete ⊥ unseen r P W lower) refl a t x w is)
+  copied a t x (inr (inr (inr (inr (inl w))))) is = w
+  copied a t x (inr (inr (inr (inr (inr (inl w)))))) is = absurd (other k.Copy set refl a t x w is)
+  copied a t x (inr (inr (inr (inr (inr (inr (inl w))))))) is = absurd (other k.Copy (explain ⊥ unseen r P W lower) refl a t x w is)
+  copied a t x (inr (inr (inr (inr (inr (inr (inr (inl w)))))))) is = absurd (other k.Copy call refl a t x w is)
+  copied a t x (inr (inr (inr (inr (inr (inr (inr (inr w)))))))) is = absurd (other k.Copy (seen ast.Query (query ⊥ unseen r P W lower)) refl a t x w is)
+
+abbrev tree : Ast → Ast
+tree a = a
+
+pub called : (W : ℕ → (d : Deeper) → Lang (Tree d)) (function : Name) (arguments : List Argument) (at : ℕ) (x : List Token) → grammar.statement W (ast.Call function arguments at) x → grammar.call (ast.Call function arguments at) x
+unfolding grammar.statement grammar.create grammar.insert grammar.update grammar.delete grammar.copy grammar.set grammar.explain
+called W f args at x (inl w) = absurd (let h : tree (ast.Call f args at) ≡ ast.Create _ _ _ _ = w.is in cc)
+called W f args at x (inr (inl w)) = absurd (let h : tree (ast.Call f args at) ≡ ast.Insert _ _ _ _ = w.is in cc)
+called W f args at x (inr (inr (inl w))) = absurd (let h : tree (ast.Call f args at) ≡ ast.Update _ _ _ _ = w.is in cc)
+called W f args at x (inr (inr (inr (inl w)))) = absurd (let h : tree (ast.Call f args at) ≡ ast.Delete _ _ _ = w.is in cc)
+called W f args at x (inr (inr (inr (inr (inl w))))) = absurd (let h : tree (ast.Call f args at) ≡ ast.Copy _ _ _ _ _ = w.is in cc)
+called W f args at x (inr (inr (inr (inr (inr (inl w)))))) = absurd (let h : tree (ast.Call f args at) ≡ ast.Set _ _ _ _ _ = w.is in cc)
+called W f args at x (inr (inr (inr (inr (inr (inr (inl w))))))) = absurd (let h : tree (ast.Call f args at) ≡ ast.Explain _ _ = w.is in cc)
+called W f args at x (inr (inr (inr (inr (inr (inr (inr (inl w)))))))) = w
+called W f args at x (inr (inr (inr (inr (inr (inr (inr (inr w)))))))) = absurd (let h : tree (ast.Call f args at) ≡ ast.Query _ = w.is in cc)

@@ -12,7 +12,7 @@ use Rattle.cq_grammar.specs.Grammar as grammar
 use Rattle.cq_grammar.specs.Grammar.{digits, Deeper, expr, select, Tree, or_, and_, not_, term_, unary_}
 use Rattle.cq_grammar.specs.declared.name.Name.{Name}
 use Rattle.cq_grammar.specs.Read.{Reader, tail}
-use Rattle.cq_grammar.proofs.Laws.{among_starts}
+use Rattle.cq_grammar.proofs.Laws.{Mode, among_starts}
 use Rattle.cq_grammar.proofs.Sets.{of_among, of_apart}
 use Rattle.cq_grammar.specs.Descent as descent
 use Rattle.cq_grammar.specs.Descent.{literals, atoms, unaries, conditions, firsts, aliases, tested_words, inner_words, join_words}
@@ -60,7 +60,7 @@ deeper d = deeper_rule (firsts d) (goes d)
 
 -- ---- tokens
 
-module _ {S H : Type 0} where
+module _ {S : Type 0} {H : Mode} where
   pub number : Ruled S H descent.a_number terminal.a_number terminal.a_number (one_shape (k.Number ∷ []))
   unfolding descent.a_number
   number = seen count_of (token k.Number [])
@@ -101,7 +101,7 @@ behind_name t c z m (inl w) sm =
     ap (λ i. odd (t ∷ (i ++ m))) e ∙ name_plain t (w.phrase.phrase.left.from ∷ w.phrase.phrase.right.from ∷ m) (of_apart (k.Dot ∷ []) (k.Open ∷ []) refl (kind w.phrase.phrase.left.from) dot.kind)
     (and_false (of (k.Dot ∷ []) (kind w.phrase.phrase.left.from)) _ (of_apart column_names (k.Star ∷ []) refl (kind w.phrase.phrase.right.from) column.kind))
 
-module _ (S H : Type 0) (r : ℕ → (d : Deeper) → Reader (Tree d)) (P W : ℕ → (d : Deeper) → Lang (Tree d)) (lower : (n : ℕ) (d : Deeper) → Ruled S H (r n d) (P n d) (W n d) (deeper d)) where
+module _ (S : Type 0) (H : Mode) (r : ℕ → (d : Deeper) → Reader (Tree d)) (P W : ℕ → (d : Deeper) → Lang (Tree d)) (lower : (n : ℕ) (d : Deeper) → Ruled S H (r n d) (P n d) (W n d) (deeper d)) where
   -- ---- what stands alone
 
   pub literal : Ruled S H (descent.literal r) (grammar.literal P) (grammar.literal W) (plain_rule literals [])

@@ -11,6 +11,7 @@ pub mod Columns
 pub mod Commands
 pub mod Wider
 pub mod Whole
+pub mod Alone
 pub mod Shorter
 pub mod Spelled
 pub mod Bared

@@ -12,7 +12,7 @@ use Rattle.cq_grammar.specs.Grammar.{Deeper, expr, select, Tree, or_, and_, not_
 use Rattle.cq_grammar.specs.Read.{Reader, Test, sees_two, sees_three, tail}
 use Rattle.cq_grammar.specs.Descent as descent
 use Rattle.cq_grammar.specs.Descent.{conditions, firsts, aliases, inner_words, join_words}
-use Rattle.cq_grammar.proofs.Laws.{Clear, among_starts, apart_starts, regroup, true_false}
+use Rattle.cq_grammar.proofs.Laws.{Mode, Clear, among_starts, apart_starts, regroup, true_false}
 use Rattle.cq_grammar.proofs.Tokens.{token_of}
 use Rattle.cq_grammar.proofs.Laws.{first_of_kinds}
 use Rattle.cq_grammar.proofs.Sets.{outside, of_among, of_apart, of_in, starts_in}
@@ -37,7 +37,7 @@ module _ (W : ℕ → (d : Deeper) → Lang (Tree d)) where
       ∙ both_true (of names (kind w.phrase.left.from)) _ w.phrase.left.phrase.kind
       (both_true (of (k.Dot ∷ []) (kind back.left.from)) (of (k.Star ∷ []) (kind back.right.from)) back.left.phrase.kind back.right.phrase.kind)
 
-module _ (S H : Type 0) (r : ℕ → (d : Deeper) → Reader (Tree d)) (P W : ℕ → (d : Deeper) → Lang (Tree d)) (lower : (n : ℕ) (d : Deeper) → Ruled S H (r n d) (P n d) (W n d) (deeper d)) where
+module _ (S : Type 0) (H : Mode) (r : ℕ → (d : Deeper) → Reader (Tree d)) (P W : ℕ → (d : Deeper) → Lang (Tree d)) (lower : (n : ℕ) (d : Deeper) → Ruled S H (r n d) (P n d) (W n d) (deeper d)) where
   all_of : Ruled S H (descent.all_of r) (grammar.all_of P) (grammar.all_of W) (rule names [])
   unfolding grammar.all_of descent.all_of of same_kind
   all_of = stated (seen _ (name then second (word k.Dot) (word k.Star))) _ refl
@@ -176,7 +176,7 @@ made_avoids test f c b y m w sm = c w.from y m w.phrase sm
 others : (a b fs : List Kind) (y : List Token) → starts (of fs) y ≡ true → outside a fs ≡ true → sees_two a b y ≡ false
 others a b fs y is out = ap (λ i. i && starts (of b) (tail y)) (apart_starts (of fs) (of a) (of_apart fs a out) y is)
 
-module _ (S H : Type 0) (r : ℕ → (d : Deeper) → Reader (Tree d)) (P W : ℕ → (d : Deeper) → Lang (Tree d)) (lower : (n : ℕ) (d : Deeper) → Ruled S H (r n d) (P n d) (W n d) (deeper d)) where
+module _ (S : Type 0) (H : Mode) (r : ℕ → (d : Deeper) → Reader (Tree d)) (P W : ℕ → (d : Deeper) → Lang (Tree d)) (lower : (n : ℕ) (d : Deeper) → Ruled S H (r n d) (P n d) (W n d) (deeper d)) where
   item_no_call : Avoids call_test (grammar.select_item W) after
   unfolding grammar.select_item grammar.all_of of same_kind
   item_no_call a y m (inl w) sm = ap (λ i. call_test (i ++ m)) w.phrase.phrase.alone ∙ others (k.Call ∷ []) (k.Open ∷ []) (k.Star ∷ []) (w.phrase.from ∷ m) w.phrase.phrase.kind refl

@@ -8,7 +8,7 @@ use Rattle.cq_grammar.specs.Lang.{Lang, One, Both, Either, Made, Nothing, Many, 
 use Rattle.cq_grammar.specs.Terminals.{Commas, place_of, The}
 use Rattle.cq_grammar.specs.Read.{Test, Reader, one, both, made, nothing, choice, many, optional, behind, several, sees, tail}
 use Rattle.cq_grammar.specs.Descent.{the, list}
-use Rattle.cq_grammar.proofs.Laws.{Lawful, Begins, Opens, Clear, Among, starts_front, starts_none, true_false, among_starts, apart_starts, regroup, widen, one_some, one_lawful, both_lawful, made_lawful, nothing_lawful, choice_lawful, many_lawful, both_begins, made_begins}
+use Rattle.cq_grammar.proofs.Laws.{Mode, Reads, Lawful, Begins, Opens, Clear, Among, starts_front, starts_none, true_false, among_starts, apart_starts, regroup, widen, one_some, one_lawful, both_lawful, made_lawful, nothing_lawful, choice_lawful, many_lawful, both_begins, made_begins}
 use Rattle.cq_grammar.proofs.Sets.{inside, outside, of_apart, of_among, of_in, starts_in, and_first, and_second, not_true}
 
 pub record Shape : Type 0 where
@@ -37,14 +37,14 @@ after = k.Open ∷ k.Dot ∷ []
 abbrev pub Avoids : {A : Type 0} → Test → Lang A → List Kind → Type 0
 Avoids {A} test W gs = (a : A) (y m : List Token) → W a y → starts (of gs) m ≡ false → test (y ++ m) ≡ false
 
--- S: there are phrases deeper. H: the reader reads those.
-pub record Ruled (S H : Type 0) {A : Type 0} (p : Reader A) (P W : Lang A) (s : Shape) : Type 0 where
+-- S: there are phrases deeper. H: how those within the depth are seen.
+pub record Ruled (S : Type 0) (H : Mode) {A : Type 0} (p : Reader A) (P W : Lang A) (s : Shape) : Type 0 where
   pub some : S → Begins W []
   pub full : S → s.whole ≡ true → (t : Token) → of s.firsts (kind t) ≡ true → Begins W (t ∷ [])
   pub none : s.empty ≡ true → (a : A) × W a []
   pub opens : (a : A) (y : List Token) → W a y → starts (of s.firsts) y ≡ true ⊎ ((s.empty ≡ true) × (y ≡ []))
   pub plain : s.plain ≡ true → Avoids odd W after
-  pub lawful : H → s.fine ≡ true → Lawful p P W (of s.goes)
+  pub lawful : Reads H → s.fine ≡ true → Lawful H p P W (of s.goes)
 
 -- ---- lists of kinds
 
@@ -125,7 +125,7 @@ from_if false fs gs j h = inl h
 -- ---- what follows
 
 -- what begins with a phrase of W begins with none of the kinds gs
-pub clear_by : {S H A : Type 0} {p : Reader A} {P W : Lang A} {s : Shape} (gs hs : List Kind) → Ruled S H p P W s → outside gs s.firsts ≡ true
+pub clear_by : {S : Type 0} {H : Mode} {A : Type 0} {p : Reader A} {P W : Lang A} {s : Shape} (gs hs : List Kind) → Ruled S H p P W s → outside gs s.firsts ≡ true
     → (s.empty ≡ true → Among (of gs) (of hs)) → Clear (of gs) W (of hs)
 clear_by {s = s} gs hs r out sub a y m w sm = elim (r.opens a y w) [
   | inl u ↦ apart_starts (of s.firsts) (of gs) (of_apart s.firsts gs out) (y ++ m) (starts_front (of s.firsts) y m u)
@@ -133,7 +133,7 @@ clear_by {s = s} gs hs r out sub a y m w sm = elim (r.opens a y w) [
 ]
 
 -- each phrase of W begins with one of the kinds gs
-pub opens_by : {S H A : Type 0} {p : Reader A} {P W : Lang A} {s : Shape} (gs : List Kind) → Ruled S H p P W s → inside gs s.firsts ≡ true → s.empty ≡ false → Opens (of gs) W
+pub opens_by : {S : Type 0} {H : Mode} {A : Type 0} {p : Reader A} {P W : Lang A} {s : Shape} (gs : List Kind) → Ruled S H p P W s → inside gs s.firsts ≡ true → s.empty ≡ false → Opens (of gs) W
 opens_by {s = s} gs r all some a y w = elim (r.opens a y w) [
   | inl u ↦ starts_in (of s.firsts) (of gs) (of_in s.firsts gs all) y u
   | inr u ↦ true_false u.0 some
@@ -148,7 +148,7 @@ not_odd ts h = and_false (starts (of names) ts) _ h
 abbrev pub one_shape : List Kind → Shape
 one_shape ks = record { firsts = ks; goes = []; empty = false; whole = true; plain = outside names ks; fine = true }
 
-pub token : {S H : Type 0} (j : Kind) (ks : List Kind) → Ruled S H (one (j ∷ ks)) (One (j ∷ ks)) (One (j ∷ ks)) (one_shape (j ∷ ks))
+pub token : {S : Type 0} {H : Mode} (j : Kind) (ks : List Kind) → Ruled S H (one (j ∷ ks)) (One (j ∷ ks)) (One (j ∷ ks)) (one_shape (j ∷ ks))
 token j ks = record {
   some = λ _. one_some j ks;
   full = λ _ _ t in_. record { value = t; more = []; phrase = record { kind = in_; alone = refl } };
@@ -163,7 +163,7 @@ token j ks = record {
 abbrev pub nothing_shape : Shape
 nothing_shape = record { firsts = []; goes = []; empty = true; whole = true; plain = false; fine = true }
 
-pub none_here : {S H A : Type 0} (v : A) → Ruled S H (nothing v) (Nothing v) (Nothing v) nothing_shape
+pub none_here : {S : Type 0} {H : Mode} {A : Type 0} (v : A) → Ruled S H (nothing v) (Nothing v) (Nothing v) nothing_shape
 unfolding of
 none_here v = record {
   some = λ _. record { value = v; more = []; phrase = record { is = refl; none = refl } };
@@ -176,7 +176,7 @@ none_here v = record {
 
 -- ---- seen by a function
 
-pub seen : {S H A B : Type 0} (f : A → B) {p : Reader A} {P W : Lang A} {s : Shape} → Ruled S H p P W s → Ruled S H (made f p) (Made f P) (Made f W) s
+pub seen : {S : Type 0} {H : Mode} {A B : Type 0} (f : A → B) {p : Reader A} {P W : Lang A} {s : Shape} → Ruled S H p P W s → Ruled S H (made f p) (Made f P) (Made f W) s
 seen f {p} {P} {W} {s} r = record {
   some = λ u. made_begins f W [] (r.some u);
   full = λ u h t in_. made_begins f W (t ∷ []) (r.full u h t in_);
@@ -206,7 +206,7 @@ pub both_true : (a b : Bool) → a ≡ true → b ≡ true → (a && b) ≡ true
 both_true true b h g = g
 both_true false b h g = h
 
-module _ {S H A B : Type 0} {p : Reader A} {q : Reader B} {P W : Lang A} {Q V : Lang B} {s t : Shape} (l : Ruled S H p P W s) (m : Ruled S H q Q V t) where
+module _ {S : Type 0} {H : Mode} {A B : Type 0} {p : Reader A} {q : Reader B} {P W : Lang A} {Q V : Lang B} {s t : Shape} (l : Ruled S H p P W s) (m : Ruled S H q Q V t) where
   behind_none : (a : A) → W a [] → (before : List Token) → Begins V before → Begins (Both W V) before
   behind_none a w before b = record { value = (a, b.value); more = b.more; phrase = record { front = []; back = before ++ b.more; whole = refl; left = w; right = b.phrase } }
 
@@ -239,7 +239,7 @@ module _ {S H A B : Type 0} {p : Reader A} {q : Reader B} {P W : Lang A} {Q V : 
       ap odd (ap (λ i. i ++ n) w.whole ∙ regroup w.front w.back n)
       ∙ l.plain (and_first _ _ h) c.0 w.front (w.back ++ n) w.left (clear_by after after m (and_second s.plain _ h) (λ _ j out. out) c.1 w.back n w.right sm)
 
-  both_law : H → (s.fine && (t.fine && outside s.goes t.firsts)) ≡ true → Lawful (both p q) (Both P Q) (Both W V) (of (with_if t.empty t.goes s.goes))
+  both_law : Reads H → (s.fine && (t.fine && outside s.goes t.firsts)) ≡ true → Lawful H (both p q) (Both P Q) (Both W V) (of (with_if t.empty t.goes s.goes))
   both_law h fine =
       let rest = and_second s.fine _ fine in
       let wider = widen q Q V (of t.goes) (of (with_if t.empty t.goes s.goes)) (among_if t.empty t.goes s.goes) (m.lawful h (and_first t.fine _ rest)) in
@@ -257,7 +257,7 @@ module _ {S H A B : Type 0} {p : Reader A} {q : Reader B} {P W : Lang A} {Q V : 
   }
 
 infixr 10 ◌then◌
-abbrev pub ◌then◌ : {S H A B : Type 0} {p : Reader A} {q : Reader B} {P W : Lang A} {Q V : Lang B} {s t : Shape} → Ruled S H p P W s → Ruled S H q Q V t
+abbrev pub ◌then◌ : {S : Type 0} {H : Mode} {A B : Type 0} {p : Reader A} {q : Reader B} {P W : Lang A} {Q V : Lang B} {s t : Shape} → Ruled S H p P W s → Ruled S H q Q V t
     → Ruled S H (both p q) (Both P Q) (Both W V) (both_shape s t)
 l then m = pair l m
 
@@ -273,7 +273,7 @@ choice_shape ks s t = record {
   fine = s.fine && (t.fine && (not s.empty && (inside ks s.firsts && outside ks t.firsts)));
 }
 
-module _ {S H A : Type 0} (ks : List Kind) {p q : Reader A} {P W Q V : Lang A} {s t : Shape} (l : Ruled S H p P W s) (m : Ruled S H q Q V t) where
+module _ {S : Type 0} {H : Mode} {A : Type 0} (ks : List Kind) {p q : Reader A} {P W Q V : Lang A} {s t : Shape} (l : Ruled S H p P W s) (m : Ruled S H q Q V t) where
   abbrev goes : List Kind
   goes = with_if t.empty (s.goes ++ t.goes) ks
 
@@ -301,7 +301,7 @@ module _ {S H A : Type 0} (ks : List Kind) {p q : Reader A} {P W Q V : Lang A} {
   choice_plain h a y n (inl w) sm = l.plain (and_first _ _ h) a y n w sm
   choice_plain h a y n (inr w) sm = m.plain (and_second s.plain _ h) a y n w sm
 
-  choice_law : s.empty ≡ false → H → (s.fine && (t.fine && (not s.empty && (inside ks s.firsts && outside ks t.firsts)))) ≡ true → Lawful (choice (sees ks) p q) (Either P Q) (Either W V) (of goes)
+  choice_law : s.empty ≡ false → Reads H → (s.fine && (t.fine && (not s.empty && (inside ks s.firsts && outside ks t.firsts)))) ≡ true → Lawful H (choice (sees ks) p q) (Either P Q) (Either W V) (of goes)
   choice_law filled h fine =
       let more = and_second s.fine _ fine in
       let sets = and_second (not s.empty) _ (and_second t.fine _ more) in
@@ -327,7 +327,7 @@ module _ {S H A : Type 0} (ks : List Kind) {p q : Reader A} {P W Q V : Lang A} {
 abbrev pub optional_shape : List Kind → Shape → Shape
 optional_shape ks s = choice_shape ks s nothing_shape
 
-pub maybe : {S H A : Type 0} (ks : List Kind) {p : Reader A} {P W : Lang A} {s : Shape} → Ruled S H p P W s → s.empty ≡ false
+pub maybe : {S : Type 0} {H : Mode} {A : Type 0} (ks : List Kind) {p : Reader A} {P W : Lang A} {s : Shape} → Ruled S H p P W s → s.empty ≡ false
     → Ruled S H (optional (sees ks) p) (Optional P) (Optional W) (optional_shape ks s)
 maybe ks l filled = either ks (seen Some l) (none_here None) filled
 
@@ -343,7 +343,7 @@ many_shape ks s = record {
   fine = s.fine && (not s.empty && (inside ks s.firsts && outside s.goes ks));
 }
 
-module _ {S H A : Type 0} (ks : List Kind) {p : ℕ → Reader A} {P W : ℕ → Lang A} {s : Shape} (l : (i : ℕ) → Ruled S H (p i) (P i) (W i) s) where
+module _ {S : Type 0} {H : Mode} {A : Type 0} (ks : List Kind) {p : ℕ → Reader A} {P W : ℕ → Lang A} {s : Shape} (l : (i : ℕ) → Ruled S H (p i) (P i) (W i) s) where
   many_opens : s.empty ≡ false → (i : ℕ) (vs : List A) (y : List Token) → Many W i vs y → starts (of s.firsts) y ≡ true ⊎ ((true ≡ true) × (y ≡ []))
   many_opens filled i [] y w = inr (refl, w)
   many_opens filled i (a ∷ vs) y w = elim ((l i).opens a w.0 w.3) [
@@ -356,7 +356,7 @@ module _ {S H A : Type 0} (ks : List Kind) {p : ℕ → Reader A} {P W : ℕ →
       let b = (l i).full h whole t in_ in
       record { value = b.value ∷ []; more = b.more ++ []; phrase = (t ∷ b.more, [], refl, b.phrase, refl) }
 
-  many_law : s.empty ≡ false → (i : ℕ) → H → (s.fine && (not s.empty && (inside ks s.firsts && outside s.goes ks))) ≡ true → Lawful (many (sees ks) p i) (Many P i) (Many W i) (of (s.goes ++ ks))
+  many_law : s.empty ≡ false → (i : ℕ) → Reads H → (s.fine && (not s.empty && (inside ks s.firsts && outside s.goes ks))) ≡ true → Lawful H (many (sees ks) p i) (Many P i) (Many W i) (of (s.goes ++ ks))
   many_law filled i h fine =
       let sets = and_second (not s.empty) _ (and_second s.fine _ fine) in
       many_lawful (of ks) (of s.goes) (of (s.goes ++ ks)) p P W (λ j. (l j).lawful h (and_first _ _ fine)) (λ j. opens_by ks (l j) (and_first _ _ sets) filled)
@@ -375,18 +375,18 @@ module _ {S H A : Type 0} (ks : List Kind) {p : ℕ → Reader A} {P W : ℕ →
 -- ---- combinations
 
 -- the second of two is kept
-pub second : {S H A B : Type 0} {p : Reader A} {q : Reader B} {P W : Lang A} {Q V : Lang B} {s t : Shape} → Ruled S H p P W s → Ruled S H q Q V t
+pub second : {S : Type 0} {H : Mode} {A B : Type 0} {p : Reader A} {q : Reader B} {P W : Lang A} {Q V : Lang B} {s t : Shape} → Ruled S H p P W s → Ruled S H q Q V t
     → Ruled S H (behind p q) (Behind P Q) (Behind W V) (both_shape s t)
 second l m = seen (λ c. c.1) (pair l m)
 
-pub word : {S H : Type 0} (j : Kind) → Ruled S H (the j) (The j) (The j) (one_shape (j ∷ []))
+pub word : {S : Type 0} {H : Mode} (j : Kind) → Ruled S H (the j) (The j) (The j) (one_shape (j ∷ []))
 unfolding the
 word j = seen place_of (token j [])
 
 abbrev pub several_shape : List Kind → Shape → Shape
 several_shape ks s = both_shape s (many_shape ks s)
 
-pub one_or_more : {S H A : Type 0} (ks : List Kind) {p : ℕ → Reader A} {P W : ℕ → Lang A} {s : Shape} → ((i : ℕ) → Ruled S H (p i) (P i) (W i) s) → s.empty ≡ false
+pub one_or_more : {S : Type 0} {H : Mode} {A : Type 0} (ks : List Kind) {p : ℕ → Reader A} {P W : ℕ → Lang A} {s : Shape} → ((i : ℕ) → Ruled S H (p i) (P i) (W i) s) → s.empty ≡ false
     → Ruled S H (several (sees ks) p) (Several P) (Several W) (several_shape ks s)
 one_or_more ks l filled = seen (λ (first, more). first ∷ more) (pair (l 0) (some_of_these ks l filled 1))
 
@@ -396,7 +396,7 @@ comma = k.Comma ∷ []
 abbrev pub commas_shape : Shape → Shape
 commas_shape s = both_shape s (many_shape comma (both_shape (one_shape comma) s))
 
-pub commas : {S H A : Type 0} {p : ℕ → Reader A} {P W : ℕ → Lang A} {s : Shape} → ((i : ℕ) → Ruled S H (p i) (P i) (W i) s) → Ruled S H (list p) (Commas P) (Commas W) (commas_shape s)
+pub commas : {S : Type 0} {H : Mode} {A : Type 0} {p : ℕ → Reader A} {P W : ℕ → Lang A} {s : Shape} → ((i : ℕ) → Ruled S H (p i) (P i) (W i) s) → Ruled S H (list p) (Commas P) (Commas W) (commas_shape s)
 commas l = seen (λ (first, more). first ∷ more) (pair (l 0) (some_of_these comma (λ i. second (word k.Comma) (l i)) refl 1))
 
 -- ---- as it is stated
@@ -420,7 +420,7 @@ so_by : (a b : Bool) → if_so a b ≡ true → a ≡ true → b ≡ true
 so_by true b h is = h
 so_by false b h is = let bad : false ≡ true = is in absurd (cc)
 
-module _ {S H A : Type 0} {p : Reader A} {P W : Lang A} {s : Shape} (l : Ruled S H p P W s) (z : Shape) (h : fits s z ≡ true) where
+module _ {S : Type 0} {H : Mode} {A : Type 0} {p : Reader A} {P W : Lang A} {s : Shape} (l : Ruled S H p P W s) (z : Shape) (h : fits s z ≡ true) where
   e1 : s.empty ≡ z.empty
   e1 = same_by s.empty z.empty (and_first _ _ h)
 

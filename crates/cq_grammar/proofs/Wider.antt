@@ -325,3 +325,10 @@ sub_upto (suc n) (suc m) h d a x w = deeper (λ _. upto n) (λ _. upto m) (λ _ 
 -- a statement of a height is one of each greater height
 pub sub_statement : (n m : ℕ) → n ≤ m → Sub (statements.statement (λ _. upto n)) (statements.statement (λ _. upto m))
 sub_statement n m h = statement (λ _. upto n) (λ _. upto m) (λ _ d. sub_upto n m h d)
+
+-- the same of what is too deep
+pub sub_below : (P Q : (d : Deeper) → Lang (Tree d)) → ((d : Deeper) → Sub (P d) (Q d)) → (left n : ℕ) (d : Deeper) → Sub (grammar.below_or P left n d) (grammar.below_or Q left n d)
+sub_below P Q s zero n d = s d
+sub_below P Q s (suc left) zero d = s d
+sub_below P Q s (suc left) (suc zero) d = deeper (grammar.below_or P left) (grammar.below_or Q left) (sub_below P Q s left) d
+sub_below P Q s (suc left) (suc (suc n)) d = sub_below P Q s left (suc n) d

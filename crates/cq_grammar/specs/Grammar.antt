@@ -255,12 +255,16 @@ module _ (lower : ℕ → (d : Deeper) → Lang (Tree d)) where
   phrase (expr unary_) = unary
   phrase select = selected
 
--- where depth d is left, and n more of it is used
+-- where depth d is left, and n more of it is used; what would be too deep is a phrase of `deeper`
+abbrev pub below_or : ((d : Deeper) → Lang (Tree d)) → ℕ → ℕ → (d : Deeper) → Lang (Tree d)
+below_or deeper zero n d = deeper d
+below_or deeper (suc left) zero d = deeper d
+below_or deeper (suc left) (suc zero) d = phrase (below_or deeper left) d
+below_or deeper (suc left) (suc (suc n)) d = below_or deeper left (suc n) d
+
+-- nothing is too deep
 abbrev pub below : ℕ → ℕ → (d : Deeper) → Lang (Tree d)
-below zero n d = Empty
-below (suc left) zero d = Empty
-below (suc left) (suc zero) d = phrase (below left) d
-below (suc left) (suc (suc n)) d = below left (suc n) d
+below = below_or (λ _. Empty)
 
 -- the phrases of at most this height, of any depth
 abbrev pub upto : ℕ → (d : Deeper) → Lang (Tree d)

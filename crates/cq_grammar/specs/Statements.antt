@@ -1,5 +1,5 @@
 -- The grammar of statements, a definition for each rule, and where a text that is none goes wrong.
-use Rattle.std.specs.Prelude.{◌≡◌, ℕ, ◌+◌, ◌<◌, ◌≤◌, List, [], ◌∷◌, ◌++◌, length, take, Option}
+use Rattle.std.specs.Prelude.{◌≡◌, ℕ, ◌+◌, ◌<◌, ◌≤◌, List, [], ◌∷◌, ◌++◌, length, take, Contains, Option}
 use Rattle.cq_token.specs.declared.token.Token.{Token}
 use Rattle.cq_grammar.specs.declared.kind.Kind.TheVariants as k
 use Rattle.cq_grammar.specs.declared.name.Name.{Name}
@@ -20,7 +20,7 @@ use Rattle.cq_grammar.specs.declared.statement.Argument.{Argument}
 use Rattle.cq_grammar.specs.Lang.{Lang, One, Made, Optional, Behind, ◌then◌, ◌or◌}
 use Rattle.cq_grammar.specs.Terminals.{The, Some-of, name_of, a_name, a_number, a_quoted, Commas}
 use Rattle.cq_grammar.specs.Nodes as node
-use Rattle.cq_grammar.specs.Grammar.{Deeper, expr, select, Tree, or_, or_chain, selected, filter, below, upto}
+use Rattle.cq_grammar.specs.Grammar.{Deeper, expr, select, Tree, or_, or_chain, selected, filter, below, below_or, upto}
 
 -- `( name, name .. )`
 unfoldable pub name_list : Lang (List Name)
@@ -138,15 +138,34 @@ Shallow = statement (below max_depth)
 abbrev pub BeginsOne : Lang Ast → List Token → Type 0
 BeginsOne P ts = (a : Ast) × (more : List Token) × P a (ts ++ more)
 
--- the first n tokens begin a statement, and no text of the language begins with these and the next, or ends where the tokens end
-pub record GoesWrong (P : Lang Ast) (ts : List Token) (n : ℕ) : Type 0 where
+-- the text begins with one of these tokens
+abbrev pub BeginsIn : List Token → List Token → Type 0
+BeginsIn used [] = ⊥
+BeginsIn used (t ∷ ts) = Contains used t
+
+-- the phrases of at most this height that begin with none of these tokens
+abbrev pub apart : List Token → ℕ → (d : Deeper) → Lang (Tree d)
+apart used height d a ts = upto height d a ts × (BeginsIn used ts → ⊥)
+
+-- the statements in which each phrase that is too deep begins with none of these tokens
+abbrev pub Apart : List Token → ℕ → Lang Ast
+Apart used height = statement (below_or (apart used height) max_depth)
+
+-- some statement begins so, and none of these tokens is too deep: what is deeper than the greatest depth begins behind them
+abbrev pub BeginsShallow : List Token → Type 0
+BeginsShallow ts = (height : ℕ) × BeginsOne (Apart ts height) ts
+
+-- the first n tokens begin a statement, and none of them is too deep; but no text of the language begins with these and the next, or ends where the tokens end
+pub record GoesWrong (ts : List Token) (n : ℕ) : Type 0 where
   pub inside : n ≤ length ts
   pub fits : BeginsOne Written (take n ts)
-  pub next : n < length ts → BeginsOne P (take (n + 1) ts) → ⊥
-  pub end : n ≡ length ts → (a : Ast) → P a ts → ⊥
+  pub shallow : BeginsShallow (take n ts)
+  pub next : n < length ts → BeginsOne Written (take (n + 1) ts) → ⊥
+  pub end : n ≡ length ts → (a : Ast) → Written a ts → ⊥
 
--- the first token at which a depth is above the greatest: with it, those before begin a statement, but none that keeps the limit
+-- the first token that is too deep: with it, those before begin a statement
 pub record GoesDeep (ts : List Token) (n : ℕ) : Type 0 where
   pub inside : n < length ts
   pub fits : BeginsOne Written (take (n + 1) ts)
-  pub deep : BeginsOne Shallow (take (n + 1) ts) → ⊥
+  pub before : BeginsShallow (take n ts)
+  pub deep : BeginsShallow (take (n + 1) ts) → ⊥

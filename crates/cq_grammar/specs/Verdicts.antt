@@ -21,7 +21,7 @@ place (t ∷ ts) end = t.start
 -- here stands the first token that, with those before it, begins no statement, or the text's end
 pub record WrongAt (ts : List Token) (end at : ℕ) : Type 0 where
   pub before : ℕ
-  pub wrong : GoesWrong Written ts before
+  pub wrong : GoesWrong ts before
   pub placed : misplaced (take before ts) ≡ None
   pub here : at ≡ place (drop before ts) end
 

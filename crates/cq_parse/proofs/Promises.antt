@@ -1,5 +1,5 @@
 -- What the reader's verdict says by the grammar.
-use Rattle.std.proofs.Common.{◌≡◌, ◌≢◌, ℕ, List, Result, Ok, Err, IfOk, refl, sym, ap, ◌∙◌}
+use Rattle.std.proofs.Common.{◌≡◌, ◌≢◌, ℕ, List, Result, Ok, Err, IfOk, refl, sym, ap, ap₂, ◌∙◌}
 use Rattle.cq_token.specs.declared.token.Token.{Token}
 use Rattle.cq_tree.specs.declared.limit.What.{What}
 use Rattle.cq_tree.specs.declared.limit.What.TheVariants as limits
@@ -7,6 +7,7 @@ use Rattle.cq_grammar.specs.declared.statement.Ast.{Ast}
 use Rattle.cq_grammar.specs.Statements.{max_depth, GoesDeep}
 use Rattle.cq_grammar.specs.Verdicts.{Complaint, syntax, depth, verdict, Accepted, RefusedAt}
 use Rattle.cq_grammar.proofs.Whole.{accepted, accepts, refused, deep}
+use Rattle.cq_grammar.proofs.Alone.{refuses, deepens}
 use Rattle.cq_parse.specs.Outcomes.{Gives}
 use Rattle.cq_parse.specs.declared.error.ParseError.{ParseError}
 use Rattle.cq_parse.specs.declared.error.ParseError.TheVariants as errors
@@ -48,3 +49,17 @@ module _ (ts : List Token) (end : ℕ) where
       let d = deep ts end g.0 in
       (sym k ∙ g.1, sym m ∙ g.2, d.0, d.1)
   gives_limit (Err errors.Memory) g what number is = absurd (let h : answered (Err errors.Memory) ≡ Err (errors.Limit what number) = is in cc)
+
+  pub gives_refuses : (r : Result Ast ParseError) → Gives (verdict ts end) r → (at : ℕ) → RefusedAt ts end at → r ≢ Err errors.Memory → r ≡ Err (errors.Syntax at)
+  gives_refuses (Ok b) g at w some = absurd (let h : judged (Ok b) ≡ Err (syntax at) = sym g ∙ refuses ts end at w in cc)
+  gives_refuses (Err (errors.Syntax there)) g at w some =
+      let h : judged (Err (syntax there)) ≡ Err (syntax at) = sym g ∙ refuses ts end at w in
+      let k : there ≡ at = cc in ap (λ i. answered (Err (errors.Syntax i))) k
+  gives_refuses (Err (errors.Limit what number)) g at w some = absurd (let h : judged (Err depth) ≡ Err (syntax at) = sym g.0 ∙ refuses ts end at w in cc)
+  gives_refuses (Err errors.Memory) g at w some = absurd (some refl)
+
+  pub gives_deepens : (r : Result Ast ParseError) → Gives (verdict ts end) r → (n : ℕ) → GoesDeep ts n → r ≢ Err errors.Memory → r ≡ Err (errors.Limit limits.Depth max_depth)
+  gives_deepens (Ok b) g n d some = absurd (let h : judged (Ok b) ≡ Err depth = sym g ∙ deepens ts end n d in cc)
+  gives_deepens (Err (errors.Syntax there)) g n d some = absurd (let h : judged (Err (syntax there)) ≡ Err depth = sym g ∙ deepens ts end n d in cc)
+  gives_deepens (Err (errors.Limit what number)) g n d some = ap₂ (λ i j. answered (Err (errors.Limit i j))) g.1 g.2
+  gives_deepens (Err errors.Memory) g n d some = absurd (some refl)

@@ -108,7 +108,7 @@ fn judge(alloc: Global, tokens: &Tokens, text: &[u8]) -> Result<Ast, ParseError>
 ///
 /// Errors: `Syntax` where the tokens are no statement of the grammar, or a word or an argument has no place there; `Limit`
 /// where a token is deeper than 64; `Memory`. Each place counts bytes from the text's start.
-#[tactic(auto, using(crate::proofs::Promises::gives_ok, crate::proofs::Promises::gives_accepts, crate::proofs::Promises::gives_syntax, crate::proofs::Promises::gives_limit))]
+#[tactic(auto, using(crate::proofs::Promises::gives_ok, crate::proofs::Promises::gives_accepts, crate::proofs::Promises::gives_syntax, crate::proofs::Promises::gives_limit, crate::proofs::Promises::gives_refuses, crate::proofs::Promises::gives_deepens))]
 pub fn parse(alloc: Global, tokens: &Tokens, text: &[u8]) -> Result<Ast, ParseError>
     // What is accepted is a statement of the grammar, within the depth.
     ensures ok { IfOk result (λ a. Accepted a tokens.now) }
@@ -118,7 +118,10 @@ pub fn parse(alloc: Global, tokens: &Tokens, text: &[u8]) -> Result<Ast, ParseEr
     ensures syntax { (at : ℕ) → result ≡ Err (ParseError.Syntax at) → RefusedAt tokens.now (length text.now) at }
     // Where a token is too deep.
     ensures limit { (what : What) (number : ℕ) → result ≡ Err (ParseError.Limit what number) → (what ≡ Depth) × (number ≡ max_depth) × (n : ℕ) × GoesDeep tokens.now n }
-    // The verdict of the reader that mirrors the grammar, which also says whether syntax or depth comes first.
+    // Each text that is refused or too deep is answered so, unless memory runs out. So it has one fault, at one place.
+    ensures refuses { (at : ℕ) → RefusedAt tokens.now (length text.now) at → result ≢ Err ParseError.Memory → result ≡ Err (ParseError.Syntax at) }
+    ensures deepens { (n : ℕ) → GoesDeep tokens.now n → result ≢ Err ParseError.Memory → result ≡ Err (ParseError.Limit Depth max_depth) }
+    // The verdict of the reader that mirrors the grammar.
     ensures reads { Gives (verdict tokens.now (length text.now)) result }
 {
     judge(alloc, tokens, text)

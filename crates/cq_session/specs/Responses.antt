@@ -15,6 +15,7 @@ use Rattle.cq_copy.specs.Rows.{Row}
 use Rattle.cq_copy.specs.Data.{rows_of}
 use Rattle.cq_history.specs.Standing.{copied_answer}
 use Rattle.cq_coordinator.specs.Coordination.{IsNoCopy}
+use Rattle.cq_statement.specs.Meanings.{Means}
 use Rattle.cq_statement.specs.Reading.{reading_of}
 
 -- ---- a text and its data
@@ -74,7 +75,9 @@ IsBoundTo None (answer.Failed fault.Memory) read = ⊤
 IsBoundTo None a (Ok t) = ⊥
 IsBoundTo None a (Err f) = a ≡ answer.Failed f
 
--- the bound form is the reading of the text and its data over these tables, and the answer is written as the text's
+-- the bound form is what the text means over these tables, with its data, and the answer is written as the text's
 pub record ReadsAs (bound : Option Statement) (a : Answer) (text bytes : List ℕ) (tables : List TableInfo) : Type 0 where
-  pub is_bound : IsBoundTo bound a (reading_with text bytes tables)
-  pub is_tagged : IsTagged (is_copy (reading_of text tables)) a
+  pub read : Result Statement Fault
+  pub means : Means text tables read
+  pub is_bound : IsBoundTo bound a (with_data bytes tables read)
+  pub is_tagged : IsTagged (is_copy read) a

@@ -1,8 +1,10 @@
-ghost use Rattle.std.specs.Prelude.{◌≡◌, List, length, Ok, Err, IfOk, IfErr};
+ghost use Rattle.std.specs.Prelude.{◌≡◌, List, length, Result, Ok, Err, IfOk, IfErr};
 ghost use Rattle.cq_token.specs.Tokens as lexed;
+ghost use Rattle.cq_tree.specs.declared.statement.Statement.{Statement};
 ghost use Rattle.cq_catalog.specs.declared.info.TableInfo.{TableInfo};
 ghost use Rattle.cq_grammar.specs.Verdicts.{verdict};
 ghost use Rattle.cq_reading.specs.Statements as statements;
+ghost use Rattle.cq_answer.specs.declared.fault.Fault.{Fault};
 ghost use Rattle.cq_statement.specs.Finding.{Reads};
 ghost use Rattle.cq_statement.specs.Meanings.{Means};
 ghost use Rattle.cq_statement.specs.Reading.{fault_of_parsing as parsing_fault, of_reading, reading_of};
@@ -67,12 +69,14 @@ fn bind_all(alloc: Global, tree: &Ast, catalog: &Catalog) -> Result<Statement, F
 /// Errors: the fault of the text's tokens (`OpenQuote`, `BadCharacter`, `NumberTooLarge`); else that they spell no statement of the
 /// grammar (`Syntax`), or are nested too deep (`Limit` of the depth); else the first refusal of the walk over its tree (5, 6, 7, 10, 12 to
 /// 19, 28 and 33 of `Fault`); and want of memory.
-#[tactic(auto, using(crate::proofs::MeaningLaws::reading_means))]
+#[tactic(auto, using(crate::proofs::MeaningLaws::reading_means, crate::proofs::MeaningLaws::means_one))]
 pub fn read_statement(alloc: Global, text: &[u8], catalog: &Catalog) -> Result<Statement, Fault>
     // The answer is the definition's, unless memory fails.
     ensures reading { Reads (reading_of text.now catalog.now.tables) result }
     // What the definition says is so of the text by the grammar alone.
     ensures means { Means text.now catalog.now.tables (reading_of text.now catalog.now.tables) }
+    // And of the text nothing else is so.
+    ensures one { (r : Result Statement Fault) → Means text.now catalog.now.tables r → reading_of text.now catalog.now.tables ≡ r }
 {
     let tokens = lex(alloc, text)?;
     let tree = parse_all(alloc, &tokens, text)?;

@@ -42,6 +42,8 @@ returns-in-Ok-clause-reads g c =
     let tables = c.args.coordinator.now.cluster.catalog.tables in
     let own = tagged_is c.in-Ok.read.is_copy c.answer-answer.result c.answer-answer.ensures.tag in
     record {
+      read = reading_of c.args.text.now tables;
+      means = c.read_with_data.ensures.means;
       is_bound = bound_ok c.tagged.result c.in-Ok.read.statement (reading_with c.args.text.now c.args.copied.now tables) c.in-Ok.ensures.ok;
       is_tagged = subst (IsTagged (is_copy (reading_of c.args.text.now tables))) (sym c.tagged.ensures)
           (subst (λ (b : Bool). IsTagged b (tagged c.in-Ok.read.is_copy c.answer-answer.result)) c.in-Ok.ensures.copy own);
@@ -64,6 +66,8 @@ pub returns-in-Err-clause-reads : goal.returns-in-Err-clause-reads
 returns-in-Err-clause-reads g c =
     let tables = c.args.coordinator.now.cluster.catalog.tables in
     record {
+      read = reading_of c.args.text.now tables;
+      means = c.read_with_data.ensures.means;
       is_bound = bound_err c.in-Err.fault (reading_with c.args.text.now c.args.copied.now tables) c.in-Err.ensures.err;
       is_tagged = failed_is_tagged (is_copy (reading_of c.args.text.now tables)) c.in-Err.fault;
     }
