@@ -65,7 +65,7 @@ impl Writer {
                 self.expr(inner.get())
             }
             Expr::Number { value, .. } => self.number(*value),
-            Expr::Quoted { text, .. } => self.quoted(text),
+            Expr::Quoted { text, .. } => self.quoted(text.as_str()),
             Expr::Null { .. } => self.word("null"),
             Expr::Column { column } => self.name(column),
             Expr::ColumnOf { relation, column } => self.column_of(relation, column),

@@ -1,4 +1,5 @@
-//! The printer of syntax trees: the text of a statement, which is read again as the same statement but for its places.
+//! The printer of syntax trees: the text of a statement, which is read again as the same statement but for its places; and the
+//! writer of tokens under it.
 #![tactic(auto)]
 
 mod expr;
@@ -10,3 +11,4 @@ mod statement;
 mod writer;
 
 pub use print::print_ast;
+pub use writer::Writer;

@@ -12,7 +12,7 @@ ghost use Rattle.cq_print.specs.Cases as cases;
 use crate::reserved::is_reserved;
 use crate::writer::Writer;
 use cq_grammar::Ast;
-use cq_token::{TokenKind, Word, print};
+use cq_token::{TokenKind, Word};
 use cq_value::{Items, NoMemory, Text};
 use std::alloc::Global;
 
@@ -50,6 +50,5 @@ pub fn print_ast(alloc: Global, statement: &Ast) -> Result<Text, NoMemory>
 {
     let mut writer = Writer::new(alloc);
     writer.statement(statement)?;
-    let words = words_of(alloc, writer.into_kinds())?;
-    print(alloc, words.as_slice())
+    writer.into_text()
 }

@@ -350,7 +350,7 @@ impl Writer {
         ensures { OnOk result (self.new ≡ self.old ++ spelled.literal_spelling literal.now) }
     {
         match literal {
-            Literal::Quoted { text, .. } => self.quoted(text),
+            Literal::Quoted { text, .. } => self.quoted(text.as_str()),
             Literal::Number { value, .. } => self.number(*value),
         }
     }

@@ -1,15 +1,18 @@
-ghost use Rattle.std.specs.Prelude.{◌≡◌, [], ◌++◌, IfOk, OnOk};
+ghost use Rattle.std.specs.Prelude.{◌≡◌, [], ◌++◌, map, IfOk, OnOk};
+ghost use Rattle.cq_token.specs.Printed.{printed};
 ghost use Rattle.cq_grammar.specs.Spelling.{word, sign, named, number, quoted, if_written};
+ghost use Rattle.cq_print.specs.Cases as cases;
 
+use crate::print::words_of;
 use cq_grammar::Name;
-use cq_token::{Sign, TokenKind};
+use cq_token::{Sign, TokenKind, print};
 use cq_value::{Items, NoMemory, Text};
 use std::alloc::Global;
 use std::marker::Model;
 
-/// The tokens that are written so far. After an `Err` some of the tokens of the tree may be missing.
+/// The tokens that are written so far. The only error of a call is want of memory; some of its tokens may be missing then.
 #[derive(Drop)]
-pub(crate) struct Writer {
+pub struct Writer {
     alloc: Global,
     kinds: Items<TokenKind>,
 }
@@ -32,8 +35,21 @@ fn text_of(alloc: Global, letters: &str) -> Result<Text, NoMemory>
     }
 }
 
+/// An equal token.
+fn copy_of(alloc: Global, kind: &TokenKind) -> Result<TokenKind, NoMemory>
+    ensures { IfOk result (λ copy. copy ≡ kind.now) }
+{
+    match kind {
+        TokenKind::Name(letters) => Ok(TokenKind::Name(letters.copy(alloc)?)),
+        TokenKind::Number(value) => Ok(TokenKind::Number(*value)),
+        TokenKind::Text(content) => Ok(TokenKind::Text(content.copy(alloc)?)),
+        TokenKind::Sign(mark) => Ok(TokenKind::Sign(*mark)),
+    }
+}
+
 impl Writer {
-    pub(crate) fn new(alloc: Global) -> Writer
+    /// No tokens. Takes no memory.
+    pub fn new(alloc: Global) -> Writer
         ensures { result ≡ [] }
     {
         Writer {
@@ -42,22 +58,25 @@ impl Writer {
         }
     }
 
-    pub(crate) fn into_kinds(self) -> Items<TokenKind>
-        ensures { result ≡ self }
+    /// The text of the tokens: one blank between them, reserved words in upper case.
+    pub fn into_text(self) -> Result<Text, NoMemory>
+        ensures { IfOk result (λ text. text ≡ printed (map cases.word_of self)) }
     {
-        let Writer { kinds, .. } = self;
-        kinds
+        let Writer { alloc, kinds } = self;
+        let words = words_of(alloc, kinds)?;
+        print(alloc, words.as_slice())
     }
 
-    /// Writes a word of the grammar.
-    pub(crate) fn word(&mut self, letters: &str) -> Result<(), NoMemory>
+    /// Writes a word of the grammar, or a name, in lower case.
+    pub fn word(&mut self, letters: &str) -> Result<(), NoMemory>
         ensures { OnOk result (self.new ≡ self.old ++ word letters.now) }
     {
         let letters = text_of(self.alloc, letters)?;
         self.kinds.put(TokenKind::Name(letters))
     }
 
-    pub(crate) fn sign(&mut self, mark: Sign) -> Result<(), NoMemory>
+    /// Writes a sign.
+    pub fn sign(&mut self, mark: Sign) -> Result<(), NoMemory>
         ensures { OnOk result (self.new ≡ self.old ++ sign mark) }
     {
         self.kinds.put(TokenKind::Sign(mark))
@@ -69,23 +88,42 @@ impl Writer {
         self.word(name.text.as_str())
     }
 
-    pub(crate) fn number(&mut self, value: u64) -> Result<(), NoMemory>
+    /// Writes the digits of a number.
+    pub fn number(&mut self, value: u64) -> Result<(), NoMemory>
         ensures { OnOk result (self.new ≡ self.old ++ number value) }
     {
         self.kinds.put(TokenKind::Number(value))
     }
 
-    pub(crate) fn quoted(&mut self, content: &Text) -> Result<(), NoMemory>
+    /// Writes a text between quotes.
+    pub fn quoted(&mut self, content: &str) -> Result<(), NoMemory>
         ensures { OnOk result (self.new ≡ self.old ++ quoted content.now) }
     {
-        let content = content.copy(self.alloc)?;
+        let content = text_of(self.alloc, content)?;
         self.kinds.put(TokenKind::Text(content))
     }
 
     /// Writes a word that may be left out.
-    pub(crate) fn word_if(&mut self, written: bool, letters: &str) -> Result<(), NoMemory>
+    pub fn word_if(&mut self, written: bool, letters: &str) -> Result<(), NoMemory>
         ensures { OnOk result (self.new ≡ self.old ++ if_written written (word letters.now)) }
     {
         if written { self.word(letters) } else { Ok(()) }
+    }
+
+    /// Writes a sign that may be left out.
+    pub fn sign_if(&mut self, written: bool, mark: Sign) -> Result<(), NoMemory>
+        ensures { OnOk result (self.new ≡ self.old ++ if_written written (sign mark)) }
+    {
+        if written { self.sign(mark) } else { Ok(()) }
+    }
+
+    /// Writes all that another has.
+    pub fn append(&mut self, other: &Writer) -> Result<(), NoMemory>
+        ensures { OnOk result (self.new ≡ self.old ++ other.now) }
+    {
+        'kinds: for kind in other.kinds.as_slice() {
+            self.kinds.put(copy_of(self.alloc, kind)?)?;
+        }
+        Ok(())
     }
 }

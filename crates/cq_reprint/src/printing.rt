@@ -1,9 +1,7 @@
-ghost use Rattle.std.specs.Prelude.{◌≡◌, ◌≢◌, ◌↔◌, Ok, Err, IfOk, IfErr, IsTrue};
+ghost use Rattle.std.specs.Prelude.{◌≡◌, ◌≢◌, ◌↔◌, Ok, Err, IfOk, IsTrue};
 ghost use Rattle.cq_answer.specs.declared.fault.Fault.TheVariants.{Memory};
-ghost use Rattle.cq_reprint.specs.declared.error.PrintError.TheVariants.{NotReadAgain};
 ghost use Rattle.cq_statement.specs.Reading.{reading_of};
 ghost use Rattle.cq_statement.specs.Meanings.{IsTree};
-ghost use Rattle.cq_bind_print.specs.Statements.{canonical_text};
 
 use crate::error::PrintError;
 use cq_answer::Fault;
@@ -44,12 +42,10 @@ fn is_read_as(
 ///
 /// Errors: `NotReadAgain`, where the text is refused over the catalogue, or is read as another statement; and want of memory.
 pub fn print(alloc: Global, statement: &Statement, catalog: &Catalog) -> Result<Text, PrintError>
-    ensures text { IfOk result (λ t. t ≡ canonical_text catalog.now.tables statement.now) }
     // What the definition reads of the text is the statement, without a fault.
     ensures again { IfOk result (λ t. reading_of t catalog.now.tables ≡ Ok statement.now) }
     // The same by the grammar alone: the text's tokens spell a tree that stands for the statement.
     ensures spells { IfOk result (λ t. IsTree t catalog.now.tables (Ok statement.now)) }
-    ensures cause { IfErr result (λ e. e ≡ NotReadAgain → reading_of (canonical_text catalog.now.tables statement.now) catalog.now.tables ≢ Ok statement.now) }
 {
     let text = canonical(alloc, statement, catalog)?;
     if is_read_as(alloc, text.as_str().as_bytes(), statement, catalog)? {

@@ -1,0 +1,139 @@
+//! Conditions.
+
+use crate::form::Form;
+use crate::level::Level;
+use crate::scope::Scope;
+use cq_print::Writer;
+use cq_token::Sign;
+use cq_tree::{Cond, Op};
+use cq_value::NoMemory;
+
+fn sign_of(op: Op) -> Sign {
+    match op {
+        Op::Eq => Sign::Equal,
+        Op::Ne => Sign::NotEqual,
+        Op::Lt => Sign::Less,
+        Op::Le => Sign::LessOrEqual,
+        Op::Gt => Sign::Greater,
+        Op::Ge => Sign::GreaterOrEqual,
+    }
+}
+
+impl Scope<'_> {
+    /// Writes an IN subquery.
+    fn subquery(&self, out: &mut Writer, number: u32) -> Result<(), NoMemory> {
+        let number = u64::from(number);
+        match self.subqueries.iter().find(|subquery| subquery.number == number) {
+            Some(subquery) => out.append(&subquery.select),
+            None => Ok(()),
+        }
+    }
+
+    /// Writes a condition where the grammar asks for this level at least.
+    #[cycle(write)]
+    pub(crate) fn cond(&self, out: &mut Writer, c: &Cond, least: Level) -> Result<(), NoMemory> {
+        let form = Form::of(c);
+        let bracketed = form.level() < least;
+        out.sign_if(bracketed, Sign::Open)?;
+        match form {
+            Form::List { .. } => self.list(out, c)?,
+            Form::Between => self.between(out, c)?,
+            Form::Chain { .. } | Form::Single => self.single(out, c)?,
+        }
+        out.sign_if(bracketed, Sign::Close)
+    }
+
+    #[cycle(write)]
+    fn single(&self, out: &mut Writer, c: &Cond) -> Result<(), NoMemory> {
+        match c {
+            Cond::Compare(op, a, b) => {
+                self.expr(out, a, Level::Sum)?;
+                out.sign(sign_of(*op))?;
+                self.expr(out, b, Level::Sum)
+            }
+            Cond::IsNull(a) => {
+                self.expr(out, a, Level::Sum)?;
+                out.word("is")?;
+                out.word("null")
+            }
+            Cond::InResult(a, number) => {
+                self.expr(out, a, Level::Sum)?;
+                out.word("in")?;
+                out.sign(Sign::Open)?;
+                self.subquery(out, *number)?;
+                out.sign(Sign::Close)
+            }
+            Cond::And(a, b) => self.chain(out, false, a.get(), b.get()),
+            Cond::Or(a, b) => self.chain(out, true, a.get(), b.get()),
+            Cond::Not(a) => {
+                out.word("not")?;
+                self.cond(out, a.get(), Level::Not)
+            }
+            Cond::Always => out.word("null"),
+        }
+    }
+
+    #[cycle(write)]
+    fn chain(&self, out: &mut Writer, any: bool, a: &Cond, b: &Cond) -> Result<(), NoMemory> {
+        let least = match (any, Form::of(a).is_half(any, Form::of(b))) {
+            (true, true) => Level::Or,
+            (false, false) => Level::Not,
+            _ => Level::And,
+        };
+        self.cond(out, a, least)?;
+        out.word(if any { "or" } else { "and" })?;
+        self.cond(out, b, least)
+    }
+
+    #[cycle(write)]
+    fn between(&self, out: &mut Writer, c: &Cond) -> Result<(), NoMemory> {
+        if let Cond::And(low, high) = c {
+            self.ends(out, low.get(), high.get())?;
+        }
+        Ok(())
+    }
+
+    #[cycle(write)]
+    fn ends(&self, out: &mut Writer, low: &Cond, high: &Cond) -> Result<(), NoMemory> {
+        if let (Cond::Compare(_, x, from), Cond::Compare(_, _, to)) = (low, high) {
+            self.expr(out, x, Level::Sum)?;
+            out.word("between")?;
+            self.expr(out, from, Level::Sum)?;
+            out.word("and")?;
+            self.expr(out, to, Level::Sum)?;
+        }
+        Ok(())
+    }
+
+    #[cycle(write)]
+    fn list(&self, out: &mut Writer, c: &Cond) -> Result<(), NoMemory> {
+        self.operand(out, c)?;
+        out.word("in")?;
+        out.sign(Sign::Open)?;
+        self.items(out, c)?;
+        out.sign(Sign::Close)
+    }
+
+    /// Writes what is equal to one of the items.
+    #[cycle(write)]
+    fn operand(&self, out: &mut Writer, c: &Cond) -> Result<(), NoMemory> {
+        match c {
+            Cond::Or(a, _) => self.operand(out, a.get()),
+            Cond::Compare(_, x, _) => self.expr(out, x, Level::Sum),
+            _ => Ok(()),
+        }
+    }
+
+    #[cycle(write)]
+    fn items(&self, out: &mut Writer, c: &Cond) -> Result<(), NoMemory> {
+        match c {
+            Cond::Or(a, b) => {
+                self.items(out, a.get())?;
+                out.sign(Sign::Comma)?;
+                self.items(out, b.get())
+            }
+            Cond::Compare(_, _, item) => self.expr(out, item, Level::Sum),
+            _ => Ok(()),
+        }
+    }
+}

@@ -1,0 +1,23 @@
+use crate::level::Level;
+use cq_print::Writer;
+
+/// What a column is written as, and the level of that.
+#[derive(Drop)]
+pub(crate) struct Phrase {
+    pub tokens: Writer,
+    pub level: Level,
+}
+
+/// The number of an IN subquery's result, and its SELECT.
+#[derive(Drop)]
+pub(crate) struct Subquery {
+    pub number: u64,
+    pub select: Writer,
+}
+
+/// What an expression is written by: each column in its place, and the IN subqueries of its SELECT.
+#[derive(Clone, Copy)]
+pub(crate) struct Scope<'a> {
+    pub columns: &'a [Phrase],
+    pub subqueries: &'a [Subquery],
+}

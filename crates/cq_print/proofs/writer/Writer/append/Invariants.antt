@@ -1,0 +1,5 @@
+use Rattle.std.proofs.Common.{◌≡◌, ◌++◌}
+use Rattle.cq_print.proofs.writer.Writer.append.Given as goal
+
+abbrev pub invariant-kinds : goal.invariant-kinds
+invariant-kinds l = l.self ≡ l.initial.self ++ l.yielded

@@ -1,5 +1,0 @@
-use Rattle.std.proofs.Common.{length}
-use Rattle.cq_print_queries.proofs.items.+items_from.Given as goal
-
-abbrev pub decreases-items_from : goal.decreases-items_from
-decreases-items_from l = length l.items.now
