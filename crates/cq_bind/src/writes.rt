@@ -13,7 +13,7 @@ ghost use Rattle.cq_reading.specs.Statements as reading;
 ghost use Rattle.cq_reading.specs.Walk.{part_of};
 ghost use Rattle.cq_bind.specs.Checks.{Checks};
 
-use cq_bind_expressions::through;
+use cq_bind_calls::through;
 use cq_bind_looks::place;
 use cq_bind_names::table_sources;
 use cq_bind_rules::expr as tree_of;

@@ -10,13 +10,13 @@ ghost use Rattle.cq_reading.specs.Scopes as scopes;
 ghost use Rattle.cq_reading.specs.Selects as spec;
 ghost use Rattle.cq_reading.specs.Walk.{part_of, item_part, group_part};
 ghost use Rattle.cq_bind_names.specs.Checks.{Checks};
-ghost use Rattle.cq_bind_expressions.specs.Calls.{Nests, IsCallable, Follows};
+ghost use Rattle.cq_bind_calls.specs.Calls.{Nests, IsCallable, Follows};
 ghost use Rattle.cq_bind_lists.specs.Stars as stars;
 ghost use Rattle.cq_bind_lists.specs.Picks as picks;
 
 use crate::lists::Lists;
 use crate::outputs::{Star, is_meant, is_there, next_place, star_value, title_of};
-use cq_bind_expressions::{alloc_of, through, through_slice};
+use cq_bind_calls::{alloc_of, through, through_slice};
 use cq_bind_looks::{Form, form, place};
 use cq_bind_names::one_of;
 use cq_bind_rules as rules;

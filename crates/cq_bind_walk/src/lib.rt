@@ -2,10 +2,7 @@
 //! refusal in it.
 #![tactic(auto)]
 
-mod clauses;
 mod knot;
-mod orders;
-mod relations;
 mod selects;
 mod walk;
 
