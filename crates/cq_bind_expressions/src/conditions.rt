@@ -9,7 +9,7 @@ ghost use Rattle.cq_bind_expressions.specs.Pairs.{both};
 
 use crate::walk::Expressions;
 use cq_bind_calls::alloc_of;
-use cq_bind_rules as rules;
+use cq_bind_tests as tests;
 use cq_grammar::{Expr, Select, Test};
 use cq_reading::{BindError, Block, Bound, Found, Scope, World};
 use cq_value::Items;
@@ -28,7 +28,7 @@ impl<
         requires { Nests self.now.walk.left (F.pre self.now.walk.expr) (F.post self.now.walk.expr) (G.pre self.now.walk.select) (G.post self.now.walk.select) }
         ensures { Binds (both expression.numbered (select_of select.now scope.now.world) found.old) result found.new }
     {
-        let k = rules::numbered(found)?;
+        let k = tests::numbered(found)?;
         let block = self.walk.select(found, select, scope.world)?;
         Ok((k, block))
     }
@@ -66,7 +66,7 @@ impl<
         ensures { Binds (expression.in_select_reading (select_of select.now) scope.now x negate at found.old) result found.new }
     {
         match self.subquery(found, select, scope) {
-            Ok(subquery) => rules::among(found, scope, x, negate, at, subquery.0, subquery.1),
+            Ok(subquery) => tests::among(found, scope, x, negate, at, subquery.0, subquery.1),
             Err(e) => {
                 drop(x);
                 Err(e)
@@ -87,7 +87,7 @@ impl<
         ensures { Binds (expression.in_list_reading (map part_of items.now) scope.now x negate at found.old) result found.new }
     {
         match self.exprs(found, items, scope) {
-            Ok(items) => rules::listed(alloc_of(scope), negate, x, items, at),
+            Ok(items) => tests::listed(alloc_of(scope), negate, x, items, at),
             Err(e) => {
                 drop(x);
                 Err(e)
@@ -109,7 +109,7 @@ impl<
         ensures { Binds (expression.between_reading (part_of low.now) (part_of high.now) scope.now x negate at found.old) result found.new }
     {
         match self.both(found, low, high, scope) {
-            Ok(ends) => rules::between(alloc_of(scope), negate, x, ends.0, ends.1, at),
+            Ok(ends) => tests::between(alloc_of(scope), negate, x, ends.0, ends.1, at),
             Err(e) => {
                 drop(x);
                 Err(e)

@@ -12,7 +12,9 @@ ghost use Rattle.cq_bind_calls.specs.Calls.{Nests};
 use crate::walk::Expressions;
 use cq_bind_calls::{alloc_of, behind, each, plain, through};
 use cq_bind_looks::{Form, form};
+use cq_bind_operands as operands;
 use cq_bind_rules as rules;
+use cq_bind_tests as tests;
 use cq_grammar::{AddOperator, Aggregate, Arm, Chained, Comparison, Expr, NullTest, Select};
 use cq_reading::{BindError, Block, Bound, Found, Scope, World};
 use cq_value::{Items, NoMemory};
@@ -34,7 +36,7 @@ fn null_tested(
 ) -> Result<Bound, BindError>
     ensures { Binds (rule.null_tested test.now.negated a test.now.at found.old) result found.new }
 {
-    rules::null_tested(alloc, test.negated, a, test.at)
+    tests::null_tested(alloc, test.negated, a, test.at)
 }
 
 impl<
@@ -55,7 +57,7 @@ impl<
     {
         let a = self.walk.expr(found, left, scope)?;
         match self.walk.expr(found, right, scope) {
-            Ok(b) => rules::compared(operator, a, b, at),
+            Ok(b) => tests::compared(operator, a, b, at),
             Err(e) => {
                 drop(a);
                 Err(e)
@@ -109,7 +111,7 @@ impl<
     {
         let first = self.walk.expr(found, first, scope)?;
         let parts = self.chain_parts(found, first, rest, scope)?;
-        rules::chained(alloc_of(scope), any, parts)
+        tests::chained(alloc_of(scope), any, parts)
     }
 
     pub(crate) fn not(
@@ -123,7 +125,7 @@ impl<
         ensures { Binds (expression.not_reading (part_of inner.now) at scope.now found.old) result found.new }
     {
         let a = self.walk.expr(found, inner, scope)?;
-        rules::negated(alloc_of(scope), a, at)
+        tests::negated(alloc_of(scope), a, at)
     }
 
     /// Tests for NULL, one after the other.
@@ -176,7 +178,7 @@ impl<
         ensures { Binds (expression.signed_reading sign (part_of inner.now) (part_of inner.now).form at scope.now found.old) result found.new }
     {
         match form(inner) {
-            Form::Number(n) => Ok(rules::signed_number(sign, n)),
+            Form::Number(n) => Ok(operands::signed_number(sign, n)),
             Form::Signed(..) | Form::Name(_) | Form::Other => self.unfolded(
                 found, sign, inner, at, scope,
             ),
@@ -232,7 +234,7 @@ impl<
         ensures { Binds (expression.case_reading (map arm_part arms.now) None at scope.now found.old) result found.new }
     {
         let pairs = self.arms(found, arms, scope)?;
-        rules::chosen(alloc_of(scope), pairs, rules::null(), at)
+        tests::chosen(alloc_of(scope), pairs, operands::null(), at)
     }
 
     pub(crate) fn case_else(
@@ -248,7 +250,7 @@ impl<
     {
         let pairs = self.arms(found, arms, scope)?;
         let other = self.walk.expr(found, other, scope)?;
-        rules::chosen(alloc_of(scope), pairs, other, at)
+        tests::chosen(alloc_of(scope), pairs, other, at)
     }
 
     /// Expressions from left to right.
@@ -280,7 +282,7 @@ impl<
         ensures { Binds (expression.coalesce_reading (map part_of items.now) at scope.now found.old) result found.new }
     {
         let items = self.exprs(found, items, scope)?;
-        rules::coalesced(alloc_of(scope), items, at)
+        tests::coalesced(alloc_of(scope), items, at)
     }
 
     /// An aggregate, whose argument stands before any grouping.

@@ -14,6 +14,7 @@ ghost use Rattle.cq_bind_expressions.specs.Keys.{key_of, IsKeyOf};
 use crate::walk::Expressions;
 use cq_bind_calls::{alloc_of, nothing, plain};
 use cq_bind_looks::selects;
+use cq_bind_operands as operands;
 use cq_bind_rules as rules;
 use cq_grammar::{Arm, Expr, Select};
 use cq_reading::{BindError, Block, Bound, Found, Scope, World};
@@ -127,9 +128,9 @@ impl<
         ensures { Binds ((part_of e.now).node scope.now found.old) result found.new }
     {
         match e {
-            Expr::Number { value, .. } => Ok(rules::number(*value)),
-            Expr::Quoted { text, .. } => rules::quoted(alloc_of(scope), text),
-            Expr::Null { .. } => Ok(rules::null()),
+            Expr::Number { value, .. } => Ok(operands::number(*value)),
+            Expr::Quoted { text, .. } => operands::quoted(alloc_of(scope), text),
+            Expr::Null { .. } => Ok(operands::null()),
             Expr::Column { column } => rules::column(scope, column),
             Expr::ColumnOf { relation, column } => rules::column_of(scope, relation, column),
             _ => Err(BindError::Memory),

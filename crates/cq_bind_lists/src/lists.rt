@@ -9,7 +9,7 @@ ghost use Rattle.cq_bind_calls.specs.Calls.{Nests};
 
 use cq_bind_calls::Walk;
 use cq_bind_looks::place;
-use cq_bind_rules as rules;
+use cq_bind_operands as operands;
 use cq_grammar::{Expr, Select};
 use cq_reading::{BindError, Block, Bound, Found, Scope, World};
 
@@ -29,6 +29,6 @@ impl<
         ensures { Binds (value_of (part_of e.now).at (reads (part_of e.now) scope.now) found.old) result found.new }
     {
         let b = self.walk.expr(found, e, scope)?;
-        rules::value(b, place(e))
+        operands::value(b, place(e))
     }
 }

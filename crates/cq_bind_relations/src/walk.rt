@@ -8,7 +8,7 @@ ghost use Rattle.cq_bind_calls.specs.Calls.{Nests};
 
 use cq_bind_calls::Walk;
 use cq_bind_looks::place;
-use cq_bind_rules as rules;
+use cq_bind_operands as operands;
 use cq_grammar::{Expr, Select};
 use cq_reading::{BindError, Block, Bound, Found, Scope, World};
 use cq_tree::Cond;
@@ -34,6 +34,6 @@ impl<
         ensures { Binds (condition_of (part_of e.now) scope.now found.old) result found.new }
     {
         let b = self.walk.expr(found, e, scope)?;
-        rules::condition(b, place(e))
+        operands::condition(b, place(e))
     }
 }
