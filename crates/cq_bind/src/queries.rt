@@ -8,7 +8,7 @@ ghost use Rattle.cq_reading.specs.Walk.{select_of};
 ghost use Rattle.cq_reading.specs.Statements as reading;
 ghost use Rattle.cq_bind.specs.Checks.{Checks};
 
-use cq_bind_expressions::through;
+use cq_bind_calls::through;
 use cq_bind_walk::select;
 use cq_catalog::Catalog;
 use cq_grammar::{CommonTable, Name, Query as Written, Select};

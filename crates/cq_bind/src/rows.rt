@@ -12,9 +12,9 @@ ghost use Rattle.cq_reading.specs.Walk.{part_of};
 ghost use Rattle.cq_reading.specs.Statements as reading;
 
 use crate::writes::write_scope;
-use cq_bind_expressions::through;
+use cq_bind_calls::through;
 use cq_bind_looks::place;
-use cq_bind_rules::{expr as tree_of, value};
+use cq_bind_operands::{expr as tree_of, value};
 use cq_bind_statements::{
     check_count, check_unlisted, columns_of, null_row, put_values, stored, target_of,
 };

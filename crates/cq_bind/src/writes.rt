@@ -13,10 +13,10 @@ ghost use Rattle.cq_reading.specs.Statements as reading;
 ghost use Rattle.cq_reading.specs.Walk.{part_of};
 ghost use Rattle.cq_bind.specs.Checks.{Checks};
 
-use cq_bind_expressions::through;
+use cq_bind_calls::through;
 use cq_bind_looks::place;
 use cq_bind_names::table_sources;
-use cq_bind_rules::expr as tree_of;
+use cq_bind_operands::expr as tree_of;
 use cq_bind_statements::{column_of, fits_column, is_key_column, kind_at, target_of};
 use cq_bind_walk::{condition, expr};
 use cq_catalog::{Catalog, TableInfo};

@@ -1,3 +1,3 @@
 pub mod Chains
-pub mod Loops
+pub mod Pairs
 pub mod Productions

@@ -1,6 +1,8 @@
 -- Nodes of each kind, and keys.
-use Rattle.std.proofs.Common.{◌≡◌, ℕ, Bool, true, false, Option, List, map, Result, Ok, Err, sym, subst, ap, refl, ◌∙◌}
+use Rattle.std.specs.Option.{option_map}
+use Rattle.std.proofs.Common.{◌≡◌, ℕ, Bool, true, false, Option, None, Some, List, map, Result, Ok, Err, sym, subst, ap, refl, ◌∙◌}
 use Rattle.cq_grammar.specs.declared.expr.Expr.{Expr}
+use Rattle.cq_grammar.specs.declared.expr.Expr.TheOpen.{Expr-F}
 use Rattle.cq_grammar.specs.declared.expr.Expr.TheVariants as e
 use Rattle.cq_grammar.specs.declared.expr.Added.{Added}
 use Rattle.cq_grammar.specs.declared.expr.Chained.{Chained}
@@ -9,6 +11,9 @@ use Rattle.cq_grammar.specs.declared.expr.NullTest.{NullTest}
 use Rattle.cq_grammar.specs.declared.expr.AddOperator.{AddOperator}
 use Rattle.cq_grammar.specs.declared.expr.Comparison.{Comparison}
 use Rattle.cq_grammar.specs.declared.expr.Test.{Test}
+use Rattle.cq_grammar.specs.declared.expr.Test.TheVariants as tests
+use Rattle.cq_grammar.specs.declared.expr.Arm.{Arm}
+use Rattle.cq_grammar.specs.declared.expr.Aggregate.{Aggregate}
 use Rattle.cq_tree.specs.declared.expression.Expr as tree
 use Rattle.cq_reading.specs.declared.bound.Found.{Found}
 use Rattle.cq_reading.specs.declared.bound.Bound.{Bound}
@@ -18,11 +23,31 @@ use Rattle.cq_reading.specs.Outcomes.{Binds}
 use Rattle.cq_reading.specs.Scopes.{Context}
 use Rattle.cq_reading.specs.Rules.{if_key, keyed_by}
 use Rattle.cq_reading.specs.Expressions as expression
-use Rattle.cq_reading.specs.Expressions.{reads}
-use Rattle.cq_reading.specs.Walk.{part_of, test_part, later_part, added_part, multiplied_part}
-use Rattle.cq_bind_looks.proofs.Looks.{node_Or, node_And, node_Not, node_Is, node_Compare, node_Tested, node_Sum, node_Product, node_Signed, node_Group}
+use Rattle.cq_reading.specs.Expressions.{reads, between_reading, aggregate_reading, expr_step}
+use Rattle.cq_reading.specs.Parts.{Part}
+use Rattle.cq_reading.specs.Walk.{part_of, arm_part, test_part, later_part, added_part, multiplied_part}
+use Rattle.cq_bind_looks.proofs.Looks.{test_Between, node_Case, node_CaseElse, node_Aggregate, node_Or, node_And, node_Not, node_Is, node_Compare, node_Tested, node_Sum, node_Product, node_Signed, node_Group}
 use Rattle.cq_bind_expressions.specs.Keys.{key_of}
-use Rattle.cq_bind_expressions.proofs.Loops.{node_by}
+
+-- a node by the equation of its kind
+pub node_by : (x v : Expr) (p : Part) (cx : Context) (f : Found) (res : Result Bound BindError) (new : Found) → x ≡ v → part_of v ≡ p → Binds (p.node cx f) res new → Binds ((part_of x).node cx f) res new
+node_by x v p cx f res new e q h = subst (λ z. Binds ((part_of z).node cx f) res new) (sym e) (subst (λ z. Binds (z.node cx f) res new) (sym q) h)
+
+pub test_Between_by : (x : Test) (l h a b : Expr) (cx : Context) (y : Bound) (n : Bool) (at : ℕ) (f : Found) (res : Result Bound BindError) (new : Found) → x ≡ tests.Between l h → a ≡ l → b ≡ h → Binds (between_reading (part_of a) (part_of b) cx y n at f) res new → Binds ((test_part x).tests cx y n at f) res new
+test_Between_by x l h a b cx y n at f res new e p q w =
+    subst (λ z. Binds ((test_part z).tests cx y n at f) res new) (sym e)
+    (subst (λ t. Binds (t.tests cx y n at f) res new) (sym (test_Between l h))
+    (subst (λ z. Binds (between_reading (part_of z) (part_of h) cx y n at f) res new) p
+    (subst (λ z. Binds (between_reading (part_of a) (part_of z) cx y n at f) res new) q w)))
+
+pub case_is : (arms : List Arm) (o : Option Expr) (at : ℕ) → part_of (e.Case arms o at) ≡ expr_step (Expr-F.Case (map arm_part arms) (option_map part_of o) at)
+case_is arms None at = node_Case arms at
+case_is arms (Some x) at = node_CaseElse arms x at
+
+pub aggregate_by : (x : Expr) (g : Aggregate) (a b : Expr) (at : ℕ) (cx : Context) (f : Found) (res : Result Bound BindError) (new : Found) → x ≡ e.Aggregate g a at → b ≡ a → Binds (aggregate_reading g (part_of b) at cx f) res new → Binds ((part_of x).node cx f) res new
+aggregate_by x g a b at cx f res new i q h =
+    node_by x (e.Aggregate g a at) _ cx f res new i (node_Aggregate g a at)
+    (subst (λ z. Binds (aggregate_reading g (part_of z) at cx f) res new) q h)
 
 -- a node by what is read of its kind, whose first operand `b` has been taken out of its box
 

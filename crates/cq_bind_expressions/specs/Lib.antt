@@ -1,4 +1,3 @@
-pub mod Calls
 pub mod Fronts
 pub mod Keys
 pub mod Pairs

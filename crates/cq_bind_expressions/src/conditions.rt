@@ -4,12 +4,12 @@ ghost use Rattle.std.specs.Prelude.{◌≡◌, map};
 ghost use Rattle.cq_reading.specs.Outcomes.{Binds};
 ghost use Rattle.cq_reading.specs.Expressions as expression;
 ghost use Rattle.cq_reading.specs.Walk.{part_of, select_of, test_part};
-ghost use Rattle.cq_bind_expressions.specs.Calls.{Nests};
+ghost use Rattle.cq_bind_calls.specs.Calls.{Nests};
 ghost use Rattle.cq_bind_expressions.specs.Pairs.{both};
 
-use crate::scopes::alloc_of;
-use crate::walk::Walk;
-use cq_bind_rules as rules;
+use crate::walk::Expressions;
+use cq_bind_calls::alloc_of;
+use cq_bind_tests as tests;
 use cq_grammar::{Expr, Select, Test};
 use cq_reading::{BindError, Block, Bound, Found, Scope, World};
 use cq_value::Items;
@@ -17,7 +17,7 @@ use cq_value::Items;
 impl<
     F: Fn(&mut Found, &Expr, &Scope<'_>, usize) -> Result<Bound, BindError>,
     G: Fn(&mut Found, &Select, &World<'_>, usize) -> Result<Block, BindError>,
-> Walk<F, G> {
+> Expressions<F, G> {
     /// The number of a subquery's result, and the subquery.
     fn subquery(
         &self,
@@ -25,11 +25,11 @@ impl<
         select: &Select,
         scope: &Scope<'_>,
     ) -> Result<(u32, Block), BindError>
-        requires { Nests self.now.left (F.pre self.now.expr) (F.post self.now.expr) (G.pre self.now.select) (G.post self.now.select) }
+        requires { Nests self.now.walk.left (F.pre self.now.walk.expr) (F.post self.now.walk.expr) (G.pre self.now.walk.select) (G.post self.now.walk.select) }
         ensures { Binds (both expression.numbered (select_of select.now scope.now.world) found.old) result found.new }
     {
-        let k = rules::numbered(found)?;
-        let block = self.select(found, select, scope.world)?;
+        let k = tests::numbered(found)?;
+        let block = self.walk.select(found, select, scope.world)?;
         Ok((k, block))
     }
 
@@ -40,11 +40,11 @@ impl<
         second: &Expr,
         scope: &Scope<'_>,
     ) -> Result<(Bound, Bound), BindError>
-        requires { Nests self.now.left (F.pre self.now.expr) (F.post self.now.expr) (G.pre self.now.select) (G.post self.now.select) }
+        requires { Nests self.now.walk.left (F.pre self.now.walk.expr) (F.post self.now.walk.expr) (G.pre self.now.walk.select) (G.post self.now.walk.select) }
         ensures { Binds (both (expression.reads (part_of first.now) scope.now) (expression.reads (part_of second.now) scope.now) found.old) result found.new }
     {
-        let a = self.expr(found, first, scope)?;
-        match self.expr(found, second, scope) {
+        let a = self.walk.expr(found, first, scope)?;
+        match self.walk.expr(found, second, scope) {
             Ok(b) => Ok((a, b)),
             Err(e) => {
                 drop(a);
@@ -62,11 +62,11 @@ impl<
         negate: bool,
         at: u64,
     ) -> Result<Bound, BindError>
-        requires { Nests self.now.left (F.pre self.now.expr) (F.post self.now.expr) (G.pre self.now.select) (G.post self.now.select) }
+        requires { Nests self.now.walk.left (F.pre self.now.walk.expr) (F.post self.now.walk.expr) (G.pre self.now.walk.select) (G.post self.now.walk.select) }
         ensures { Binds (expression.in_select_reading (select_of select.now) scope.now x negate at found.old) result found.new }
     {
         match self.subquery(found, select, scope) {
-            Ok(subquery) => rules::among(found, scope, x, negate, at, subquery.0, subquery.1),
+            Ok(subquery) => tests::among(found, scope, x, negate, at, subquery.0, subquery.1),
             Err(e) => {
                 drop(x);
                 Err(e)
@@ -83,11 +83,11 @@ impl<
         negate: bool,
         at: u64,
     ) -> Result<Bound, BindError>
-        requires { Nests self.now.left (F.pre self.now.expr) (F.post self.now.expr) (G.pre self.now.select) (G.post self.now.select) }
+        requires { Nests self.now.walk.left (F.pre self.now.walk.expr) (F.post self.now.walk.expr) (G.pre self.now.walk.select) (G.post self.now.walk.select) }
         ensures { Binds (expression.in_list_reading (map part_of items.now) scope.now x negate at found.old) result found.new }
     {
         match self.exprs(found, items, scope) {
-            Ok(items) => rules::listed(alloc_of(scope), negate, x, items, at),
+            Ok(items) => tests::listed(alloc_of(scope), negate, x, items, at),
             Err(e) => {
                 drop(x);
                 Err(e)
@@ -105,11 +105,11 @@ impl<
         negate: bool,
         at: u64,
     ) -> Result<Bound, BindError>
-        requires { Nests self.now.left (F.pre self.now.expr) (F.post self.now.expr) (G.pre self.now.select) (G.post self.now.select) }
+        requires { Nests self.now.walk.left (F.pre self.now.walk.expr) (F.post self.now.walk.expr) (G.pre self.now.walk.select) (G.post self.now.walk.select) }
         ensures { Binds (expression.between_reading (part_of low.now) (part_of high.now) scope.now x negate at found.old) result found.new }
     {
         match self.both(found, low, high, scope) {
-            Ok(ends) => rules::between(alloc_of(scope), negate, x, ends.0, ends.1, at),
+            Ok(ends) => tests::between(alloc_of(scope), negate, x, ends.0, ends.1, at),
             Err(e) => {
                 drop(x);
                 Err(e)
@@ -128,7 +128,7 @@ impl<
         negate: bool,
         at: u64,
     ) -> Result<Bound, BindError>
-        requires { Nests self.now.left (F.pre self.now.expr) (F.post self.now.expr) (G.pre self.now.select) (G.post self.now.select) }
+        requires { Nests self.now.walk.left (F.pre self.now.walk.expr) (F.post self.now.walk.expr) (G.pre self.now.walk.select) (G.post self.now.walk.select) }
         ensures { Binds ((test_part test.now).tests scope.now x negate at found.old) result found.new }
     {
         match test {
@@ -155,10 +155,10 @@ impl<
         at: u64,
         scope: &Scope<'_>,
     ) -> Result<Bound, BindError>
-        requires { Nests self.now.left (F.pre self.now.expr) (F.post self.now.expr) (G.pre self.now.select) (G.post self.now.select) }
+        requires { Nests self.now.walk.left (F.pre self.now.walk.expr) (F.post self.now.walk.expr) (G.pre self.now.walk.select) (G.post self.now.walk.select) }
         ensures { Binds (expression.tested_reading (part_of operand.now) negated (test_part test.now) at scope.now found.old) result found.new }
     {
-        let x = self.expr(found, operand, scope)?;
+        let x = self.walk.expr(found, operand, scope)?;
         self.test(found, test, scope, x, negated, at)
     }
 }

@@ -7,13 +7,14 @@ ghost use Rattle.cq_reading.specs.Rules as rule;
 ghost use Rattle.cq_reading.specs.Expressions as expression;
 ghost use Rattle.cq_reading.specs.Titles as title;
 ghost use Rattle.cq_reading.specs.Walk.{part_of, later_part, arm_part};
-ghost use Rattle.cq_bind_expressions.specs.Calls.{Nests};
+ghost use Rattle.cq_bind_calls.specs.Calls.{Nests};
 
-use crate::scopes::{alloc_of, plain};
-use crate::steps::{behind, each, through};
-use crate::walk::Walk;
+use crate::walk::Expressions;
+use cq_bind_calls::{alloc_of, behind, each, plain, through};
 use cq_bind_looks::{Form, form};
+use cq_bind_operands as operands;
 use cq_bind_rules as rules;
+use cq_bind_tests as tests;
 use cq_grammar::{AddOperator, Aggregate, Arm, Chained, Comparison, Expr, NullTest, Select};
 use cq_reading::{BindError, Block, Bound, Found, Scope, World};
 use cq_value::{Items, NoMemory};
@@ -35,13 +36,13 @@ fn null_tested(
 ) -> Result<Bound, BindError>
     ensures { Binds (rule.null_tested test.now.negated a test.now.at found.old) result found.new }
 {
-    rules::null_tested(alloc, test.negated, a, test.at)
+    tests::null_tested(alloc, test.negated, a, test.at)
 }
 
 impl<
     F: Fn(&mut Found, &Expr, &Scope<'_>, usize) -> Result<Bound, BindError>,
     G: Fn(&mut Found, &Select, &World<'_>, usize) -> Result<Block, BindError>,
-> Walk<F, G> {
+> Expressions<F, G> {
     pub(crate) fn compare(
         &self,
         found: &mut Found,
@@ -51,12 +52,12 @@ impl<
         at: u64,
         scope: &Scope<'_>,
     ) -> Result<Bound, BindError>
-        requires { Nests self.now.left (F.pre self.now.expr) (F.post self.now.expr) (G.pre self.now.select) (G.post self.now.select) }
+        requires { Nests self.now.walk.left (F.pre self.now.walk.expr) (F.post self.now.walk.expr) (G.pre self.now.walk.select) (G.post self.now.walk.select) }
         ensures { Binds (expression.compare_reading (part_of left.now) operator (part_of right.now) at scope.now found.old) result found.new }
     {
-        let a = self.expr(found, left, scope)?;
-        match self.expr(found, right, scope) {
-            Ok(b) => rules::compared(operator, a, b, at),
+        let a = self.walk.expr(found, left, scope)?;
+        match self.walk.expr(found, right, scope) {
+            Ok(b) => tests::compared(operator, a, b, at),
             Err(e) => {
                 drop(a);
                 Err(e)
@@ -72,10 +73,10 @@ impl<
         later: &Chained,
         scope: &Scope<'_>,
     ) -> Result<(Bound, u64), BindError>
-        requires { Nests self.now.left (F.pre self.now.expr) (F.post self.now.expr) (G.pre self.now.select) (G.post self.now.select) }
+        requires { Nests self.now.walk.left (F.pre self.now.walk.expr) (F.post self.now.walk.expr) (G.pre self.now.walk.select) (G.post self.now.walk.select) }
         ensures { Binds (expression.read_later scope.now (later_part later.now) found.old) result found.new }
     {
-        let b = self.expr(found, &later.part, scope)?;
+        let b = self.walk.expr(found, &later.part, scope)?;
         Ok((b, later.at))
     }
 
@@ -87,7 +88,7 @@ impl<
         rest: &Items<Chained>,
         scope: &Scope<'_>,
     ) -> Result<Items<(Bound, u64)>, BindError>
-        requires { Nests self.now.left (F.pre self.now.expr) (F.post self.now.expr) (G.pre self.now.select) (G.post self.now.select) }
+        requires { Nests self.now.walk.left (F.pre self.now.walk.expr) (F.post self.now.walk.expr) (G.pre self.now.walk.select) (G.post self.now.walk.select) }
         ensures { Binds (reading.through (reading.with_next (expression.read_later scope.now)) (map later_part rest.now) ((first, 0) ∷ []) found.old) result found.new }
     {
         let parts = first_part(alloc_of(scope), first)?;
@@ -105,12 +106,12 @@ impl<
         rest: &Items<Chained>,
         scope: &Scope<'_>,
     ) -> Result<Bound, BindError>
-        requires { Nests self.now.left (F.pre self.now.expr) (F.post self.now.expr) (G.pre self.now.select) (G.post self.now.select) }
+        requires { Nests self.now.walk.left (F.pre self.now.walk.expr) (F.post self.now.walk.expr) (G.pre self.now.walk.select) (G.post self.now.walk.select) }
         ensures { Binds (expression.chain_reading any (part_of first.now) (map later_part rest.now) scope.now found.old) result found.new }
     {
-        let first = self.expr(found, first, scope)?;
+        let first = self.walk.expr(found, first, scope)?;
         let parts = self.chain_parts(found, first, rest, scope)?;
-        rules::chained(alloc_of(scope), any, parts)
+        tests::chained(alloc_of(scope), any, parts)
     }
 
     pub(crate) fn not(
@@ -120,11 +121,11 @@ impl<
         at: u64,
         scope: &Scope<'_>,
     ) -> Result<Bound, BindError>
-        requires { Nests self.now.left (F.pre self.now.expr) (F.post self.now.expr) (G.pre self.now.select) (G.post self.now.select) }
+        requires { Nests self.now.walk.left (F.pre self.now.walk.expr) (F.post self.now.walk.expr) (G.pre self.now.walk.select) (G.post self.now.walk.select) }
         ensures { Binds (expression.not_reading (part_of inner.now) at scope.now found.old) result found.new }
     {
-        let a = self.expr(found, inner, scope)?;
-        rules::negated(alloc_of(scope), a, at)
+        let a = self.walk.expr(found, inner, scope)?;
+        tests::negated(alloc_of(scope), a, at)
     }
 
     /// Tests for NULL, one after the other.
@@ -135,10 +136,10 @@ impl<
         rest: &Items<NullTest>,
         scope: &Scope<'_>,
     ) -> Result<Bound, BindError>
-        requires { Nests self.now.left (F.pre self.now.expr) (F.post self.now.expr) (G.pre self.now.select) (G.post self.now.select) }
+        requires { Nests self.now.walk.left (F.pre self.now.walk.expr) (F.post self.now.walk.expr) (G.pre self.now.walk.select) (G.post self.now.walk.select) }
         ensures { Binds (expression.is_reading (part_of first.now) rest.now scope.now found.old) result found.new }
     {
-        let first = self.expr(found, first, scope)?;
+        let first = self.walk.expr(found, first, scope)?;
         let alloc = alloc_of(scope);
         through(
             found,
@@ -157,10 +158,10 @@ impl<
         at: u64,
         scope: &Scope<'_>,
     ) -> Result<Bound, BindError>
-        requires { Nests self.now.left (F.pre self.now.expr) (F.post self.now.expr) (G.pre self.now.select) (G.post self.now.select) }
+        requires { Nests self.now.walk.left (F.pre self.now.walk.expr) (F.post self.now.walk.expr) (G.pre self.now.walk.select) (G.post self.now.walk.select) }
         ensures { Binds (expression.signed_reading sign (part_of inner.now) title.Other at scope.now found.old) result found.new }
     {
-        let a = self.expr(found, inner, scope)?;
+        let a = self.walk.expr(found, inner, scope)?;
         rules::signed(alloc_of(scope), sign, a, at)
     }
 
@@ -173,11 +174,11 @@ impl<
         at: u64,
         scope: &Scope<'_>,
     ) -> Result<Bound, BindError>
-        requires { Nests self.now.left (F.pre self.now.expr) (F.post self.now.expr) (G.pre self.now.select) (G.post self.now.select) }
+        requires { Nests self.now.walk.left (F.pre self.now.walk.expr) (F.post self.now.walk.expr) (G.pre self.now.walk.select) (G.post self.now.walk.select) }
         ensures { Binds (expression.signed_reading sign (part_of inner.now) (part_of inner.now).form at scope.now found.old) result found.new }
     {
         match form(inner) {
-            Form::Number(n) => Ok(rules::signed_number(sign, n)),
+            Form::Number(n) => Ok(operands::signed_number(sign, n)),
             Form::Signed(..) | Form::Name(_) | Form::Other => self.unfolded(
                 found, sign, inner, at, scope,
             ),
@@ -191,11 +192,11 @@ impl<
         arm: &Arm,
         scope: &Scope<'_>,
     ) -> Result<(Bound, Bound), BindError>
-        requires { Nests self.now.left (F.pre self.now.expr) (F.post self.now.expr) (G.pre self.now.select) (G.post self.now.select) }
+        requires { Nests self.now.walk.left (F.pre self.now.walk.expr) (F.post self.now.walk.expr) (G.pre self.now.walk.select) (G.post self.now.walk.select) }
         ensures { Binds (expression.read_arm scope.now (arm_part arm.now) found.old) result found.new }
     {
-        let condition = self.expr(found, &arm.condition, scope)?;
-        match self.expr(found, &arm.result, scope) {
+        let condition = self.walk.expr(found, &arm.condition, scope)?;
+        match self.walk.expr(found, &arm.result, scope) {
             Ok(result) => Ok((condition, result)),
             Err(e) => {
                 drop(condition);
@@ -210,7 +211,7 @@ impl<
         arms: &Items<Arm>,
         scope: &Scope<'_>,
     ) -> Result<Items<(Bound, Bound)>, BindError>
-        requires { Nests self.now.left (F.pre self.now.expr) (F.post self.now.expr) (G.pre self.now.select) (G.post self.now.select) }
+        requires { Nests self.now.walk.left (F.pre self.now.walk.expr) (F.post self.now.walk.expr) (G.pre self.now.walk.select) (G.post self.now.walk.select) }
         ensures { Binds (reading.each (expression.read_arm scope.now) (map arm_part arms.now) found.old) result found.new }
     {
         each(
@@ -229,11 +230,11 @@ impl<
         at: u64,
         scope: &Scope<'_>,
     ) -> Result<Bound, BindError>
-        requires { Nests self.now.left (F.pre self.now.expr) (F.post self.now.expr) (G.pre self.now.select) (G.post self.now.select) }
+        requires { Nests self.now.walk.left (F.pre self.now.walk.expr) (F.post self.now.walk.expr) (G.pre self.now.walk.select) (G.post self.now.walk.select) }
         ensures { Binds (expression.case_reading (map arm_part arms.now) None at scope.now found.old) result found.new }
     {
         let pairs = self.arms(found, arms, scope)?;
-        rules::chosen(alloc_of(scope), pairs, rules::null(), at)
+        tests::chosen(alloc_of(scope), pairs, operands::null(), at)
     }
 
     pub(crate) fn case_else(
@@ -244,12 +245,12 @@ impl<
         at: u64,
         scope: &Scope<'_>,
     ) -> Result<Bound, BindError>
-        requires { Nests self.now.left (F.pre self.now.expr) (F.post self.now.expr) (G.pre self.now.select) (G.post self.now.select) }
+        requires { Nests self.now.walk.left (F.pre self.now.walk.expr) (F.post self.now.walk.expr) (G.pre self.now.walk.select) (G.post self.now.walk.select) }
         ensures { Binds (expression.case_reading (map arm_part arms.now) (Some (part_of other.now)) at scope.now found.old) result found.new }
     {
         let pairs = self.arms(found, arms, scope)?;
-        let other = self.expr(found, other, scope)?;
-        rules::chosen(alloc_of(scope), pairs, other, at)
+        let other = self.walk.expr(found, other, scope)?;
+        tests::chosen(alloc_of(scope), pairs, other, at)
     }
 
     /// Expressions from left to right.
@@ -259,14 +260,14 @@ impl<
         items: &Items<Expr>,
         scope: &Scope<'_>,
     ) -> Result<Items<Bound>, BindError>
-        requires { Nests self.now.left (F.pre self.now.expr) (F.post self.now.expr) (G.pre self.now.select) (G.post self.now.select) }
+        requires { Nests self.now.walk.left (F.pre self.now.walk.expr) (F.post self.now.walk.expr) (G.pre self.now.walk.select) (G.post self.now.walk.select) }
         ensures { Binds (reading.each (λ p. expression.reads p scope.now) (map part_of items.now) found.old) result found.new }
     {
         each(
             alloc_of(scope),
             found,
             items,
-            |found: &mut Found, item: &Expr| { self.expr(found, item, scope) },
+            |found: &mut Found, item: &Expr| { self.walk.expr(found, item, scope) },
         )
     }
 
@@ -277,11 +278,11 @@ impl<
         at: u64,
         scope: &Scope<'_>,
     ) -> Result<Bound, BindError>
-        requires { Nests self.now.left (F.pre self.now.expr) (F.post self.now.expr) (G.pre self.now.select) (G.post self.now.select) }
+        requires { Nests self.now.walk.left (F.pre self.now.walk.expr) (F.post self.now.walk.expr) (G.pre self.now.walk.select) (G.post self.now.walk.select) }
         ensures { Binds (expression.coalesce_reading (map part_of items.now) at scope.now found.old) result found.new }
     {
         let items = self.exprs(found, items, scope)?;
-        rules::coalesced(alloc_of(scope), items, at)
+        tests::coalesced(alloc_of(scope), items, at)
     }
 
     /// An aggregate, whose argument stands before any grouping.
@@ -293,10 +294,10 @@ impl<
         at: u64,
         scope: &Scope<'_>,
     ) -> Result<Bound, BindError>
-        requires { Nests self.now.left (F.pre self.now.expr) (F.post self.now.expr) (G.pre self.now.select) (G.post self.now.select) }
+        requires { Nests self.now.walk.left (F.pre self.now.walk.expr) (F.post self.now.walk.expr) (G.pre self.now.walk.select) (G.post self.now.walk.select) }
         ensures { Binds (expression.aggregate_reading function (part_of argument.now) at scope.now found.old) result found.new }
     {
-        let a = self.expr(found, argument, &plain(scope))?;
+        let a = self.walk.expr(found, argument, &plain(scope))?;
         rules::summed(found, scope, function, a, at)
     }
 }

@@ -5,7 +5,7 @@ ghost use Rattle.cq_reading.specs.declared.error.BindError.TheVariants.{Memory};
 ghost use Rattle.cq_reading.specs.Steps.{Reading};
 ghost use Rattle.cq_reading.specs.Parts.{Part};
 ghost use Rattle.cq_reading.specs.Rules.{key_column};
-ghost use Rattle.cq_bind_expressions.specs.Calls.{IsCallableOn};
+ghost use Rattle.cq_bind_calls.specs.Calls.{IsCallableOn};
 ghost use Rattle.cq_bind_expressions.specs.Fronts.{Finds, GoesOn, IsAmong, IsTried, IsWithin, Lengthens, behind, front_of, front_read, key_of, longer, longest};
 
 use cq_bind_rules as rules;

@@ -1,16 +1,11 @@
-//! The walk of the binder over expressions: each production, over what its parts are read as. What stands deeper, expressions and
-//! SELECTs, is read by function values.
+//! The binder's productions of expressions, each over what its parts are read as.
 #![tactic(auto)]
 
 mod conditions;
 mod expressions;
 mod fronts;
 mod nodes;
-mod scopes;
-mod steps;
 mod sums;
 mod walk;
 
-pub use scopes::{alloc_of, plain};
-pub use steps::{behind, each, through, through_slice};
-pub use walk::Walk;
+pub use walk::Expressions;

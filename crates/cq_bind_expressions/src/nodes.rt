@@ -8,12 +8,13 @@ ghost use Rattle.cq_reading.specs.Expressions.{reads, case_reading};
 ghost use Rattle.cq_reading.specs.Rules as rule;
 ghost use Rattle.cq_reading.specs.Scopes as scopes;
 ghost use Rattle.cq_reading.specs.Walk.{part_of, arm_part};
-ghost use Rattle.cq_bind_expressions.specs.Calls.{Nests};
+ghost use Rattle.cq_bind_calls.specs.Calls.{Nests};
 ghost use Rattle.cq_bind_expressions.specs.Keys.{key_of, IsKeyOf};
 
-use crate::scopes::{alloc_of, nothing, plain};
-use crate::walk::Walk;
+use crate::walk::Expressions;
+use cq_bind_calls::{alloc_of, nothing, plain};
 use cq_bind_looks::selects;
+use cq_bind_operands as operands;
 use cq_bind_rules as rules;
 use cq_grammar::{Arm, Expr, Select};
 use cq_reading::{BindError, Block, Bound, Found, Scope, World};
@@ -37,11 +38,11 @@ fn key_in(scope: &Scope<'_>, attempt: Result<Bound, BindError>) -> Result<Option
 impl<
     F: Fn(&mut Found, &Expr, &Scope<'_>, usize) -> Result<Bound, BindError>,
     G: Fn(&mut Found, &Select, &World<'_>, usize) -> Result<Block, BindError>,
-> Walk<F, G> {
+> Expressions<F, G> {
     /// An expression without regard to keys.
     #[tactic(auto, using(cq_bind_looks::proofs::Looks::looks))]
     fn node(&self, found: &mut Found, e: &Expr, scope: &Scope<'_>) -> Result<Bound, BindError>
-        requires { Nests self.now.left (F.pre self.now.expr) (F.post self.now.expr) (G.pre self.now.select) (G.post self.now.select) }
+        requires { Nests self.now.walk.left (F.pre self.now.walk.expr) (F.post self.now.walk.expr) (G.pre self.now.walk.select) (G.post self.now.walk.select) }
         ensures { Binds ((part_of e.now).node scope.now found.old) result found.new }
     {
         match e {
@@ -68,14 +69,14 @@ impl<
     /// Arithmetic, or a node of another kind that is no condition.
     #[tactic(auto, using(cq_bind_looks::proofs::Looks::looks))]
     fn arithmetic(&self, found: &mut Found, e: &Expr, scope: &Scope<'_>) -> Result<Bound, BindError>
-        requires { Nests self.now.left (F.pre self.now.expr) (F.post self.now.expr) (G.pre self.now.select) (G.post self.now.select) }
+        requires { Nests self.now.walk.left (F.pre self.now.walk.expr) (F.post self.now.walk.expr) (G.pre self.now.walk.select) (G.post self.now.walk.select) }
         ensures { Binds ((part_of e.now).node scope.now found.old) result found.new }
     {
         match e {
             Expr::Sum { first, rest } => self.sum(found, first.get(), rest, scope),
             Expr::Product { first, rest } => self.product(found, first.get(), rest, scope),
             Expr::Signed { sign, inner, at } => self.signed(found, *sign, inner.get(), *at, scope),
-            Expr::Group { inner, .. } => self.expr(found, inner.get(), scope),
+            Expr::Group { inner, .. } => self.walk.expr(found, inner.get(), scope),
             _ => self.choice(found, e, scope),
         }
     }
@@ -88,7 +89,7 @@ impl<
         at: u64,
         scope: &Scope<'_>,
     ) -> Result<Bound, BindError>
-        requires { Nests self.now.left (F.pre self.now.expr) (F.post self.now.expr) (G.pre self.now.select) (G.post self.now.select) }
+        requires { Nests self.now.walk.left (F.pre self.now.walk.expr) (F.post self.now.walk.expr) (G.pre self.now.walk.select) (G.post self.now.walk.select) }
         ensures { Binds (case_reading (map arm_part arms.now) (option_map part_of other.now) at scope.now found.old) result found.new }
     {
         match other {
@@ -100,7 +101,7 @@ impl<
     /// CASE, COALESCE or an aggregate, or a literal or a column.
     #[tactic(auto, using(cq_bind_looks::proofs::Looks::looks))]
     fn choice(&self, found: &mut Found, e: &Expr, scope: &Scope<'_>) -> Result<Bound, BindError>
-        requires { Nests self.now.left (F.pre self.now.expr) (F.post self.now.expr) (G.pre self.now.select) (G.post self.now.select) }
+        requires { Nests self.now.walk.left (F.pre self.now.walk.expr) (F.post self.now.walk.expr) (G.pre self.now.walk.select) (G.post self.now.walk.select) }
         ensures { Binds ((part_of e.now).node scope.now found.old) result found.new }
     {
         match e {
@@ -123,13 +124,13 @@ impl<
     /// A literal or a column. There is no other node left.
     #[tactic(auto, using(cq_bind_looks::proofs::Looks::looks))]
     fn atom(&self, found: &mut Found, e: &Expr, scope: &Scope<'_>) -> Result<Bound, BindError>
-        requires { Nests self.now.left (F.pre self.now.expr) (F.post self.now.expr) (G.pre self.now.select) (G.post self.now.select) }
+        requires { Nests self.now.walk.left (F.pre self.now.walk.expr) (F.post self.now.walk.expr) (G.pre self.now.walk.select) (G.post self.now.walk.select) }
         ensures { Binds ((part_of e.now).node scope.now found.old) result found.new }
     {
         match e {
-            Expr::Number { value, .. } => Ok(rules::number(*value)),
-            Expr::Quoted { text, .. } => rules::quoted(alloc_of(scope), text),
-            Expr::Null { .. } => Ok(rules::null()),
+            Expr::Number { value, .. } => Ok(operands::number(*value)),
+            Expr::Quoted { text, .. } => operands::quoted(alloc_of(scope), text),
+            Expr::Null { .. } => Ok(operands::null()),
             Expr::Column { column } => rules::column(scope, column),
             Expr::ColumnOf { relation, column } => rules::column_of(scope, relation, column),
             _ => Err(BindError::Memory),
@@ -138,7 +139,7 @@ impl<
 
     /// The column of the key that an expression is, if it is one.
     fn as_key(&self, e: &Expr, scope: &Scope<'_>) -> Result<Option<Bound>, BindError>
-        requires { Nests self.now.left (F.pre self.now.expr) (F.post self.now.expr) (G.pre self.now.select) (G.post self.now.select) }
+        requires { Nests self.now.walk.left (F.pre self.now.walk.expr) (F.post self.now.walk.expr) (G.pre self.now.walk.select) (G.post self.now.walk.select) }
         ensures { MatchResult result (λ k. k ≡ key_of scope.now.keys ((part_of e.now).node (scopes.plain scope.now) rule.nothing)) (λ e. e ≡ Memory) }
     {
         let mut found = nothing(alloc_of(scope));
@@ -154,7 +155,7 @@ impl<
         e: &Expr,
         scope: &Scope<'_>,
     ) -> Result<Bound, BindError>
-        requires { Nests self.now.left (F.pre self.now.expr) (F.post self.now.expr) (G.pre self.now.select) (G.post self.now.select) }
+        requires { Nests self.now.walk.left (F.pre self.now.walk.expr) (F.post self.now.walk.expr) (G.pre self.now.walk.select) (G.post self.now.walk.select) }
         ensures { Binds (rule.if_key key ((part_of e.now).node scope.now) found.old) result found.new }
     {
         match key {
@@ -165,7 +166,7 @@ impl<
 
     /// An expression in a query that groups by these keys.
     fn keyed(&self, found: &mut Found, e: &Expr, scope: &Scope<'_>) -> Result<Bound, BindError>
-        requires { Nests self.now.left (F.pre self.now.expr) (F.post self.now.expr) (G.pre self.now.select) (G.post self.now.select) }
+        requires { Nests self.now.walk.left (F.pre self.now.walk.expr) (F.post self.now.walk.expr) (G.pre self.now.walk.select) (G.post self.now.walk.select) }
         ensures { Binds (rule.keyed scope.now.keys ((part_of e.now).node (scopes.plain scope.now)) ((part_of e.now).node scope.now) found.old) result found.new }
     {
         let key = self.as_key(e, scope)?;
@@ -180,7 +181,7 @@ impl<
         e: &Expr,
         scope: &Scope<'_>,
     ) -> Result<Bound, BindError>
-        requires { Nests self.now.left (F.pre self.now.expr) (F.post self.now.expr) (G.pre self.now.select) (G.post self.now.select) }
+        requires { Nests self.now.walk.left (F.pre self.now.walk.expr) (F.post self.now.walk.expr) (G.pre self.now.walk.select) (G.post self.now.walk.select) }
         ensures { Binds (reads (part_of e.now) scope.now found.old) result found.new }
     {
         if scope.grouped && !selects(e) {

@@ -11,13 +11,12 @@ ghost use Rattle.cq_reading.specs.Expressions as expression;
 ghost use Rattle.cq_reading.specs.Expressions.{reads};
 ghost use Rattle.cq_reading.specs.Titles as title;
 ghost use Rattle.cq_reading.specs.Walk.{part_of, added_part, multiplied_part};
-ghost use Rattle.cq_bind_expressions.specs.Calls.{FollowsOn, IsCallableOn, Nests};
+ghost use Rattle.cq_bind_calls.specs.Calls.{FollowsOn, IsCallableOn, Nests};
 ghost use Rattle.cq_bind_expressions.specs.Fronts.{Finds, IsWithin, Lengthens, behind, longest, tried, tried_part};
 
 use crate::fronts::{Front, longest_front, unless_refused};
-use crate::scopes::{alloc_of, nothing, plain};
-use crate::steps::through_slice;
-use crate::walk::Walk;
+use crate::walk::Expressions;
+use cq_bind_calls::{alloc_of, nothing, plain, through_slice};
 use cq_bind_looks::{literal_of, selects};
 use cq_bind_rules as rules;
 use cq_grammar::{Added, Expr, Multiplied, MultiplyOperator, Select};
@@ -48,7 +47,7 @@ fn multiplied_by(
 impl<
     F: Fn(&mut Found, &Expr, &Scope<'_>, usize) -> Result<Bound, BindError>,
     G: Fn(&mut Found, &Select, &World<'_>, usize) -> Result<Block, BindError>,
-> Walk<F, G> {
+> Expressions<F, G> {
     /// What an operand is read as before any grouping, where its query groups and no subquery stands in it. None where it is
     /// refused.
     #[tactic(auto, using(cq_bind_looks::proofs::Looks::looks))]
@@ -58,11 +57,11 @@ impl<
         e: &Expr,
         scope: &Scope<'_>,
     ) -> Result<Option<Bound>, BindError>
-        requires { Nests self.now.left (F.pre self.now.expr) (F.post self.now.expr) (G.pre self.now.select) (G.post self.now.select) }
+        requires { Nests self.now.walk.left (F.pre self.now.walk.expr) (F.post self.now.walk.expr) (G.pre self.now.walk.select) (G.post self.now.walk.select) }
         ensures { Finds (tried (scope.now.grouped && not (part_of e.now).selects) (reads (part_of e.now) (scopes.plain scope.now) found.old)) result found.new }
     {
         if scope.grouped && !selects(e) {
-            unless_refused(self.expr(found, e, &plain(scope)))
+            unless_refused(self.walk.expr(found, e, &plain(scope)))
         } else {
             Ok(None)
         }
@@ -77,7 +76,7 @@ impl<
         scope: &Scope<'_>,
         lengthen: P,
     ) -> Result<Option<Front>, BindError>
-        requires nests { Nests self.now.left (F.pre self.now.expr) (F.post self.now.expr) (G.pre self.now.select) (G.post self.now.select) }
+        requires nests { Nests self.now.walk.left (F.pre self.now.walk.expr) (F.post self.now.walk.expr) (G.pre self.now.walk.select) (G.post self.now.walk.select) }
         requires lengthens { IsCallableOn (P.pre lengthen) }
         ensures longest { (part : T → Part) (step : _ → T → Reading _) → Lengthens (P.post lengthen) part step → MatchResult result (λ k. behind rest.now k ≡ longest scope.now.keys part step None (tried_part scope.now (part_of first.now)) rest.now) (λ e. e ≡ Memory) }
         ensures within { IfOk result (λ k. IsWithin rest.now k) }
@@ -102,7 +101,7 @@ impl<
         lengthen: P,
         step: N,
     ) -> Result<Bound, BindError>
-        requires nests { Nests self.now.left (F.pre self.now.expr) (F.post self.now.expr) (G.pre self.now.select) (G.post self.now.select) }
+        requires nests { Nests self.now.walk.left (F.pre self.now.walk.expr) (F.post self.now.walk.expr) (G.pre self.now.walk.select) (G.post self.now.walk.select) }
         requires lengthens { IsCallableOn (P.pre lengthen) }
         requires goes_on { IsCallableOn (N.pre step) }
         ensures { (part : T → Part) (r : _ → _ → T → Reading _) → Lengthens (P.post lengthen) part (r (scopes.plain scope.now)) → FollowsOn (N.post step) (r scope.now) → Binds (reads (expression.from_left part r (part_of first.now) rest.now) scope.now found.old) result found.new }
@@ -110,7 +109,7 @@ impl<
         match self.front(first, rest, scope, lengthen)? {
             Some(front) => through_slice(found, &rest[front.taken..], front.column, step),
             None => {
-                let first = self.expr(found, first, scope)?;
+                let first = self.walk.expr(found, first, scope)?;
                 through_slice(found, rest, first, step)
             }
         }
@@ -124,10 +123,10 @@ impl<
         part: &Added,
         scope: &Scope<'_>,
     ) -> Result<Bound, BindError>
-        requires { Nests self.now.left (F.pre self.now.expr) (F.post self.now.expr) (G.pre self.now.select) (G.post self.now.select) }
+        requires { Nests self.now.walk.left (F.pre self.now.walk.expr) (F.post self.now.walk.expr) (G.pre self.now.walk.select) (G.post self.now.walk.select) }
         ensures { Binds (expression.with_added scope.now a (added_part part.now) found.old) result found.new }
     {
-        match self.expr(found, &part.term, scope) {
+        match self.walk.expr(found, &part.term, scope) {
             Ok(b) => rules::added(alloc_of(scope), part.operator, a, b, part.at),
             Err(e) => {
                 drop(a);
@@ -145,7 +144,7 @@ impl<
         part: &Added,
         scope: &Scope<'_>,
     ) -> Result<Option<Bound>, BindError>
-        requires { Nests self.now.left (F.pre self.now.expr) (F.post self.now.expr) (G.pre self.now.select) (G.post self.now.select) }
+        requires { Nests self.now.walk.left (F.pre self.now.walk.expr) (F.post self.now.walk.expr) (G.pre self.now.walk.select) (G.post self.now.walk.select) }
         ensures { Finds (tried (not (added_part part.now).part.selects) (expression.with_added scope.now a (added_part part.now) found.old)) result found.new }
     {
         if selects(&part.term) {
@@ -162,7 +161,7 @@ impl<
         rest: &Items<Added>,
         scope: &Scope<'_>,
     ) -> Result<Bound, BindError>
-        requires { Nests self.now.left (F.pre self.now.expr) (F.post self.now.expr) (G.pre self.now.select) (G.post self.now.select) }
+        requires { Nests self.now.walk.left (F.pre self.now.walk.expr) (F.post self.now.walk.expr) (G.pre self.now.walk.select) (G.post self.now.walk.select) }
         ensures { Binds (expression.sum_reading (part_of first.now) (map added_part rest.now) scope.now found.old) result found.new }
     {
         let before = plain(scope);
@@ -184,10 +183,10 @@ impl<
         part: &Multiplied,
         scope: &Scope<'_>,
     ) -> Result<Bound, BindError>
-        requires { Nests self.now.left (F.pre self.now.expr) (F.post self.now.expr) (G.pre self.now.select) (G.post self.now.select) }
+        requires { Nests self.now.walk.left (F.pre self.now.walk.expr) (F.post self.now.walk.expr) (G.pre self.now.walk.select) (G.post self.now.walk.select) }
         ensures { Binds (expression.with_multiplied scope.now a (multiplied_part part.now) found.old) result found.new }
     {
-        match self.expr(found, &part.factor, scope) {
+        match self.walk.expr(found, &part.factor, scope) {
             Ok(b) => multiplied_by(alloc_of(scope), part.operator, a, b, &part.factor, part.at),
             Err(e) => {
                 drop(a);
@@ -205,7 +204,7 @@ impl<
         part: &Multiplied,
         scope: &Scope<'_>,
     ) -> Result<Option<Bound>, BindError>
-        requires { Nests self.now.left (F.pre self.now.expr) (F.post self.now.expr) (G.pre self.now.select) (G.post self.now.select) }
+        requires { Nests self.now.walk.left (F.pre self.now.walk.expr) (F.post self.now.walk.expr) (G.pre self.now.walk.select) (G.post self.now.walk.select) }
         ensures { Finds (tried (not (multiplied_part part.now).part.selects) (expression.with_multiplied scope.now a (multiplied_part part.now) found.old)) result found.new }
     {
         if selects(&part.factor) {
@@ -222,7 +221,7 @@ impl<
         rest: &Items<Multiplied>,
         scope: &Scope<'_>,
     ) -> Result<Bound, BindError>
-        requires { Nests self.now.left (F.pre self.now.expr) (F.post self.now.expr) (G.pre self.now.select) (G.post self.now.select) }
+        requires { Nests self.now.walk.left (F.pre self.now.walk.expr) (F.post self.now.walk.expr) (G.pre self.now.walk.select) (G.post self.now.walk.select) }
         ensures { Binds (expression.product_reading (part_of first.now) (map multiplied_part rest.now) scope.now found.old) result found.new }
     {
         let before = plain(scope);

@@ -13,7 +13,7 @@ use Rattle.cq_reading.specs.Scopes.{Context}
 use Rattle.cq_reading.specs.Selects.{Target, at_most, with_one_more, nth, key_by_place, group_key, group_keys}
 use Rattle.cq_reading.specs.Walk.{part_of, group_part}
 use Rattle.cq_bind_looks.proofs.Looks.{group_part_is}
-use Rattle.cq_bind_expressions.proofs.Loops.{passed, failed, binds_parts}
+use Rattle.cq_bind_calls.proofs.Loops.{passed, failed, binds_parts}
 
 module _ (cx : Context) (ts : List Target) (g : GroupBy) (f : Found) (res : Result (List tree.Expr) BindError) (new : Found) where
   pub group_ok : cx.joined ≡ false → Binds (at_most 16 limited.Keys (λ e. group_key cx ts (part_of e)) (out-GroupBy g).keys f) res new → Binds (group_keys cx ts cx.joined (Some (group_part g)) f) res new

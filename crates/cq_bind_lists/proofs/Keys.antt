@@ -10,7 +10,7 @@ use Rattle.cq_reading.specs.Steps.{give, provided}
 use Rattle.cq_reading.specs.Outcomes.{Binds, Judges}
 use Rattle.cq_reading.specs.Scopes.{Context, plain, column_at}
 use Rattle.cq_reading.specs.Expressions.{named_in_group}
-use Rattle.cq_bind_expressions.proofs.Loops.{err_is}
+use Rattle.cq_bind_calls.proofs.Loops.{err_is}
 use Rattle.cq_bind_lists.specs.Stars.{star_reading, star_by, key_or_refused}
 
 abbrev bound_in : Bound → Result (Bound × Found) BindError → Bound

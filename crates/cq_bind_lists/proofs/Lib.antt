@@ -1,4 +1,5 @@
 pub mod Grouping
 pub mod Keys
+pub mod Ordering
 pub mod Picks
 pub mod Targets

@@ -15,7 +15,7 @@ use Rattle.cq_reading.specs.Selects.{Target, titled, key_by_place, key_by_name, 
 use Rattle.cq_bind_lists.specs.declared.groups.Pick.{Pick}
 use Rattle.cq_bind_lists.specs.declared.groups.Pick.TheVariants as pick
 use Rattle.cq_bind_lists.specs.Picks.{target_value, with_titled, first_pick, picked, skipping, the_pick}
-use Rattle.cq_bind_expressions.proofs.Loops.{follow_same}
+use Rattle.cq_bind_calls.proofs.Loops.{follow_same}
 
 -- ---- the targets of a name
 

@@ -17,7 +17,7 @@ use Rattle.cq_reading.specs.Selects.{Target, star_column, star_columns, stars_of
 use Rattle.cq_reading.specs.Walk.{part_of, item_part}
 use Rattle.cq_bind_looks.proofs.Looks.{item_All, item_AllOf, item_Value, item_Named}
 use Rattle.cq_bind_lists.specs.Stars.{target_if, star_step, alias_of, value_target}
-use Rattle.cq_bind_expressions.proofs.Loops.{follow_same, err_is, binds_then, refused_then}
+use Rattle.cq_bind_calls.proofs.Loops.{follow_same, err_is, binds_then, refused_then}
 
 -- ---- lists behind each other
 

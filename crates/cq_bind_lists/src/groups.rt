@@ -10,16 +10,16 @@ ghost use Rattle.cq_reading.specs.Scopes as scopes;
 ghost use Rattle.cq_reading.specs.Selects as spec;
 ghost use Rattle.cq_reading.specs.Walk.{part_of, item_part, group_part};
 ghost use Rattle.cq_bind_names.specs.Checks.{Checks};
-ghost use Rattle.cq_bind_expressions.specs.Calls.{Nests, IsCallable, Follows};
+ghost use Rattle.cq_bind_calls.specs.Calls.{Nests, IsCallable, Follows};
 ghost use Rattle.cq_bind_lists.specs.Stars as stars;
 ghost use Rattle.cq_bind_lists.specs.Picks as picks;
 
 use crate::lists::Lists;
 use crate::outputs::{Star, is_meant, is_there, next_place, star_value, title_of};
-use cq_bind_expressions::{alloc_of, through, through_slice};
+use cq_bind_calls::{alloc_of, through, through_slice};
 use cq_bind_looks::{Form, form, place};
 use cq_bind_names::one_of;
-use cq_bind_rules as rules;
+use cq_bind_operands as operands;
 use cq_grammar::{Expr, GroupBy, Item, Name, Select};
 use cq_reading::{BindError, Block, Bound, Found, Limited, Scope, Source, World};
 use cq_tree::{Expr as Tree, Exprs};
@@ -603,7 +603,7 @@ impl<
         ensures { Binds (spec.group_key scope.now (spec.targets scope.now.columns (map item_part items.now)) (part_of key.now) found.old) result found.new }
     {
         let b = self.key_value(found, key, items, scope)?;
-        Ok(rules::expr(b))
+        Ok(operands::expr(b))
     }
 
     fn group_by(

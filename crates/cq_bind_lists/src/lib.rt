@@ -1,5 +1,5 @@
-//! The lists of a SELECT: what the items of its select list stand for, and the keys of GROUP BY, which may be the places or the names
-//! of outputs.
+//! The lists of a SELECT: what the items of its select list stand for, and the keys of GROUP BY and ORDER BY, which may be the places
+//! or the names of outputs.
 //!
 //! A bound expression that isn't used is let go by `drop`, a call, and what can fail stands before it where the order is free: at the
 //! end of a scope a function has all of the tree's destructor, and its proof goes through each variant of it.
@@ -7,6 +7,7 @@
 
 mod groups;
 mod lists;
+mod orders;
 mod outputs;
 
 pub use lists::Lists;

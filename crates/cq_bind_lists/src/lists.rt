@@ -1,19 +1,17 @@
-//! A value and a condition, of which the lists of a SELECT are made.
+//! A value, of which the lists of a SELECT are made.
 
 ghost use Rattle.std.specs.Prelude.{◌≡◌};
 ghost use Rattle.cq_reading.specs.Outcomes.{Binds};
 ghost use Rattle.cq_reading.specs.Expressions.{reads};
-ghost use Rattle.cq_reading.specs.Relations.{condition_of};
 ghost use Rattle.cq_reading.specs.Selects.{value_of};
 ghost use Rattle.cq_reading.specs.Walk.{part_of};
-ghost use Rattle.cq_bind_expressions.specs.Calls.{Nests};
+ghost use Rattle.cq_bind_calls.specs.Calls.{Nests};
 
-use cq_bind_expressions::Walk;
+use cq_bind_calls::Walk;
 use cq_bind_looks::place;
-use cq_bind_rules as rules;
+use cq_bind_operands as operands;
 use cq_grammar::{Expr, Select};
 use cq_reading::{BindError, Block, Bound, Found, Scope, World};
-use cq_tree::Cond;
 
 /// The walk over the lists of a SELECT where a tree may be so many levels deep.
 #[derive(Clone, Copy)]
@@ -31,20 +29,6 @@ impl<
         ensures { Binds (value_of (part_of e.now).at (reads (part_of e.now) scope.now) found.old) result found.new }
     {
         let b = self.walk.expr(found, e, scope)?;
-        rules::value(b, place(e))
-    }
-
-    /// A condition, which is refused at its root with 14 where it is none.
-    pub fn condition(
-        &self,
-        found: &mut Found,
-        e: &Expr,
-        scope: &Scope<'_>,
-    ) -> Result<Cond, BindError>
-        requires { Nests self.now.walk.left (F.pre self.now.walk.expr) (F.post self.now.walk.expr) (G.pre self.now.walk.select) (G.post self.now.walk.select) }
-        ensures { Binds (condition_of (part_of e.now) scope.now found.old) result found.new }
-    {
-        let b = self.walk.expr(found, e, scope)?;
-        rules::condition(b, place(e))
+        operands::value(b, place(e))
     }
 }

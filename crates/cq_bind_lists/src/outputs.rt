@@ -13,13 +13,14 @@ ghost use Rattle.cq_reading.specs.Scopes.{Context};
 ghost use Rattle.cq_reading.specs.Selects as spec;
 ghost use Rattle.cq_reading.specs.Walk.{part_of, item_part};
 ghost use Rattle.cq_bind_names.specs.Checks.{Checks};
-ghost use Rattle.cq_bind_expressions.specs.Calls.{Nests};
+ghost use Rattle.cq_bind_calls.specs.Calls.{Nests};
 ghost use Rattle.cq_bind_lists.specs.Stars as stars;
 
 use crate::lists::Lists;
-use cq_bind_expressions::{alloc_of, plain, through, through_slice};
+use cq_bind_calls::{alloc_of, plain, through, through_slice};
 use cq_bind_looks::{place, title};
-use cq_bind_rules::{column_at, key_column, value};
+use cq_bind_operands::value;
+use cq_bind_rules::{column_at, key_column};
 use cq_grammar::{Expr, Item, Name, Select};
 use cq_reading::{BindError, Block, Bound, Found, Limited, Scope, Shown, ShownList, Source, World};
 use cq_value::{Items, NoMemory, Text};

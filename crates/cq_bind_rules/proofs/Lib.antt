@@ -1,5 +1,2 @@
-pub mod ChainLaws
 pub mod Divisions
 pub mod Placed
-pub mod Results
-pub mod Truths

@@ -1,5 +1,3 @@
-pub mod Chains
-pub mod Operands
 pub mod Places
 pub mod Placing
 pub mod Trees

@@ -6,7 +6,7 @@ ghost use Rattle.cq_reading.specs.Widths.{expr_of};
 ghost use Rattle.cq_bind_rules.specs.Placing.{PlacedIn, SummedOr};
 
 use crate::columns::column_number;
-use crate::operands::{expr, is_number, is_value, kind, width};
+use cq_bind_operands::{expr, is_number, is_value, kind, width};
 use cq_grammar::Aggregate;
 use cq_reading::{BindError, Bound, Found, Scope, Type};
 use cq_same::same_expr;

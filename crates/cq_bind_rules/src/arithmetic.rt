@@ -11,8 +11,7 @@ ghost use Rattle.cq_reading.specs.Rules as rule;
 ghost use Rattle.cq_grammar.specs.declared.expr.MultiplyOperator.TheVariants as multiply;
 ghost use Rattle.cq_bind_rules.specs.Trees.{sum_of};
 
-use crate::boxes::boxed_two;
-use crate::operands::{are_numbers, both_numeric, expr, numeric, width};
+use cq_bind_operands::{are_numbers, both_numeric, boxed_two, expr, numeric, width};
 use cq_grammar::{AddOperator, MultiplyOperator};
 use cq_reading::{BindError, Bound, Type};
 use cq_tree::Expr;

@@ -9,7 +9,7 @@ ghost use Rattle.cq_reading.specs.Scopes.{has_name, has_full_name, named, named_
 ghost use Rattle.cq_reading.specs.Expressions.{named_in_group};
 ghost use Rattle.cq_bind_rules.specs.Places.{place};
 
-use crate::literals::null;
+use cq_bind_operands::null;
 use cq_grammar::Name;
 use cq_reading::{BindError, Bound, Scope, Source};
 use cq_tree::Expr;

@@ -21,7 +21,7 @@ use Rattle.cq_reading.specs.Selects.{look, at_most, targets, read_target, item_o
 use Rattle.cq_reading.specs.Walk.{groups, block_of, select_of, select_step}
 use Rattle.cq_bind_names.specs.Blocks.{entered, left}
 use Rattle.cq_bind_names.proofs.BlockLaws.{block_ok, block_err, block_limit}
-use Rattle.cq_bind_expressions.proofs.Loops.{err_is}
+use Rattle.cq_bind_calls.proofs.Loops.{err_is}
 use Rattle.cq_bind_names.specs.declared.blocks.Outer.{Outer}
 use Rattle.cq_bind_walk.specs.declared.selects.Rows.{Rows}
 use Rattle.cq_bind_walk.specs.declared.selects.Shape.{Shape}

@@ -1,5 +1,3 @@
 pub mod Blocks
-pub mod Froms
 pub mod Layers
 pub mod Made
-pub mod Ordering

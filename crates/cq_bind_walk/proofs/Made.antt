@@ -4,7 +4,7 @@ use Rattle.cq_reading.specs.declared.bound.Found.{Found}
 use Rattle.cq_reading.specs.declared.error.BindError.{BindError}
 use Rattle.cq_reading.specs.Steps.{Reading, give, ◌then◌, follow}
 use Rattle.cq_reading.specs.Outcomes.{Binds}
-use Rattle.cq_bind_expressions.proofs.Loops.{binds_then}
+use Rattle.cq_bind_calls.proofs.Loops.{binds_then}
 use Rattle.cq_bind_walk.specs.Blocks.{made}
 
 -- what is made of a part

@@ -6,8 +6,8 @@ ghost use Rattle.cq_reading.specs.Expressions.{reads};
 ghost use Rattle.cq_reading.specs.Walk.{part_of, select_of};
 
 use crate::walk::Selects;
-use cq_bind_expressions::Walk;
-use cq_bind_lists::Lists;
+use cq_bind_calls::Walk;
+use cq_bind_expressions::Expressions;
 use cq_grammar::{Expr, Select};
 use cq_reading::{BindError, Block, Bound, Found, Scope, World};
 
@@ -16,7 +16,8 @@ use cq_reading::{BindError, Block, Bound, Found, Scope, World};
 pub fn expr(found: &mut Found, e: &Expr, scope: &Scope<'_>, left: usize) -> Result<Bound, BindError>
     ensures { Binds (reads (part_of e.now) scope.now found.old) result found.new }
 {
-    Walk { left, expr, select }.reading(found, e, scope)
+    let walk = Walk { left, expr, select };
+    Expressions { walk }.reading(found, e, scope)
 }
 
 /// A SELECT among tables and CTEs. `Err` is the first refusal in it, or want of memory, also where it is more than `left` levels
@@ -31,6 +32,5 @@ pub fn select(
     ensures { Binds (select_of q.now world.now found.old) result found.new }
 {
     let walk = Walk { left, expr, select };
-    let lists = Lists { walk };
-    Selects { lists }.block(found, q, world)
+    Selects { walk }.block(found, q, world)
 }

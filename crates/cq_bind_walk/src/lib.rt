@@ -2,10 +2,7 @@
 //! refusal in it.
 #![tactic(auto)]
 
-mod clauses;
 mod knot;
-mod orders;
-mod relations;
 mod selects;
 mod walk;
 
@@ -16,7 +13,7 @@ ghost use Rattle.cq_reading.specs.Relations.{condition_of};
 ghost use Rattle.cq_reading.specs.Walk.{part_of, select_of};
 
 use cq_bind_looks::place;
-use cq_bind_rules as rules;
+use cq_bind_operands as operands;
 use cq_grammar::{Expr, Select};
 use cq_reading::{BindError, Block, Bound, Found, Scope, World};
 use cq_tree::Cond;
@@ -37,7 +34,7 @@ pub fn condition(found: &mut Found, e: &Expr, scope: &Scope<'_>) -> Result<Cond,
     ensures { Binds (condition_of (part_of e.now) scope.now found.old) result found.new }
 {
     let b = expr(found, e, scope)?;
-    rules::condition(b, place(e))
+    operands::condition(b, place(e))
 }
 
 /// A SELECT among tables and CTEs. `Err` is the first refusal in it, or want of memory, also where it is more than 1024 levels

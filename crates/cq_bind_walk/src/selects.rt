@@ -6,14 +6,16 @@ ghost use Rattle.cq_reading.specs.Selects as spec;
 ghost use Rattle.cq_reading.specs.Walk as walk;
 ghost use Rattle.cq_reading.specs.Walk.{select_of, item_part, order_part};
 ghost use Rattle.cq_bind_names.specs.declared.blocks.Outer.{Outer};
-ghost use Rattle.cq_bind_expressions.specs.Calls.{Nests};
+ghost use Rattle.cq_bind_calls.specs.Calls.{Nests};
 ghost use Rattle.cq_bind_walk.specs.Blocks as blocks;
 ghost use Rattle.cq_bind_walk.specs.Blocks.{layer_of};
 
 use crate::walk::Selects;
-use cq_bind_expressions::alloc_of;
+use cq_bind_calls::alloc_of;
+use cq_bind_lists::Lists;
 use cq_bind_looks::groups;
 use cq_bind_names::{Clauses, Outer, Parts, block_of, enter, leave, unordered};
+use cq_bind_relations::Froms;
 use cq_grammar::{Count, Expr, Item, OrderKey, Select};
 use cq_reading::{BindError, Block, Bound, Found, Ordered, Relations, Scope, ShownList, World};
 use cq_tree::{Cond, Exprs};
@@ -160,8 +162,8 @@ fn finished(
 }
 
 impl<
-    F: Fn(&mut Found, &Expr, &Scope<'_>, usize) -> Result<Bound, BindError>,
-    G: Fn(&mut Found, &Select, &World<'_>, usize) -> Result<Block, BindError>,
+    F: Copy + Fn(&mut Found, &Expr, &Scope<'_>, usize) -> Result<Bound, BindError>,
+    G: Copy + Fn(&mut Found, &Select, &World<'_>, usize) -> Result<Block, BindError>,
 > Selects<F, G> {
     /// WHERE and GROUP BY.
     fn conditions(
@@ -171,20 +173,23 @@ impl<
         relations: &Relations,
         world: &World<'_>,
     ) -> Result<(Cond, Exprs), BindError>
-        requires { Nests self.now.lists.walk.left (F.pre self.now.lists.walk.expr) (F.post self.now.lists.walk.expr) (G.pre self.now.lists.walk.select) (G.post self.now.lists.walk.select) }
+        requires { Nests self.now.walk.left (F.pre self.now.walk.expr) (F.post self.now.walk.expr) (G.pre self.now.walk.select) (G.post self.now.walk.select) }
         ensures { Binds (blocks.conditions_reading (layer_of q.now) world.now relations.now found.old) result found.new }
     {
-        let filter = self.filter(found, &q.filter, &scope_before(world, relations, true))?;
+        let froms = Froms { walk: self.walk };
+        let filter = froms.filter(found, &q.filter, &scope_before(world, relations, true))?;
+        let lists = Lists { walk: self.walk };
         let scope = scope_before(world, relations, false);
-        let keys = self.lists.groups(found, &q.groups, &q.items, &scope)?;
+        let keys = lists.groups(found, &q.groups, &q.items, &scope)?;
         Ok((filter, keys))
     }
 
     fn rows(&self, found: &mut Found, q: &Select, world: &World<'_>) -> Result<Rows, BindError>
-        requires { Nests self.now.lists.walk.left (F.pre self.now.lists.walk.expr) (F.post self.now.lists.walk.expr) (G.pre self.now.lists.walk.select) (G.post self.now.lists.walk.select) }
+        requires { Nests self.now.walk.left (F.pre self.now.walk.expr) (F.post self.now.walk.expr) (G.pre self.now.walk.select) (G.post self.now.walk.select) }
         ensures { Binds (blocks.rows_reading (layer_of q.now) world.now found.old) result found.new }
     {
-        let relations = self.relations(found, &q.from, world)?;
+        let froms = Froms { walk: self.walk };
+        let relations = froms.relations(found, &q.from, world)?;
         let conditions = self.conditions(found, q, &relations, world);
         rows_of(beside(relations, conditions))
     }
@@ -198,12 +203,13 @@ impl<
         keys: &Items<OrderKey>,
         scope: &Scope<'_>,
     ) -> Result<(ShownList, Ordered), BindError>
-        requires { Nests self.now.lists.walk.left (F.pre self.now.lists.walk.expr) (F.post self.now.lists.walk.expr) (G.pre self.now.lists.walk.select) (G.post self.now.lists.walk.select) }
+        requires { Nests self.now.walk.left (F.pre self.now.walk.expr) (F.post self.now.walk.expr) (G.pre self.now.walk.select) (G.post self.now.walk.select) }
         ensures { Binds (blocks.ordered_reading (map item_part items.now) distinct (map order_part keys.now) scope.now found.old) result found.new }
     {
-        let outputs = self.lists.outputs(found, items, scope)?;
+        let lists = Lists { walk: self.walk };
+        let outputs = lists.outputs(found, items, scope)?;
         let order = unordered(alloc_of(scope), outputs.as_slice())?;
-        let order = self.orders(found, keys, outputs.as_slice(), distinct, order, scope)?;
+        let order = lists.orders(found, keys, outputs.as_slice(), distinct, order, scope)?;
         Ok((outputs, order))
     }
 
@@ -215,10 +221,11 @@ impl<
         grouped: bool,
         world: &World<'_>,
     ) -> Result<Shape, BindError>
-        requires { Nests self.now.lists.walk.left (F.pre self.now.lists.walk.expr) (F.post self.now.lists.walk.expr) (G.pre self.now.lists.walk.select) (G.post self.now.lists.walk.select) }
+        requires { Nests self.now.walk.left (F.pre self.now.walk.expr) (F.post self.now.walk.expr) (G.pre self.now.walk.select) (G.post self.now.walk.select) }
         ensures { Binds (blocks.shape_reading (layer_of q.now) world.now grouped rows.now found.old) result found.new }
     {
-        let having = self.having(found, &q.having, &scope_after(world, rows, grouped, true))?;
+        let froms = Froms { walk: self.walk };
+        let having = froms.having(found, &q.having, &scope_after(world, rows, grouped, true))?;
         let scope = scope_after(world, rows, grouped, false);
         let (outputs, order) = self.ordered(found, &q.items, q.distinct, &q.order, &scope)?;
         Ok(Shape {
@@ -235,7 +242,7 @@ impl<
         grouped: bool,
         world: &World<'_>,
     ) -> Result<(Rows, Shape), BindError>
-        requires { Nests self.now.lists.walk.left (F.pre self.now.lists.walk.expr) (F.post self.now.lists.walk.expr) (G.pre self.now.lists.walk.select) (G.post self.now.lists.walk.select) }
+        requires { Nests self.now.walk.left (F.pre self.now.walk.expr) (F.post self.now.walk.expr) (G.pre self.now.walk.select) (G.post self.now.walk.select) }
         ensures { Binds (blocks.parts_reading (layer_of q.now) world.now grouped found.old) result found.new }
     {
         let rows = self.rows(found, q, world)?;
@@ -250,7 +257,7 @@ impl<
         q: &Select,
         world: &World<'_>,
     ) -> Result<Block, BindError>
-        requires { Nests self.now.lists.walk.left (F.pre self.now.lists.walk.expr) (F.post self.now.lists.walk.expr) (G.pre self.now.lists.walk.select) (G.post self.now.lists.walk.select) }
+        requires { Nests self.now.walk.left (F.pre self.now.walk.expr) (F.post self.now.walk.expr) (G.pre self.now.walk.select) (G.post self.now.walk.select) }
         ensures { Binds (select_of q.now world.now found.old) result found.new }
     {
         let outer = enter(found, world.alloc)?;

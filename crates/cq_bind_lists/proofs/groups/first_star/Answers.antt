@@ -1,4 +1,4 @@
-use Rattle.cq_bind_expressions.proofs.Loops.{refused_then}
+use Rattle.cq_bind_calls.proofs.Loops.{refused_then}
 use Rattle.cq_bind_lists.proofs.groups.first_star.Goals as goal
 
 pub returns-in_err-b : goal.returns-in_err-b

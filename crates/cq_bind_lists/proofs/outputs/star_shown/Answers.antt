@@ -1,4 +1,4 @@
-use Rattle.cq_bind_expressions.proofs.Loops.{refused_then}
+use Rattle.cq_bind_calls.proofs.Loops.{refused_then}
 use Rattle.cq_bind_lists.proofs.outputs.star_shown.Goals as goal
 
 pub returns-in_err-bound : goal.returns-in_err-bound

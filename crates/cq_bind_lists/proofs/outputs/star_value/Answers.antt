@@ -1,4 +1,4 @@
-use Rattle.cq_bind_expressions.proofs.Loops.{binds_then, refused_then}
+use Rattle.cq_bind_calls.proofs.Loops.{binds_then, refused_then}
 use Rattle.cq_bind_lists.proofs.outputs.star_value.Goals as goal
 
 pub returns-in_err-b : goal.returns-in_err-b

@@ -3,7 +3,7 @@ use Rattle.cq_reading.specs.Selects.{targets}
 use Rattle.cq_reading.specs.Walk.{item_part}
 use Rattle.cq_bind_lists.proofs.Grouping.{by_place, no_place}
 use Rattle.cq_bind_lists.proofs.Picks.{binds_picked}
-use Rattle.cq_bind_expressions.proofs.Loops.{binds_then, refused_then}
+use Rattle.cq_bind_calls.proofs.Loops.{binds_then, refused_then}
 use Rattle.cq_bind_lists.specs.Picks.{the_pick}
 use Rattle.cq_bind_lists.proofs.lists.Lists.key_by_place.Goals as goal
 

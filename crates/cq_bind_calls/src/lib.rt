@@ -1,0 +1,11 @@
+//! What the binder's productions are built on: the two calls by which an expression or a SELECT that stands deeper is read, and what
+//! is done with each item of a list in turn.
+#![tactic(auto)]
+
+mod scopes;
+mod steps;
+mod walk;
+
+pub use scopes::{alloc_of, nothing, plain};
+pub use steps::{behind, each, through, through_slice};
+pub use walk::Walk;

@@ -1,0 +1,8 @@
+//! The binder's productions of FROM and its joins, and of WHERE and HAVING, each over what its parts are read as.
+#![tactic(auto)]
+
+mod clauses;
+mod relations;
+mod walk;
+
+pub use walk::Froms;

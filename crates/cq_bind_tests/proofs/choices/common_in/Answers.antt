@@ -1,0 +1,8 @@
+use Rattle.std.proofs.Common.{arith}
+use Rattle.cq_bind_tests.proofs.Results.{common_more_in}
+use Rattle.cq_bind_tests.proofs.choices.common_in.Goals as goal
+
+pub loop-arm-preserved : goal.loop-arm-preserved
+loop-arm-preserved c =
+    let e = common_more_in c.args.arms.now c.loop-arm.arm-index c.arm-item.result (omega arith) in
+    rw (c.common_with-kind.ensures, e, ← c.arm-item.is, c.loop-arm.invariant)
