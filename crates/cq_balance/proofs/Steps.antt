@@ -3,18 +3,12 @@ use Rattle.std.proofs.Common.{◌≡◌, ◌≢◌, ◌∙◌, ℕ, zero, suc, �
 use Rattle.std.specs.List.{fold}
 use Rattle.std.proofs.lemmas.Bool.{ltb-true, ltb-false}
 use Rattle.std.proofs.lemmas.Bool.Decides.{eqb_tells}
+use Rattle.cq_value.proofs.Truths.{and_both, same_number}
 use Rattle.cq_balance.specs.declared.load.Load.{Load}
 use Rattle.cq_balance.specs.declared.load.Move.{Move}
 use Rattle.cq_balance.specs.Greedy.{load_of, fullest, emptiest, can_move, goes_before, first_of, chosen, moving, next_move, moved, squares}
 use Rattle.cq_balance.specs.Laws.{AreDistinct}
 use Rattle.cq_balance.proofs.Sizes.{Has, squares_lower}
-
-pub both : (a b : Bool) → (a && b) ≡ true → (a ≡ true) × (b ≡ true)
-both true b e = (refl, e)
-both false b e = absurd (cc e)
-
-pub same_number : (a b : ℕ) → nat_eq a b ≡ true → a ≡ b
-same_number a b e = elim (eqb_tells a b) [ inl p ↦ p.1 | inr p ↦ absurd (let clash : true ≡ false = sym e ∙ p.0 in cc clash) ]
 
 -- the fullest node has the greatest load, and is one of the nodes
 pub fullest_most : (ls : List Load) (nodes n : ℕ) → 0 < n → n ≤ nodes → load_of ls n ≤ load_of ls (fullest ls nodes)
@@ -145,8 +139,8 @@ next_is ls nodes m e = by (chosen ls (fullest ls nodes) (emptiest ls nodes)) ref
         elim (chosen_has (can_move ls f t) ls None l c) [
           | inl k ↦ absurd (cc k)
           | inr k ↦ (
-              let one = both (nat_eq l.node f) (nat_lt 0 l.size && nat_lt l.size (load_of ls f - load_of ls t)) k.1 in
-              let two = both (nat_lt 0 l.size) (nat_lt l.size (load_of ls f - load_of ls t)) one.1 in
+              let one = and_both (nat_eq l.node f) (nat_lt 0 l.size && nat_lt l.size (load_of ls f - load_of ls t)) k.1 in
+              let two = and_both (nat_lt 0 l.size) (nat_lt l.size (load_of ls f - load_of ls t)) one.1 in
               record {
                 load = l;
                 there = k.0;

@@ -3,6 +3,7 @@
 use Rattle.std.proofs.Common.{◌≡◌, ℕ, zero, suc, ◌≤◌, ◌<◌, Bool, true, false, not, ◌&&◌, List, [], ◌∷◌, Option, Some, Ok, refl, sym, subst, arith}
 use Rattle.std.specs.Prelude.{⊤, nat_le, nat_lt, length, slice_get, bytes_eq, codes}
 use Rattle.std.specs.List.{AllByRecursion, list_any}
+use Rattle.cq_value.proofs.Truths.{and_right, is_at_most}
 use Rattle.cq_value.specs.declared.schema.Column as schema
 use Rattle.cq_value.specs.declared.schema.With.{With}
 use Rattle.cq_catalog.specs.declared.info.TableInfo.{TableInfo}
@@ -44,13 +45,6 @@ Known tables (statement.Write (Remove table filter)) = IsShared tables table
 Known tables (statement.Setting which n) = n ≤ 128
 Known tables (statement.Copy table columns csv header) = (table < length tables) × IsShared tables table
 Known tables _ = ⊤
-
-both_true : (a b : Bool) → (a && b) ≡ true → b ≡ true
-both_true true b h = h
-both_true false b h = cc
-
-at_most : (m n : ℕ) → nat_le m n ≡ true → m ≤ n
-at_most m n h = grind (arith, h)
 
 there_below : (tables : List TableInfo) (i : ℕ) (t : TableInfo) → slice_get tables i ≡ Some t → i < length tables
 there_below [] i t is = absurd (cc is)
@@ -149,7 +143,7 @@ module _ (tables : List TableInfo) where
 
   numbers : (which greatest : ℕ) (v : SettingValue) → greatest ≤ 128 → Yields K (st.number_setting which greatest v)
   numbers which greatest (settings.Number n at) few =
-      yields_provided K (nat_le 1 n && nat_le n greatest) _ (give (statement.Setting which n)) (λ may. let low = at_most n greatest (both_true (nat_le 1 n) (nat_le n greatest) may) in known_setting which n (omega (arith, low, few)))
+      yields_provided K (nat_le 1 n && nat_le n greatest) _ (give (statement.Setting which n)) (λ may. let low = is_at_most n greatest (and_right (nat_le 1 n) (nat_le n greatest) may) in known_setting which n (omega (arith, low, few)))
   numbers which greatest (settings.On at) few = yields_refuse K _
   numbers which greatest (settings.Off at) few = yields_refuse K _
 

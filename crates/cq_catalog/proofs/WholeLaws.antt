@@ -3,6 +3,7 @@ use Rattle.std.proofs.Common.{◌≡◌, ◌⊎◌, inl, inr, ℕ, zero, suc, �
 use Rattle.std.proofs.lemmas.Grind.{common_steps}
 use Rattle.std.proofs.lemmas.List.Sums.{sum_by-append}
 use Rattle.std.proofs.lemmas.Option.{same_Some}
+use Rattle.cq_value.proofs.Lists.{got_more, got_before}
 use Rattle.cq_value.specs.declared.schema.Column.{Column}
 use Rattle.cq_value.specs.declared.schema.Kind.{Kind}
 use Rattle.cq_catalog.specs.Contents.{Contents, is_local, count_in, with_place}
@@ -15,17 +16,6 @@ use Rattle.cq_catalog.specs.declared.info.TableInfo.{TableInfo}
 use Rattle.cq_catalog.specs.declared.info.Colocation.{Colocation}
 use Rattle.cq_catalog.specs.declared.info.Place.{Place}
 use Rattle.cq_catalog.specs.declared.info.Place.TheVariants.{Local, Distributed, Reference}
-
-pub get_push : {X : Type 0} (xs : List X) (x : X) (i : ℕ) (y : X) → slice_get (xs ++ x ∷ []) i ≡ Some y → (slice_get xs i ≡ Some y) ⊎ ((i ≡ length xs) × (x ≡ y))
-get_push [] x zero y h = inr (refl, same_Some x y h)
-get_push [] x (suc i) y h = inl h
-get_push (z ∷ zs) x zero y h = inl h
-get_push (z ∷ zs) x (suc i) y h = elim (get_push zs x i y h) [ inl a ↦ inl a | inr p ↦ inr (ap suc p.0, p.1) ]
-
-pub get_before : {X : Type 0} (xs ys : List X) (i : ℕ) → i < length xs → slice_get (xs ++ ys) i ≡ slice_get xs i
-get_before [] ys i h = absurd (omega arith)
-get_before (x ∷ xs) ys zero h = refl
-get_before (x ∷ xs) ys (suc i) h = get_before xs ys i (omega arith)
 
 pub got_there : {X : Type 0} (xs : List X) (i : ℕ) → i < length xs → (x : X) × (slice_get xs i ≡ Some x)
 got_there [] i h = absurd (omega arith)
@@ -76,9 +66,9 @@ whole_created c name columns key h few room = record {
   few_groups = h.few_groups;
   colocations = h.colocations;
   cut = h.cut;
-  tables = λ i t at. elim (get_push c.tables new i t at) [ inl a ↦ record { few_columns = (h.tables i t a).few_columns; placed = (h.tables i t a).placed } | inr p ↦ subst (IsTable (with_table c name columns key)) p.1 (record { few_columns = few; placed = tt }) ];
-  apart = λ i j t u id at bt ti ui. elim (get_push c.tables new i t at) [
-    | inl a ↦ elim (get_push c.tables new j u bt) [ inl b ↦ h.apart i j t u id a b ti ui | inr q ↦ absurd (subst (λ (v : TableInfo). HasId c.colocations v.place id) (sym q.1) ui) ]
+  tables = λ i t at. elim (got_more c.tables new i t at) [ inl a ↦ record { few_columns = (h.tables i t a).few_columns; placed = (h.tables i t a).placed } | inr p ↦ subst (IsTable (with_table c name columns key)) p.1 (record { few_columns = few; placed = tt }) ];
+  apart = λ i j t u id at bt ti ui. elim (got_more c.tables new i t at) [
+    | inl a ↦ elim (got_more c.tables new j u bt) [ inl b ↦ h.apart i j t u id a b ti ui | inr q ↦ absurd (subst (λ (v : TableInfo). HasId c.colocations v.place id) (sym q.1) ui) ]
     | inr p ↦ absurd (subst (λ (v : TableInfo). HasId c.colocations v.place id) (sym p.1) ti)
   ];
   ids = rw (spread_local c.tables new refl) h.ids;
@@ -107,14 +97,14 @@ whole_opened c kind count joinable h can =
       few_tables = h.few_tables;
       few_groups = room;
       colocations = let k : length c.colocations ≤ c.groups = h.colocations in rw length-append (omega arith);
-      cut = λ i g at. elim (get_push c.colocations new i g at) [
+      cut = λ i g at. elim (got_more c.colocations new i g at) [
         | inl a ↦ let w : g.first_group + g.count ≤ c.groups = (h.cut i g a).within in record { some = (h.cut i g a).some; few = (h.cut i g a).few; cut = (h.cut i g a).cut; within = omega arith }
         | inr p ↦ subst (IsCut (c.groups + count)) p.1 (record { some = some; few = few; cut = refl; within = omega arith })
       ];
-      tables = λ i t at. record { few_columns = (h.tables i t at).few_columns; placed = later_placed c (with_colocation c kind count joinable) t.place (rw length-append (omega arith)) (omega arith) (omega arith) (λ k below. get_before c.colocations (new ∷ []) k below) (h.tables i t at).placed };
+      tables = λ i t at. record { few_columns = (h.tables i t at).few_columns; placed = later_placed c (with_colocation c kind count joinable) t.place (rw length-append (omega arith)) (omega arith) (omega arith) (λ k below. got_before c.colocations (new ∷ []) k below) (h.tables i t at).placed };
       apart = λ i j t u id at bt ti ui. h.apart i j t u id at bt
-          (earlier_id c (c.colocations ++ new ∷ []) t.place id (λ k below. get_before c.colocations (new ∷ []) k below) (h.tables i t at).placed ti)
-          (earlier_id c (c.colocations ++ new ∷ []) u.place id (λ k below. get_before c.colocations (new ∷ []) k below) (h.tables j u bt).placed ui);
+          (earlier_id c (c.colocations ++ new ∷ []) t.place id (λ k below. got_before c.colocations (new ∷ []) k below) (h.tables i t at).placed ti)
+          (earlier_id c (c.colocations ++ new ∷ []) u.place id (λ k below. got_before c.colocations (new ∷ []) k below) (h.tables j u bt).placed ui);
       ids = h.ids;
     }
   where

@@ -3,6 +3,8 @@ use Rattle.std.proofs.Common.{◌≡◌, ℕ, zero, suc, ◌+◌, add-zero, inl,
 use Rattle.std.specs.Prelude.{filter, ◌||◌}
 use Rattle.std.specs.List.{list_any}
 use Rattle.std.proofs.lemmas.List.{get_or-append-add}
+use Rattle.cq_value.proofs.Truths.{or_neither, or_right}
+use Rattle.cq_value.proofs.Lists.{any_map}
 use Rattle.cq_value.specs.declared.value.Value.{Value}
 use Rattle.cq_value.specs.declared.value.Value.TheVariants.{Null}
 use Rattle.cq_tree.specs.declared.expression.Expr.{Expr, Column}
@@ -49,25 +51,13 @@ sorted_as_is (x ∷ xs) = ap (placed (λ x y. false) x) (sorted_as_is xs) ∙ fi
     first x [] = refl
     first x (y ∷ ys) = refl
 
-any_map : {X Y : Type 0} (p : Y → Bool) (f : X → Y) (xs : List X) → list_any p (map f xs) ≡ list_any (λ x. p (f x)) xs
-any_map p f [] = refl
-any_map p f (x ∷ xs) = ap (λ b. p (f x) || b) (any_map p f xs)
-
-or_false : (a b : Bool) → (a || b) ≡ false → (a ≡ false) × (b ≡ false)
-or_false true b e = cc
-or_false false b e = (refl, e)
-
 -- where no group has too many rows of tasks, it is the rows that they count
 any_count : (at : ℕ) (results : Results) (gs : List Group) → list_any is_large_group gs ≡ false →
     list_any (λ g. is_above_limit (aggregate results g.rows (agg.Sum (Column at)))) gs ≡ list_any (is_large_together at results) gs
 any_count at results [] e = refl
 any_count at results (g ∷ gs) e =
-    let f : (is_large_group g ≡ false) × (list_any is_large_group gs ≡ false) = or_false (is_large_group g) (list_any is_large_group gs) e in
+    let f : (is_large_group g ≡ false) × (list_any is_large_group gs ≡ false) = or_neither (is_large_group g) (list_any is_large_group gs) e in
     λ i. (sym f.0 i || is_above_limit (aggregate results g.rows (agg.Sum (Column at)))) || any_count at results gs f.1 i
-
-second_true : (a b : Bool) → b ≡ true → (a || b) ≡ true
-second_true true b e = refl
-second_true false b e = e
 
 any_more : (at : ℕ) (results : Results) (gs : List Group) → list_any is_large_group gs ≡ true → list_any (is_large_together at results) gs ≡ true
 any_more at results [] e = cc
@@ -76,7 +66,7 @@ any_more at results (g ∷ gs) e = go (is_large_group g) refl e (any_more at res
     go : (b : Bool) → is_large_group g ≡ b → (b || list_any is_large_group gs) ≡ true → (list_any is_large_group gs ≡ true → list_any (is_large_together at results) gs ≡ true) →
         list_any (is_large_together at results) (g ∷ gs) ≡ true
     go true f h more = ap (λ b. (b || is_above_limit (aggregate results g.rows (agg.Sum (Column at)))) || list_any (is_large_together at results) gs) f
-    go false f h more = second_true (is_large_together at results g) (list_any (is_large_together at results) gs) (more h)
+    go false f h more = or_right (is_large_together at results g) (list_any (is_large_together at results) gs) (more h)
 
 kept_all : (q : Query) (results : Results) (rows : List Row) → filter (keeps Always results) rows ≡ rows
 kept_all q results rows = filter_all (keeps Always results) rows (λ r h. refl)

@@ -25,7 +25,7 @@ pub(crate) struct Frame<'a> {
 fn blank(alloc: Global, table: &TableInfo) -> Result<Row, NoMemory>
     ensures { IfOk result (λ values. values ≡ spec.blank table.now) }
 {
-    let mut values = Row::new(alloc);
+    let mut values = Row::with_room(alloc, table.columns.len())?;
     for _ in table.columns.as_slice() {
         values.put(Value::Null)?;
     }

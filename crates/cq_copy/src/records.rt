@@ -48,7 +48,7 @@ fn read_next(reader: &mut Reader<&[u8]>, raw: &mut ByteRecord) -> Result<bool, N
 fn fields_in(alloc: Global, raw: &ByteRecord) -> Result<Vec<&[u8]>, AllocError>
     ensures { IfOk result (λ v. map (λ f. f.now) v.items ≡ fields_of raw.now) }
 {
-    let mut fields = Vec::new(alloc);
+    let mut fields = Vec::with_capacity(alloc, raw.len())?;
     for field in raw {
         if fields.push(field).is_err() {
             return Err(AllocError);

@@ -5,6 +5,8 @@ use Rattle.std.specs.List.{list_all, list_any, AllByRecursion}
 use Rattle.std.specs.Ordering.{is_eq}
 use Rattle.std.proofs.lemmas.Bool.Decides.{eqb_tells}
 use Rattle.std.proofs.lemmas.List.Elements.{filter-append}
+use Rattle.cq_value.proofs.Lists.{all_append, all_weaker, all_filtered, filter_map, filter_turned}
+use Rattle.cq_value.proofs.Truths.{and_both, below_or_not, two_ways}
 use Rattle.cq_value.specs.declared.value.Value.{Value}
 use Rattle.cq_value.specs.declared.value.Value.TheVariants.{Null, Int, Text}
 use Rattle.cq_value.specs.Order.{compared, value_cmp}
@@ -24,23 +26,7 @@ use Rattle.cq_demands.specs.Demands.{demand_of, demands, has_all, rows_with}
 use Rattle.cq_demands.specs.declared.joins.Leaf.{Leaf}
 use Rattle.cq_demands.specs.JoinDemands.{is_plain, leaves_from, on_demands, tie_of, ties, on_ties, demand_at, carried_by, carried, spread, all_ties, demanded, is_in, in_range, is_demand, is_of_each, wanted_of, wants_of, wants_at, AreWide, IsNarrowed, JoinsKeepWanted}
 use Rattle.cq_demands.proofs.Narrowed.{all_rows}
-use Rattle.cq_demands.proofs.Kept.{two_ways, equal_is, same_itself, yes_both, passing_alike}
-
-and_true : (a b : Bool) → (a && b) ≡ true → (a ≡ true) × (b ≡ true)
-and_true true b e = (refl, e)
-and_true false b e = cc
-
-all_append : {X : Type 0} (P : X → Type 0) (xs ys : List X) → AllByRecursion P xs → AllByRecursion P ys → AllByRecursion P (xs ++ ys)
-all_append P [] ys h k = k
-all_append P (x ∷ xs) ys h k = (h.0, all_append P xs ys h.1 k)
-
-all_weaker : {X : Type 0} (P Q : X → Type 0) → ((x : X) → P x → Q x) → (xs : List X) → AllByRecursion P xs → AllByRecursion Q xs
-all_weaker P Q f [] h = tt
-all_weaker P Q f (x ∷ xs) h = (f x h.0, all_weaker P Q f xs h.1)
-
-all_filter : {X : Type 0} (P : X → Type 0) (p : X → Bool) (xs : List X) → AllByRecursion P xs → AllByRecursion P (filter p xs)
-all_filter P p [] h = tt
-all_filter P p (x ∷ xs) h = elim (p x) as (λ b. AllByRecursion P (cond b (x ∷ filter p xs) (filter p xs))) [ true ↦ (h.0, all_filter P p xs h.1) | false ↦ all_filter P p xs h.1 ]
+use Rattle.cq_demands.proofs.Kept.{equal_is, same_itself, yes_both, passing_alike}
 
 -- what passes a test, and had P before
 all_passing : {X : Type 0} (P Q : X → Type 0) (p : X → Bool) → ((x : X) → P x → p x ≡ true → Q x) → (xs : List X) → AllByRecursion P xs → AllByRecursion Q (filter p xs)
@@ -202,7 +188,7 @@ all_left_join P Q R f on w [] rs n h k = tt
 all_left_join P Q R f on w (l ∷ ls) rs n h k =
     all_append R (or_else (l ++ replicate w Null) (filter on (map (λ r. l ++ r) rs))) (left_join on w ls rs)
     (all_or_else R (l ++ replicate w Null) (filter on (map (λ r. l ++ r) rs)) (f l (replicate w Null) h.0 n)
-    (all_filter R on (map (λ r. l ++ r) rs) (all_map R (λ r. l ++ r) rs (all_weaker Q (λ r. R (l ++ r)) (λ r q. f l r h.0 q) rs k))))
+    (all_filtered R on (map (λ r. l ++ r) rs) (all_map R (λ r. l ++ r) rs (all_weaker Q (λ r. R (l ++ r)) (λ r q. f l r h.0 q) rs k))))
     (all_left_join P Q R f on w ls rs n h.1 k)
 
 -- ---- what is true of each row of a FROM
@@ -231,12 +217,12 @@ from_facts (Table t n) start db plain wide = all_weaker (λ (row : Row). length 
 from_facts (Sub' p q) start db plain wide = cc
 from_facts (Result i n) start db plain wide = cc
 from_facts (Cross' p (more_of-FromTree a end_of-FromTree) q (more_of-FromTree b end_of-FromTree)) start db plain wide =
-    let both = and_true (is_plain a) (is_plain b) plain in
+    let both = and_both (is_plain a) (is_plain b) plain in
     all_product (Facts a start) (Facts b (start + columns_in a)) (Facts (Cross' p (more_of-FromTree a end_of-FromTree) q (more_of-FromTree b end_of-FromTree)) start)
     (λ l r h k. joined_facts start (columns_in a) (columns_in b) (on_demands a) (on_demands b) (on_ties a) (on_ties b) l r h k)
     (from_rows a start db []) (from_rows b (start + columns_in a) db []) (from_facts a start db both.0 wide.0) (from_facts b (start + columns_in a) db both.1 wide.1)
 from_facts (Inner' p (more_of-FromTree a end_of-FromTree) q (more_of-FromTree b end_of-FromTree) on) start db plain wide =
-    let both = and_true (is_plain a) (is_plain b) plain in
+    let both = and_both (is_plain a) (is_plain b) plain in
     let rows : List Row = product (from_rows a start db []) (from_rows b (start + columns_in a) db []) in
     let sides : Row → Type 0 = Side start (columns_in a) (columns_in b) (on_demands a) (on_demands b) (on_ties a) (on_ties b) start (columns_in a + columns_in b) (on_demands a ++ on_demands b) (on_ties a ++ on_ties b) in
     let whole : FromTree = Inner' p (more_of-FromTree a end_of-FromTree) q (more_of-FromTree b end_of-FromTree) on in
@@ -251,7 +237,7 @@ from_facts (Inner' p (more_of-FromTree a end_of-FromTree) q (more_of-FromTree b 
     (λ l r h k. joined_facts start (columns_in a) (columns_in b) (on_demands a) (on_demands b) (on_ties a) (on_ties b) l r h k)
     (from_rows a start db []) (from_rows b (start + columns_in a) db []) (from_facts a start db both.0 wide.0) (from_facts b (start + columns_in a) db both.1 wide.1))
 from_facts (Left' p (more_of-FromTree a end_of-FromTree) q (more_of-FromTree b end_of-FromTree) on) start db plain wide =
-    let both = and_true (is_plain a) (is_plain b) plain in
+    let both = and_both (is_plain a) (is_plain b) plain in
     let wa : ℕ = columns_in a in
     let wb : ℕ = columns_in b in
     let whole : FromTree = Left' p (more_of-FromTree a end_of-FromTree) q (more_of-FromTree b end_of-FromTree) on in
@@ -269,9 +255,6 @@ from_facts (Left' p (more_of-FromTree a end_of-FromTree) q (more_of-FromTree b e
 -- a test of each demand of these columns
 abbrev fits : List (ℕ × Value) → ℕ → ℕ → Row → Bool
 fits ds start w row = has_all (in_range start w ds) row
-
-below_or_not : (x m : ℕ) → ((nat_lt x m ≡ true) × (x < m)) ⊎ ((nat_lt x m ≡ false) × (m ≤ x))
-below_or_not x m = elim (two_ways (nat_lt x m)) [ inl y ↦ inl (y, grind arith) | inr n ↦ inr (n, grind arith) ]
 
 -- where a column stands
 data Stands (start wa wb x : ℕ) : Type 0 where
@@ -355,10 +338,6 @@ filter_none : {X : Type 0} (xs : List X) → filter (λ (x : X). false) xs ≡ [
 filter_none [] = refl
 filter_none (x ∷ xs) = filter_none xs
 
-filter_mapped : {X Y : Type 0} (p : Y → Bool) (f : X → Y) (xs : List X) → filter p (map f xs) ≡ map f (filter (λ x. p (f x)) xs)
-filter_mapped p f [] = refl
-filter_mapped p f (x ∷ xs) = elim (two_ways (p (f x))) [ inl y ↦ rw y (ap (λ ys. f x ∷ ys) (filter_mapped p f xs)) | inr n ↦ rw n (filter_mapped p f xs) ]
-
 filter_joined : (p fa fb : Row → Bool) (ls rs : List Row) → AllByRecursion (λ (l : Row). (r : Row) → p (l ++ r) ≡ (fa l && fb r)) ls → filter p (product ls rs) ≡ product (filter fa ls) (filter fb rs)
 filter_joined p fa fb [] rs h = refl
 filter_joined p fa fb (l ∷ ls) rs h =
@@ -366,18 +345,9 @@ filter_joined p fa fb (l ∷ ls) rs h =
     ∙ ap (λ xs. filter p (map (λ r. l ++ r) rs) ++ xs) (filter_joined p fa fb ls rs h.1)
     ∙ elim (two_ways (fa l)) [
       | inl y ↦ rw y (ap (λ xs. xs ++ product (filter fa ls) (filter fb rs))
-          (filter_mapped p (λ r. l ++ r) rs ∙ ap (map (λ r. l ++ r)) (filter_same (λ r. p (l ++ r)) fb rs (λ r. h.0 r ∙ ap (λ b. b && fb r) y))))
+          (filter_map p (λ r. l ++ r) rs ∙ ap (map (λ r. l ++ r)) (filter_same (λ r. p (l ++ r)) fb rs (λ r. h.0 r ∙ ap (λ b. b && fb r) y))))
       | inr n ↦ rw n (ap (λ xs. xs ++ product (filter fa ls) (filter fb rs))
-          (filter_mapped p (λ r. l ++ r) rs ∙ ap (map (λ r. l ++ r)) (filter_same (λ r. p (l ++ r)) (λ r. false) rs (λ r. h.0 r ∙ ap (λ b. b && fb r) n) ∙ filter_none rs)))
-    ]
-
-filter_turned : {X : Type 0} (p q : X → Bool) (xs : List X) → filter p (filter q xs) ≡ filter q (filter p xs)
-filter_turned p q [] = refl
-filter_turned p q (x ∷ xs) =
-    let more : filter p (filter q xs) ≡ filter q (filter p xs) = filter_turned p q xs in
-    elim (two_ways (p x)) [
-      | inl y ↦ rw y (elim (two_ways (q x)) [ inl k ↦ rw k (rw y (ap (λ ys. x ∷ ys) more)) | inr k ↦ rw k more ])
-      | inr n ↦ rw n (elim (two_ways (q x)) [ inl k ↦ rw k (rw n more) | inr k ↦ rw k more ])
+          (filter_map p (λ r. l ++ r) rs ∙ ap (map (λ r. l ++ r)) (filter_same (λ r. p (l ++ r)) (λ r. false) rs (λ r. h.0 r ∙ ap (λ b. b && fb r) n) ∙ filter_none rs)))
     ]
 
 -- ---- LEFT JOINs of the left rows that pass
@@ -399,7 +369,7 @@ left_only p fa on w (l ∷ ls) rs h =
       | inr n ↦ rw n (
           let fails : (x : Row) → p (l ++ x) ≡ false = λ x. elim (two_ways (p (l ++ x))) [ inl k ↦ (let bad : true ≡ false = sym (h.0 x k) ∙ n in cc) | inr k ↦ k ] in
           let rest : AllByRecursion (λ (x : Row). p x ≡ false) (filter on (map (λ r. l ++ r) rs)) =
-          all_filter (λ (x : Row). p x ≡ false) on (map (λ r. l ++ r) rs) (all_map (λ (x : Row). p x ≡ false) (λ r. l ++ r) rs (each (λ r. p (l ++ r) ≡ false) fails rs)) in
+          all_filtered (λ (x : Row). p x ≡ false) on (map (λ r. l ++ r) rs) (all_map (λ (x : Row). p x ≡ false) (λ r. l ++ r) rs (each (λ r. p (l ++ r) ≡ false) fails rs)) in
           let nothing : filter p here ≡ [] = none_pass p here (all_or_else (λ (x : Row). p x ≡ false) (l ++ replicate w Null) (filter on (map (λ r. l ++ r) rs)) (fails (replicate w Null)) rest) in
           filter-append p here (left_join on w ls rs) ∙ ap (λ xs. xs ++ filter p (left_join on w ls rs)) nothing ∙ more)
     ]
@@ -412,8 +382,8 @@ left_only p fa on w (l ∷ ls) rs h =
 
 all_at : {X : Type 0} (p : X → Bool) (xs : List X) (x : X) → list_all p xs ≡ true → Has xs x → p x ≡ true
 all_at p [] x h m = absurd m
-all_at p (y ∷ xs) x h (inl e) = subst (λ z. p z ≡ true) e (and_true (p y) (list_all p xs) h).0
-all_at p (y ∷ xs) x h (inr m) = all_at p xs x (and_true (p y) (list_all p xs) h).1 m
+all_at p (y ∷ xs) x h (inl e) = subst (λ z. p z ≡ true) e (and_both (p y) (list_all p xs) h).0
+all_at p (y ∷ xs) x h (inr m) = all_at p xs x (and_both (p y) (list_all p xs) h).1 m
 
 passing : {X : Type 0} (p : X → Bool) (xs : List X) → AllByRecursion (λ (x : X). p x ≡ true) (filter p xs)
 passing p [] = tt
@@ -430,7 +400,7 @@ module _ (all : List Leaf) (ds : List (ℕ × Value)) where
   -- where the columns of a table have all that is demanded of them, they have what is demanded of one place
   fits_tail : (q : ℕ × Value) (es : List (ℕ × Value)) (start w : ℕ) (row : Row) → fits (q ∷ es) start w row ≡ true → fits es start w row ≡ true
   fits_tail q es start w row f = elim (two_ways (is_in start w q.0)) [
-    | inl here ↦ (let fit : (same_value (column row (q.0 - start)) q.1 && fits es start w row) ≡ true = rw here at f in (and_true (same_value (column row (q.0 - start)) q.1) (fits es start w row) fit).1)
+    | inl here ↦ (let fit : (same_value (column row (q.0 - start)) q.1 && fits es start w row) ≡ true = rw here at f in (and_both (same_value (column row (q.0 - start)) q.1) (fits es start w row) fit).1)
     | inr away ↦ rw away at f
   ]
 
@@ -438,11 +408,11 @@ module _ (all : List Leaf) (ds : List (ℕ × Value)) where
   place_has l p [] row a f = cc
   place_has l p (q ∷ es) row a f = elim (two_ways (is_demand l p q)) [
     | inl it ↦ (
-        let open_ = and_true (not l.padded) (is_in l.start l.columns q.0 && (nat_eq (q.0 - l.start) p.0 && same_value q.1 p.1)) it in
-        let here = and_true (is_in l.start l.columns q.0) (nat_eq (q.0 - l.start) p.0 && same_value q.1 p.1) open_.1 in
-        let these = and_true (nat_eq (q.0 - l.start) p.0) (same_value q.1 p.1) here.1 in
+        let open_ = and_both (not l.padded) (is_in l.start l.columns q.0 && (nat_eq (q.0 - l.start) p.0 && same_value q.1 p.1)) it in
+        let here = and_both (is_in l.start l.columns q.0) (nat_eq (q.0 - l.start) p.0 && same_value q.1 p.1) open_.1 in
+        let these = and_both (nat_eq (q.0 - l.start) p.0) (same_value q.1 p.1) here.1 in
         let fit : (same_value (column row (q.0 - l.start)) q.1 && fits es l.start l.columns row) ≡ true = rw here.0 at f in
-        let parts = and_true (same_value (column row (q.0 - l.start)) q.1) (fits es l.start l.columns row) fit in
+        let parts = and_both (same_value (column row (q.0 - l.start)) q.1) (fits es l.start l.columns row) fit in
         let at : q.0 - l.start ≡ p.0 = same_number (q.0 - l.start) p.0 these.0 in
         let one : column row (q.0 - l.start) ≡ q.1 = is_one (column row (q.0 - l.start)) q.1 parts.0 in
         let two : q.1 ≡ p.1 = is_one q.1 p.1 these.1 in
@@ -490,7 +460,7 @@ module _ (all : List Leaf) (ds : List (ℕ × Value)) where
         ∙ passing_alike (fits ds l.start l.columns) (has_all (wants_at (wants_of all ds) l.table)) (λ row f. each_has l there (wants_at (wants_of all ds) l.table) (wants_pass l.table all) row f) (table_rows db l.table)
 
     narrowed_wide : (f : FromTree) → AreWide f db → AreWide f dc
-    narrowed_wide (Table t n) wide = subst (AllByRecursion (λ (row : Row). length row ≡ n)) (sym (narrowed t)) (all_filter (λ (row : Row). length row ≡ n) (has_all (wants_at (wants_of all ds) t)) (table_rows db t) wide)
+    narrowed_wide (Table t n) wide = subst (AllByRecursion (λ (row : Row). length row ≡ n)) (sym (narrowed t)) (all_filtered (λ (row : Row). length row ≡ n) (has_all (wants_at (wants_of all ds) t)) (table_rows db t) wide)
     narrowed_wide (Sub' p q) wide = tt
     narrowed_wide (Result i n) wide = tt
     narrowed_wide (Cross' p (more_of-FromTree a end_of-FromTree) q (more_of-FromTree b end_of-FromTree)) wide = (narrowed_wide a wide.0, narrowed_wide b wide.1)
@@ -526,19 +496,19 @@ module _ (all : List Leaf) (ds : List (ℕ × Value)) where
     right_same (Sub' p q) start plain there = cc
     right_same (Result i n) start plain there = cc
     right_same (Cross' p (more_of-FromTree a end_of-FromTree) q (more_of-FromTree b end_of-FromTree)) start plain there =
-        let both = and_true (is_plain a) (is_plain b) plain in
+        let both = and_both (is_plain a) (is_plain b) plain in
         let mid : ℕ = start + columns_in a in
         let x = right_same a start both.0 (λ l h. there l (has_front l (leaves_from a start true) (leaves_from b mid true) h)) in
         let y = right_same b mid both.1 (λ l h. there l (has_back l (leaves_from a start true) (leaves_from b mid true) h)) in
         λ i. product (x i) (y i)
     right_same (Inner' p (more_of-FromTree a end_of-FromTree) q (more_of-FromTree b end_of-FromTree) on) start plain there =
-        let both = and_true (is_plain a) (is_plain b) plain in
+        let both = and_both (is_plain a) (is_plain b) plain in
         let mid : ℕ = start + columns_in a in
         let x = right_same a start both.0 (λ l h. there l (has_front l (leaves_from a start true) (leaves_from b mid true) h)) in
         let y = right_same b mid both.1 (λ l h. there l (has_back l (leaves_from a start true) (leaves_from b mid true) h)) in
         λ i. filter (joins on [] start) (product (x i) (y i))
     right_same (Left' p (more_of-FromTree a end_of-FromTree) q (more_of-FromTree b end_of-FromTree) on) start plain there =
-        let both = and_true (is_plain a) (is_plain b) plain in
+        let both = and_both (is_plain a) (is_plain b) plain in
         let mid : ℕ = start + columns_in a in
         let x = right_same a start both.0 (λ l h. there l (has_front l (leaves_from a start true) (leaves_from b mid true) h)) in
         let y = right_same b mid both.1 (λ l h. there l (has_back l (leaves_from a start true) (leaves_from b mid true) h)) in
@@ -550,14 +520,14 @@ module _ (all : List Leaf) (ds : List (ℕ × Value)) where
     from_same (Sub' p q) start plain wide there = cc
     from_same (Result i n) start plain wide there = cc
     from_same (Cross' p (more_of-FromTree a end_of-FromTree) q (more_of-FromTree b end_of-FromTree)) start plain wide there =
-        let both = and_true (is_plain a) (is_plain b) plain in
+        let both = and_both (is_plain a) (is_plain b) plain in
         let wa : ℕ = columns_in a in
         sides_same start wa (columns_in b) (from_rows a start db []) (from_rows b (start + wa) db []) (from_rows a start dc []) (from_rows b (start + wa) dc [])
         (lengths a start db both.0 wide.0) (lengths a start dc both.0 (narrowed_wide a wide.0))
         (from_same a start both.0 wide.0 (λ l h. there l (has_front l (leaves_from a start false) (leaves_from b (start + wa) false) h)))
         (from_same b (start + wa) both.1 wide.1 (λ l h. there l (has_back l (leaves_from a start false) (leaves_from b (start + wa) false) h)))
     from_same (Inner' p (more_of-FromTree a end_of-FromTree) q (more_of-FromTree b end_of-FromTree) on) start plain wide there =
-        let both = and_true (is_plain a) (is_plain b) plain in
+        let both = and_both (is_plain a) (is_plain b) plain in
         let wa : ℕ = columns_in a in
         let w : ℕ = wa + columns_in b in
         filter_turned (fits ds start w) (joins on [] start) (product (from_rows a start dc []) (from_rows b (start + wa) dc []))
@@ -567,13 +537,13 @@ module _ (all : List Leaf) (ds : List (ℕ × Value)) where
         (from_same b (start + wa) both.1 wide.1 (λ l h. there l (has_back l (leaves_from a start false) (leaves_from b (start + wa) false) h))))
         ∙ sym (filter_turned (fits ds start w) (joins on [] start) (product (from_rows a start db []) (from_rows b (start + wa) db [])))
     from_same (Left' p (more_of-FromTree a end_of-FromTree) q (more_of-FromTree b end_of-FromTree) on) start plain wide there =
-        let both = and_true (is_plain a) (is_plain b) plain in
+        let both = and_both (is_plain a) (is_plain b) plain in
         let wa : ℕ = columns_in a in
         let wb : ℕ = columns_in b in
         let test : Row → Bool = fits ds start (wa + wb) in
         let front : Row → Bool = fits ds start wa in
         let needs : Row → Type 0 = λ l. (x : Row) → test (l ++ x) ≡ true → front l ≡ true in
-        let needed : (l : Row) → length l ≡ wa → needs l = λ l long x t. (and_true (front l) (fits ds (start + wa) wb x) (sym (fits_joined ds start wa wb l x long) ∙ t)).0 in
+        let needed : (l : Row) → length l ≡ wa → needs l = λ l long x t. (and_both (front l) (fits ds (start + wa) wb x) (sym (fits_joined ds start wa wb l x long) ∙ t)).0 in
         let left : filter front (from_rows a start dc []) ≡ filter front (from_rows a start db []) =
         from_same a start both.0 wide.0 (λ l h. there l (has_front l (leaves_from a start false) (leaves_from b (start + wa) true) h)) in
         let right : from_rows b (start + wa) dc [] ≡ from_rows b (start + wa) db [] =

@@ -2,6 +2,7 @@
 use Rattle.std.proofs.Common.{◌≡◌, ◌⊎◌, inl, inr, ℕ, Bool, true, false, List, [], ◌∷◌, ◌++◌, filter, refl, sym, ◌∙◌, ap, Ordering, Less, Equal, Greater}
 use Rattle.std.specs.Ordering.{is_eq}
 use Rattle.std.proofs.lemmas.Map.Lookups.{exact_signed, exact_bytes}
+use Rattle.cq_value.proofs.Truths.{two_ways}
 use Rattle.cq_value.specs.declared.value.Value.{Value}
 use Rattle.cq_value.specs.declared.value.Value.TheVariants.{Null, Int, Text}
 use Rattle.cq_value.specs.declared.value.Truth.{Truth}
@@ -17,10 +18,6 @@ use Rattle.cq_meaning.specs.Logic.{is_yes, and_of, met, meets}
 use Rattle.cq_meaning.specs.Expressions.{truth_of, keeps}
 use Rattle.cq_meaning.specs.Effects.{is_kept}
 use Rattle.cq_demands.specs.Demands.{demand_of, demands, has_all, rows_with, pairs_with, KeptHasDemands}
-
-pub two_ways : (b : Bool) → (b ≡ true) ⊎ (b ≡ false)
-two_ways true = inl refl
-two_ways false = inr refl
 
 -- ---- values
 

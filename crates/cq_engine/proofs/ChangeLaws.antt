@@ -3,6 +3,7 @@ use Rattle.std.proofs.Common.{◌≡◌, ℕ, suc, ◌+◌, ◌^◌, ◌<◌, �
 use Rattle.std.specs.Prelude.{filter, not, nat_eq, ⊤, ◌||◌}
 use Rattle.std.specs.List.{AllByRecursion}
 use Rattle.std.proofs.lemmas.List.Elements.{filter-append}
+use Rattle.cq_value.proofs.Truths.{nat_eq_itself}
 use Rattle.cq_value.specs.declared.schema.Shape.{Shape}
 use Rattle.cq_value.specs.declared.change.Change.TheVariants.{Put, Drop}
 use Rattle.cq_value.specs.Tables.{Table, Pair, IsAscending, rows_of, with_row}
@@ -53,9 +54,6 @@ apart : (ps : List Pair) (next : ℕ) → IsAscending ps next → IsApart ps
 apart [] next h = tt
 apart (p ∷ ps) next h = let r = above p.0 ps h.1 in (r.0, r.1, apart ps next h.2)
 
-itself : (n : ℕ) → nat_eq n n ≡ true
-itself n = grind arith
-
 put_lacks : (ps : List Pair) (id : ℕ) (row : Row) → Lacks ps id → map (λ q. cond (nat_eq q.0 id) (id, row) q) ps ≡ ps
 put_lacks [] id row h = refl
 put_lacks (p ∷ ps) id row h = rw h.0 (ap (λ qs. p ∷ qs) (put_lacks ps id row h.1))
@@ -68,13 +66,13 @@ put_here : (done todo : List Pair) (p : Pair) (row : Row) → Lacks done p.0 →
     map (λ q. cond (nat_eq q.0 p.0) (p.0, row) q) (done ++ p ∷ todo) ≡ done ++ (p.0, row) ∷ todo
 put_here done todo p row a b =
     map_append (λ q. cond (nat_eq q.0 p.0) (p.0, row) q) done (p ∷ todo)
-    ∙ (rw (put_lacks done p.0 row a, put_lacks todo p.0 row b, itself p.0))
+    ∙ (rw (put_lacks done p.0 row a, put_lacks todo p.0 row b, nat_eq_itself p.0))
 
 drop_here : (done todo : List Pair) (p : Pair) → Lacks done p.0 → Lacks todo p.0 →
     filter (λ q. not (nat_eq q.0 p.0)) (done ++ p ∷ todo) ≡ done ++ todo
 drop_here done todo p a b =
     filter-append (λ q. not (nat_eq q.0 p.0)) done (p ∷ todo)
-    ∙ (rw (drop_lacks done p.0 a, drop_lacks todo p.0 b, itself p.0))
+    ∙ (rw (drop_lacks done p.0 a, drop_lacks todo p.0 b, nat_eq_itself p.0))
 
 -- what is done lacks each id that is to come
 abbrev Ready : List Pair → List Pair → Type 0
@@ -94,7 +92,7 @@ ready_none (p ∷ todo) = (tt, ready_none todo)
 
 -- the id of a row that is there
 there : (n : ℕ) (done todo : List Pair) (p : Pair) → has_id (table n (done ++ p ∷ todo)) p.0 ≡ true
-there n [] todo p = rw (itself p.0)
+there n [] todo p = rw (nat_eq_itself p.0)
 there n (q ∷ done) todo p = rw (there n done todo p) (elim (nat_eq q.0 p.0) as (λ b. (b || true) ≡ true) [ true ↦ refl | false ↦ refl ])
 
 -- UPDATE and DELETE: the changes so far leave what is done before what is to come

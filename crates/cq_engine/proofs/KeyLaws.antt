@@ -3,6 +3,7 @@ use Rattle.std.proofs.Common.{◌≡◌, ◌≤◌, ℕ, List, [], ◌∷◌, �
 use Rattle.std.specs.List.{list_any}
 use Rattle.std.specs.List.Sorted.{IsPermutation}
 use Rattle.std.proofs.lemmas.List.Folds.{list_any-append}
+use Rattle.cq_value.proofs.Truths.{or_false}
 use Rattle.cq_meaning.specs.Values.{Row}
 use Rattle.cq_meaning.specs.Effects.{same_key, repeats}
 use Rattle.cq_engine.specs.Keys.{has_twins, meets}
@@ -25,10 +26,6 @@ or_exchange true false false d = refl
 or_exchange false true c d = refl
 or_exchange false false c d = refl
 
-or_none : (a : Bool) → (a || false) ≡ a
-or_none true = refl
-or_none false = refl
-
 none_any : {X : Type 0} (xs : List X) → list_any (λ x. false) xs ≡ false
 none_any [] = refl
 none_any (x ∷ xs) = none_any xs
@@ -42,7 +39,7 @@ meets_more : (key : List ℕ) (there rows : List Row) (row : Row) → meets key 
 meets_more key there rows row =
     let same : Row → Row → Bool = same_key key in
     let each : (r : Row) → list_any (same r) (there ++ row ∷ []) ≡ (list_any (same r) there || same row r) =
-    λ r. list_any-append (same r) there (row ∷ []) ∙ ap (λ b. list_any (same r) there || b) (or_none (same r row) ∙ (same_key_laws key).symm r row) in
+    λ r. list_any-append (same r) there (row ∷ []) ∙ ap (λ b. list_any (same r) there || b) (or_false (same r row) ∙ (same_key_laws key).symm r row) in
     ap (λ (p : Row → Bool). list_any p rows) (λ i r. each r i) ∙ any_or (λ r. list_any (same r) there) (same row) rows
 
 -- with a key, rows repeat one where two of them have the same, or one of them has that of a row that is there
@@ -70,7 +67,7 @@ module _ (key : List ℕ) (rows : List Row) (some : 1 ≤ length key) where
   -- and where none does, by the rows in another order
   pub twins_repeat : (sorted : List Row) → IsPermutation rows sorted → (there : List Row) → false ≡ meets key there rows → has_twins (same_key key) sorted ≡ repeats key there rows
   twins_repeat sorted moved there met =
-      twins_moved (same_key key) (same_key_laws key) rows sorted moved ∙ sym (repeats_is key there some ∙ ap (λ b. has_twins (same_key key) rows || b) (sym met) ∙ or_none (has_twins (same_key key) rows))
+      twins_moved (same_key key) (same_key_laws key) rows sorted moved ∙ sym (repeats_is key there some ∙ ap (λ b. has_twins (same_key key) rows || b) (sym met) ∙ or_false (has_twins (same_key key) rows))
 
 -- without a key no row repeats one
 pub none_repeats : (key : List ℕ) (there rows : List Row) → length key ≡ 0 → false ≡ repeats key there rows

@@ -7,6 +7,7 @@ use Rattle.std.specs.Ordering.{is_lt, is_eq, eq_by_cmp, ordering_reverse}
 use Rattle.std.specs.Cmp.{IsTotalOrder, IsEquivalence}
 use Rattle.std.proofs.lemmas.List.Recursion.{is_count_by}
 use Rattle.std.proofs.lemmas.List.Sorted.{ranks_by, sum_by-IsPermutation}
+use Rattle.cq_value.proofs.Truths.{or_neither}
 use Rattle.cq_meaning.proofs.StableSort.{Rises, rises}
 use Rattle.cq_engine.specs.Keys.{has_twins}
 
@@ -20,10 +21,6 @@ pub neighbours_zip : {X : Type 0} (same : X → X → Bool) (xs : List X) → li
 neighbours_zip same [] = refl
 neighbours_zip same (x ∷ []) = refl
 neighbours_zip same (x ∷ (y ∷ ys)) = ap (λ b. same x y || b) (neighbours_zip same (y ∷ ys))
-
-or_false : (a b : Bool) → (a || b) ≡ false → (a ≡ false) × (b ≡ false)
-or_false true b e = cc
-or_false false b e = (refl, e)
 
 -- two tests that fail together are one
 alike : (a b : Bool) → (a ≡ false → b ≡ false) → (b ≡ false → a ≡ false) → a ≡ b
@@ -44,7 +41,7 @@ module _ {X : Type 0} (same : X → X → Bool) (laws : IsEquivalence same) wher
   none_counted : (p : X → Bool) (xs : List X) → list_any p xs ≡ false → count p xs ≡ 0
   unfolding count
   none_counted p [] e = refl
-  none_counted p (x ∷ xs) e = let h = or_false (p x) (list_any p xs) e in rw h.0 (none_counted p xs h.1)
+  none_counted p (x ∷ xs) e = let h = or_neither (p x) (list_any p xs) e in rw h.0 (none_counted p xs h.1)
 
   counted_none : (p : X → Bool) (xs : List X) → count p xs ≡ 0 → list_any p xs ≡ false
   unfolding count
@@ -64,7 +61,7 @@ module _ {X : Type 0} (same : X → X → Bool) (laws : IsEquivalence same) wher
   unfolding count
   once [] e = λ x. omega arith
   once (y ∷ ys) e = λ x.
-      let h = or_false (list_any (same y) ys) (has_twins same ys) e in
+      let h = or_neither (list_any (same y) ys) (has_twins same ys) e in
       elim (same x y) as (λ b. same x y ≡ b → cond b (1 + count (same x) ys) (count (same x) ys) ≤ 1) [
         | true ↦ (λ k. let none : count (same x) ys ≡ 0 = one_count x y ys k ∙ none_counted (same y) ys h.0 in omega (arith, none))
         | false ↦ (λ k. once ys h.1 x)

@@ -1,9 +1,9 @@
 -- The first class that two components share, by marks on the classes of the one.
 use Rattle.std.proofs.Common.{◌≡◌, ◌⊎◌, inl, inr, ◌≤◌, ℕ, min, Bool, true, false, cond, ◌&&◌, ◌||◌, List, [], ◌∷◌, map, filter, fold, Option, None, Some, refl, sym, ap, ◌∙◌, arith, nat_eq, eq-eqb, if◌then◌else◌}
+use Rattle.cq_value.proofs.Truths.{or_left, or_right, two_ways, same_number}
 use Rattle.cq_planning.specs.Touched.{among}
 use Rattle.cq_outline.specs.Joining.{has_class, lesser, shared_class}
 use Rattle.cq_explain.specs.Components.{AreOn, least_of, with_class, least_marked}
-use Rattle.cq_explain.proofs.NumberLaws.{two_ways, same_number}
 
 -- ---- the least of numbers
 
@@ -43,32 +43,25 @@ swapped true false d = refl
 swapped false true d = refl
 swapped false false d = refl
 
-any_first : (a b : Bool) → a ≡ true → (a || b) ≡ true
-any_first a b e = ap (λ (c : Bool). c || b) e
-
-any_last : (a b : Bool) → b ≡ true → (a || b) ≡ true
-any_last true b e = refl
-any_last false b e = e
-
 -- it is one of them
 is_one : (m : ℕ) (xs : List ℕ) → among (fold min m xs) (m ∷ xs) ≡ true
-is_one m [] = any_first (nat_eq m m) false (eq-eqb m m refl)
+is_one m [] = or_left (nat_eq m m) false (eq-eqb m m refl)
 is_one m (x ∷ xs) =
     let v : ℕ = fold min (min m x) xs in
     elim (two_ways (nat_eq v (min m x))) [
       | inl y ↦ (let s : v ≡ min m x = same_number v (min m x) y in elim (lesser_is m x) [
-        | inl e ↦ any_first (nat_eq v m) (nat_eq v x || among v xs) (eq-eqb v m (s ∙ e))
-        | inr e ↦ any_last (nat_eq v m) (nat_eq v x || among v xs) (any_first (nat_eq v x) (among v xs) (eq-eqb v x (s ∙ e)))
+        | inl e ↦ or_left (nat_eq v m) (nat_eq v x || among v xs) (eq-eqb v m (s ∙ e))
+        | inr e ↦ or_right (nat_eq v m) (nat_eq v x || among v xs) (or_left (nat_eq v x) (among v xs) (eq-eqb v x (s ∙ e)))
       ])
-      | inr n ↦ any_last (nat_eq v m) (nat_eq v x || among v xs) (any_last (nat_eq v x) (among v xs) (ap (λ (b : Bool). b || among v xs) (sym n) ∙ is_one (min m x) xs))
+      | inr n ↦ or_right (nat_eq v m) (nat_eq v x || among v xs) (or_right (nat_eq v x) (among v xs) (ap (λ (b : Bool). b || among v xs) (sym n) ∙ is_one (min m x) xs))
     ]
 
 -- lists of the same numbers have the same least one
 module _ (first : ℕ → ℕ) where
   same_least : (xs ys : List ℕ) → ((k : ℕ) → among k xs ≡ among k ys) → fold (lesser first) None xs ≡ fold (lesser first) None ys
   same_least [] [] h = refl
-  same_least [] (y ∷ ys) h = let bad : false ≡ true = h y ∙ any_first (nat_eq y y) (among y ys) (eq-eqb y y refl) in cc
-  same_least (x ∷ xs) [] h = let bad : true ≡ false = sym (any_first (nat_eq x x) (among x xs) (eq-eqb x x refl)) ∙ h x in cc
+  same_least [] (y ∷ ys) h = let bad : false ≡ true = h y ∙ or_left (nat_eq y y) (among y ys) (eq-eqb y y refl) in cc
+  same_least (x ∷ xs) [] h = let bad : true ≡ false = sym (or_left (nat_eq x x) (among x xs) (eq-eqb x x refl)) ∙ h x in cc
   same_least (x ∷ xs) (y ∷ ys) h =
       let v : ℕ = fold min x xs in
       let w : ℕ = fold min y ys in

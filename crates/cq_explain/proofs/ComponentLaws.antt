@@ -2,13 +2,10 @@
 use Rattle.std.proofs.Common.{◌≡◌, ◌<◌, ℕ, zero, suc, Bool, true, false, ◌||◌, List, [], ◌∷◌, ◌++◌, length, take, refl, sym, ap, ◌∙◌, arith}
 use Rattle.std.specs.Prelude.{slice_set, slice_index_or, if◌then◌else◌}
 use Rattle.std.specs.List.{list_any}
+use Rattle.cq_value.proofs.Truths.{or_neither}
 use Rattle.cq_planning.specs.Components.{is_one_component}
 use Rattle.cq_outline.specs.Joining.{Component, put_component}
 use Rattle.cq_explain.specs.Components.{united}
-
-neither : (a b : Bool) → (a || b) ≡ false → (a ≡ false) × (b ≡ false)
-neither true b e = cc
-neither false b e = (refl, e)
 
 module _ (first : ℕ → ℕ) (p : Component) where
   abbrev pub fits : Component → Bool
@@ -18,7 +15,7 @@ module _ (first : ℕ → ℕ) (p : Component) where
   pub put_last : (qs : List Component) → list_any fits qs ≡ false → qs ++ p ∷ [] ≡ put_component first qs p
   put_last [] e = refl
   put_last (q ∷ qs) e =
-      let n = neither (fits q) (list_any fits qs) e in
+      let n = or_neither (fits q) (list_any fits qs) e in
       ap (λ (rest : List Component). q ∷ rest) (put_last qs n.1) ∙ sym (ap (λ (b : Bool). if b then united q p ∷ qs else q ∷ put_component first qs p) n.0)
 
   -- to the first that it fits to
@@ -26,5 +23,5 @@ module _ (first : ℕ → ℕ) (p : Component) where
   put_here [] n r h e is y = absurd (omega arith)
   put_here (q ∷ qs) zero r h e is y = sym (ap (λ (b : Bool). if b then united q p ∷ qs else q ∷ put_component first qs p) (ap fits (sym is) ∙ y))
   put_here (q ∷ qs) (suc n) r h e is y =
-      let m = neither (fits q) (list_any fits (take n qs)) e in
+      let m = or_neither (fits q) (list_any fits (take n qs)) e in
       ap (λ (rest : List Component). q ∷ rest) (put_here qs n r (omega arith) m.1 is y) ∙ sym (ap (λ (b : Bool). if b then united q p ∷ qs else q ∷ put_component first qs p) m.0)

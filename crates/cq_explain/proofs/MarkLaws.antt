@@ -1,8 +1,9 @@
 -- Marks on numbers.
 use Rattle.std.proofs.Common.{◌≡◌, inl, inr, ◌<◌, ℕ, zero, suc, Bool, true, false, ◌||◌, List, [], ◌∷◌, ◌++◌, length, refl, sym, ap, ◌∙◌, arith, nat_eq, eq-eqb}
 use Rattle.std.specs.Prelude.{slice_set}
+use Rattle.cq_value.proofs.Truths.{two_ways, same_number}
 use Rattle.cq_explain.specs.Components.{mark_at, AreSame, IsMarked, AreOn}
-use Rattle.cq_explain.proofs.NumberLaws.{two_ways, same_number, among_last}
+use Rattle.cq_explain.proofs.NumberLaws.{among_last}
 
 -- a mark that isn't set says nothing
 pub not_set : (marks : List Bool) (k : ℕ) → mark_at (marks ++ false ∷ []) k ≡ mark_at marks k

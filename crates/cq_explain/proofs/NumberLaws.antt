@@ -1,13 +1,7 @@
 -- Numbers one after another, and lists of numbers.
 use Rattle.std.proofs.Common.{◌≡◌, ◌⊎◌, inl, inr, ◌<◌, ◌≤◌, ℕ, suc, ◌+◌, ◌-◌, Bool, true, false, ◌||◌, List, [], ◌∷◌, ◌++◌, refl, sym, ap, ◌∙◌, arith, append_assoc, append-nil, nat_eq}
+use Rattle.cq_value.proofs.Truths.{or_false, or_apart}
 use Rattle.cq_planning.specs.Touched.{numbers, among}
-
-pub two_ways : (b : Bool) → (b ≡ true) ⊎ (b ≡ false)
-two_ways true = inl refl
-two_ways false = inr refl
-
-pub same_number : (a b : ℕ) → nat_eq a b ≡ true → a ≡ b
-same_number a b h = grind (arith, h)
 
 -- ---- one after another
 
@@ -26,14 +20,6 @@ pub all_put : (k n : ℕ) (list whole : List ℕ) → n ≤ k → list ++ number
 all_put k n list whole h so = sym (append-nil list) ∙ (ap (λ (us : List ℕ). list ++ us) (sym (from_end k n h)) ∙ so)
 
 -- ---- one more among others
-
-or_false : (a : Bool) → (a || false) ≡ a
-or_false true = refl
-or_false false = refl
-
-or_apart : (a b d : Bool) → ((a || b) || d) ≡ (a || (b || d))
-or_apart true b d = refl
-or_apart false b d = refl
 
 pub among_last : (k : ℕ) (xs : List ℕ) (x : ℕ) → among k (xs ++ x ∷ []) ≡ (among k xs || nat_eq k x)
 among_last k [] x = or_false (nat_eq k x)

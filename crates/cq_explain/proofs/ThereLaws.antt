@@ -1,6 +1,7 @@
 -- The co-location group of each distributed relation is the catalogue's.
 use Rattle.std.proofs.Common.{◌≡◌, ◌<◌, ℕ, ◌+◌, Bool, true, false, cond, ◌&&◌, ◌||◌, not, List, [], ◌∷◌, ◌++◌, map, filter, take, length, Option, None, Some, is_some, refl, subst, if◌then◌else◌}
 use Rattle.std.specs.Prelude.{⊤}
+use Rattle.cq_value.proofs.Truths.{and_left}
 use Rattle.cq_tree.specs.declared.expression.Expr.{Expr}
 use Rattle.cq_tree.specs.declared.query.FromTree.{FromTree, Table, Sub', Result, Cross', Inner', Left', end_of-FromTree, more_of-FromTree, end_of-Query, more_of-Query}
 use Rattle.cq_tree.specs.declared.query.Query.{Query, Query'}
@@ -18,10 +19,6 @@ use Rattle.cq_planning.specs.Joins.{next_start}
 use Rattle.cq_plan.proofs.PlaceLaws.{colocation_there}
 use Rattle.cq_outline.specs.Joining.{Component, alone, put_component, components_with}
 use Rattle.cq_explain.specs.Components.{IsThere, AreThere, united}
-
-and_first : (a b : Bool) → (a && b) ≡ true → a ≡ true
-and_first true b e = refl
-and_first false b e = cc
 
 module _ (c : Contents) where
   abbrev IsOf : Option Distribution → Type 0
@@ -78,7 +75,7 @@ module _ (c : Contents) where
       pushable_over first rels (distributions (is_left_in_block rels) rels) (distributions is_plain rels) grouped keys outputs limit offset ≡ Some p → p.colocation < length c.colocations
   of_query first rels grouped keys outputs limit offset p h e =
       over_there first rels (distributions (is_left_in_block rels) rels) (distributions is_plain rels) grouped keys outputs limit offset p
-      (λ d ds f. first_there (is_left_in_block rels) (λ r y. and_first (is_distributed r) (not (is_right r) || has_distributed_left rels r.start r.outer) y) rels d ds h f) e
+      (λ d ds f. first_there (is_left_in_block rels) (λ r y. and_left (is_distributed r) (not (is_right r) || has_distributed_left rels r.start r.outer) y) rels d ds h f) e
 
   module _ (whole : IsWhole c) where
     of_table : (start t : ℕ) → IsOf (distribution_at start (place_at c t))
@@ -117,7 +114,7 @@ module _ (c : Contents) where
     put_there (q ∷ qs) p hs h = put_if _ q p qs (put_component first qs p) hs.0 hs.1 (put_there qs p hs.1 h)
 
     with_if : (b : Bool) (found : List Component) (r : Relation) (end : ℕ) → is_plain r ≡ b → AreThere c found → IsOf r.distribution → AreThere c (if b then put_component first found (alone r end) else found)
-    with_if true found r end y hs h = put_there found (alone r end) hs (of_some r.distribution (and_first (is_distributed r) (not (is_right r)) y) h)
+    with_if true found r end y hs h = put_there found (alone r end) hs (of_some r.distribution (and_left (is_distributed r) (not (is_right r)) y) h)
     with_if false found r end y hs h = hs
 
     pub components_there : (width : ℕ) (rs : List Relation) (found : List Component) → AreThere c found → AreOf rs → AreThere c (components_with first width found rs)

@@ -1,13 +1,14 @@
 -- A choice by more than the next token, between two rules that begin alike.
 use Rattle.std.proofs.Common.{◌≡◌, List, [], ◌∷◌, ◌++◌, Bool, true, false, cond, ◌&&◌, ◌⊎◌, inl, inr, Ok, Err, refl, sym, ◌∙◌, ap, append_assoc}
 use Rattle.std.proofs.lemmas.List.{append-nil}
+use Rattle.cq_value.proofs.Truths.{and_left, and_right}
 use Rattle.cq_token.specs.declared.token.Token.{Token}
 use Rattle.cq_grammar.specs.declared.kind.Kind.{Kind}
 use Rattle.cq_grammar.specs.Words.{kind, Kinds, of, starts}
 use Rattle.cq_grammar.specs.Lang.{Lang, Either}
 use Rattle.cq_grammar.specs.Read.{Fault, bad, deep, Reader, Test, choice, sees_two, sees_three}
 use Rattle.cq_grammar.proofs.Laws.{Mode, Lawful, Read, Stops, Never, Begins, begins_by, Only, first, SameHead, same_starts, left_begins, right_begins, true_false}
-use Rattle.cq_grammar.proofs.Sets.{and_first, and_second, starts_in}
+use Rattle.cq_grammar.proofs.Sets.{starts_in}
 use Rattle.cq_grammar.proofs.Laws.{widen}
 use Rattle.cq_grammar.proofs.Shapes.{Shape, Ruled, of_both, of_left, of_right, among_left, among_right}
 
@@ -147,13 +148,13 @@ module _ {mode : Mode} {A : Type 0} (test : Test) (grows : Grows test) (p q : Re
 
 pub two_grows : (a b : List Kind) → Grows (sees_two a b)
 two_grows a b [] m h = let bad : false ≡ true = h in absurd (cc)
-two_grows a b (t ∷ []) m h = let bad : false ≡ true = and_second (of a (kind t)) false h in absurd (cc)
+two_grows a b (t ∷ []) m h = let bad : false ≡ true = and_right (of a (kind t)) false h in absurd (cc)
 two_grows a b (t ∷ u ∷ y) m h = h
 
 pub three_grows : (a b c : List Kind) → Grows (sees_three a b c)
 three_grows a b c [] m h = let bad : false ≡ true = h in absurd (cc)
-three_grows a b c (t ∷ []) m h = let bad : false ≡ true = and_second (of a (kind t)) false h in absurd (cc)
-three_grows a b c (t ∷ u ∷ []) m h = let bad : false ≡ true = and_second (of b (kind u)) false (and_second (of a (kind t)) (of b (kind u) && false) h) in absurd (cc)
+three_grows a b c (t ∷ []) m h = let bad : false ≡ true = and_right (of a (kind t)) false h in absurd (cc)
+three_grows a b c (t ∷ u ∷ []) m h = let bad : false ≡ true = and_right (of b (kind u)) false (and_right (of a (kind t)) (of b (kind u) && false) h) in absurd (cc)
 three_grows a b c (t ∷ u ∷ v ∷ y) m h = h
 
 differ : (x y b : Bool) → x ≡ b → (y ≡ b → ⊥) → x ≡ y → ⊥
@@ -170,15 +171,15 @@ pub two_settles : {A : Type 0} (a b : List Kind) (Q : Lang A) → ((t : Token) �
 two_settles a b Q next [] [] z bit same is out =
     absurd (elim (on_one (sees_two a b []) (sees_two a b z) bit is out) [
       | inl u ↦ let bad : false ≡ true = u in cc
-      | inr u ↦ not_both (and_first (starts (of a) z) _ u) (sym (same_starts [] z same (of a)))
+      | inr u ↦ not_both (and_left (starts (of a) z) _ u) (sym (same_starts [] z same (of a)))
     ])
 two_settles a b Q next [] (t ∷ r) z bit same is out = (
   t,
   r,
   refl,
   next t (elim (on_one (sees_two a b (t ∷ r)) (sees_two a b z) bit is out) [
-    | inl u ↦ and_first (of a (kind t)) _ u
-    | inr u ↦ same_starts (t ∷ r) z same (of a) ∙ and_first (starts (of a) z) _ u
+    | inl u ↦ and_left (of a (kind t)) _ u
+    | inr u ↦ same_starts (t ∷ r) z same (of a) ∙ and_left (starts (of a) z) _ u
   ]),
 )
 two_settles a b Q next (t ∷ []) r z bit same is out = absurd (differ (sees_two a b (t ∷ r)) (sees_two a b (t ∷ z)) bit is out (ap (λ i. of a (kind t) && i) (same_starts r z same (of b))))
@@ -192,29 +193,29 @@ pub three_settles : {A : Type 0} (a b c : List Kind) (Q : Lang A) (token : Token
 three_settles a b c Q token is_b sibling [] [] z bit same is out =
     absurd (elim (on_one (sees_three a b c []) (sees_three a b c z) bit is out) [
       | inl u ↦ let bad : false ≡ true = u in cc
-      | inr u ↦ not_both (and_first (starts (of a) z) _ u) (sym (same_starts [] z same (of a)))
+      | inr u ↦ not_both (and_left (starts (of a) z) _ u) (sym (same_starts [] z same (of a)))
     ])
 three_settles a b c Q token is_b sibling [] (t ∷ r) z bit same is out =
     let is_a : of a (kind t) ≡ true = elim (on_one (sees_three a b c (t ∷ r)) (sees_three a b c z) bit is out) [
-      | inl u ↦ and_first (of a (kind t)) _ u
-      | inr u ↦ same_starts (t ∷ r) z same (of a) ∙ and_first (starts (of a) z) _ u
+      | inl u ↦ and_left (of a (kind t)) _ u
+      | inr u ↦ same_starts (t ∷ r) z same (of a) ∙ and_left (starts (of a) z) _ u
     ] in
     let s = sibling t token is_a is_b in
     (t, r, refl, record { value = s.value; more = token ∷ s.more; phrase = s.phrase })
 three_settles a b c Q token is_b sibling (t ∷ []) [] z bit same is out =
     absurd (elim (on_one (sees_three a b c (t ∷ [])) (sees_three a b c (t ∷ z)) bit is out) [
-      | inl u ↦ let bad : false ≡ true = and_second (of a (kind t)) false u in cc
-      | inr u ↦ not_both (and_first (starts (of b) z) _ (and_second (of a (kind t)) _ u)) (sym (same_starts [] z same (of b)))
+      | inl u ↦ let bad : false ≡ true = and_right (of a (kind t)) false u in cc
+      | inr u ↦ not_both (and_left (starts (of b) z) _ (and_right (of a (kind t)) _ u)) (sym (same_starts [] z same (of b)))
     ])
 three_settles a b c Q token is_b sibling (t ∷ []) (u ∷ r) z bit same is out =
     let found = on_one (sees_three a b c (t ∷ u ∷ r)) (sees_three a b c (t ∷ z)) bit is out in
     let is_a : of a (kind t) ≡ true = elim found [
-      | inl i ↦ and_first (of a (kind t)) _ i
-      | inr i ↦ and_first (of a (kind t)) _ i
+      | inl i ↦ and_left (of a (kind t)) _ i
+      | inr i ↦ and_left (of a (kind t)) _ i
     ] in
     let is_u : of b (kind u) ≡ true = elim found [
-      | inl i ↦ and_first (of b (kind u)) _ (and_second (of a (kind t)) _ i)
-      | inr i ↦ same_starts (u ∷ r) z same (of b) ∙ and_first (starts (of b) z) _ (and_second (of a (kind t)) _ i)
+      | inl i ↦ and_left (of b (kind u)) _ (and_right (of a (kind t)) _ i)
+      | inr i ↦ same_starts (u ∷ r) z same (of b) ∙ and_left (starts (of b) z) _ (and_right (of a (kind t)) _ i)
     ] in
     (u, r, refl, sibling t u is_a is_u)
 three_settles a b c Q token is_b sibling (t ∷ u ∷ []) r z bit same is out =
@@ -252,8 +253,8 @@ module _ {S : Type 0} {H : Mode} {A : Type 0} {p q : Reader A} {P W Q V : Lang A
   ]
 
   sight_full : S → (s.whole && t.whole) ≡ true → (u : Token) → (of s.firsts (kind u) ≡ true) ⊎ (of t.firsts (kind u) ≡ true) → Begins (Either W V) (u ∷ [])
-  sight_full h whole u (inl i) = left_so (u ∷ []) (l.full h (and_first _ _ whole) u i)
-  sight_full h whole u (inr i) = right_so (u ∷ []) (m.full h (and_second s.whole _ whole) u i)
+  sight_full h whole u (inl i) = left_so (u ∷ []) (l.full h (and_left _ _ whole) u i)
+  sight_full h whole u (inr i) = right_so (u ∷ []) (m.full h (and_right s.whole _ whole) u i)
 
   pub by_sight : Ruled S H (choice test p q) (Either P Q) (Either W V) (ahead_shape s t)
   by_sight = record {
@@ -263,7 +264,7 @@ module _ {S : Type 0} {H : Mode} {A : Type 0} {p q : Reader A} {P W Q V : Lang A
     opens = sight_opens;
     plain = λ h. let bad : false ≡ true = h in absurd (cc);
     lawful = λ h fine. ahead_lawful test grows p q P W Q V (of (s.goes ++ t.goes))
-        (widen p P W (of s.goes) (of (s.goes ++ t.goes)) (among_left s.goes t.goes) (l.lawful h (and_first _ _ fine)))
-        (widen q Q V (of t.goes) (of (s.goes ++ t.goes)) (among_right s.goes t.goes) (m.lawful h (and_second s.fine _ fine)))
+        (widen p P W (of s.goes) (of (s.goes ++ t.goes)) (among_left s.goes t.goes) (l.lawful h (and_left _ _ fine)))
+        (widen q Q V (of t.goes) (of (s.goes ++ t.goes)) (among_right s.goes t.goes) (m.lawful h (and_right s.fine _ fine)))
         opens clear set_p set_q;
   }

@@ -5,6 +5,7 @@ use Rattle.std.proofs.lemmas.Bool.{cases_lt}
 use Rattle.std.proofs.lemmas.List.Elements.{Contains-append_left}
 use Rattle.cq_token.specs.declared.token.Token.{Token}
 use Rattle.std.proofs.Math.Nat.{eq-or-lt_of_le}
+use Rattle.cq_value.proofs.Truths.{or_left}
 use Rattle.cq_grammar.specs.declared.kind.Kind.TheVariants as k
 use Rattle.cq_grammar.specs.declared.statement.Ast.{Ast}
 use Rattle.cq_grammar.specs.declared.statement.Ast.TheVariants as ast
@@ -135,10 +136,6 @@ create_or_copy : (p q : Bool) (a b : Option ℕ) (at : ℕ) → (if p then a els
 create_or_copy true q a b at h = inl refl
 create_or_copy false true a b at h = inr refl
 create_or_copy false false a b at h = absurd (let e : found None ≡ Some at = h in cc)
-
-or_left : (a b : Bool) → a ≡ true → (a || b) ≡ true
-or_left true b h = refl
-or_left false b h = cc
 
 -- what a misplaced word stands in
 command : (a : Ast) (t : Token) (ts : List Token) (at : ℕ) → Written a (t ∷ ts) → (same_kind (kind t) k.Create ≡ true) ⊎ (same_kind (kind t) k.Copy ≡ true) → (used : List Token) → Apart used 0 a (t ∷ ts)

@@ -1,5 +1,6 @@
 -- The columns of a CREATE TABLE and its PRIMARY KEY: behind a comma a name begins a column, and PRIMARY the key.
 use Rattle.std.proofs.Common.{◌≡◌, ℕ, zero, suc, ◌≤◌, List, [], ◌∷◌, ◌++◌, length, Bool, true, false, cond, ◌&&◌, Option, Ok, Err, inl, inr, refl, sym, ◌∙◌, ap, ap₂, subst, arith, length-append, append_assoc}
+use Rattle.cq_value.proofs.Truths.{left_false, right_false, both_true}
 use Rattle.cq_token.specs.declared.token.Token.{Token}
 use Rattle.cq_grammar.specs.declared.kind.Kind.{Kind}
 use Rattle.cq_grammar.specs.declared.kind.Kind.TheVariants as k
@@ -14,7 +15,7 @@ use Rattle.cq_grammar.specs.Descent as descent
 use Rattle.cq_grammar.specs.Read.{Fault, Outcome, Reader, Test, and_then, both, made, nothing, many_by, many, behind, comma_item, sees, sees_two}
 use Rattle.cq_grammar.proofs.Laws.{Mode, Reads, unseen, within, Fills, Lawful, Read, Stops, Begins, Only, Clear, went_ok, went_err, ok_same, ok_err, true_false, nonempty, among_starts, both_read, both_fails_first, both_fails_second, made_only, made_fails, same_stops, same_lang, made_lawful, both_lawful, widen}
 use Rattle.cq_grammar.proofs.Sets.{of_apart, of_among}
-use Rattle.cq_grammar.proofs.Shapes.{Shape, Ruled, seen, ◌then◌, maybe, some_of_these, second, word, commas, comma, clear_by, both_true, stated, rule, option}
+use Rattle.cq_grammar.proofs.Shapes.{Shape, Ruled, seen, ◌then◌, maybe, some_of_these, second, word, commas, comma, clear_by, stated, rule, option}
 use Rattle.cq_grammar.proofs.Ahead.{OpensBy, ClearBy, Settles, two_grows, two_settles, only_p, only_q, stops_p, stops_q}
 use Rattle.cq_grammar.proofs.Begun.{sees_so, first_so}
 use Rattle.cq_grammar.proofs.Expressions.{name, some_of}
@@ -114,14 +115,6 @@ more_opens i v y w =
       | inr u ↦ true_false u.0 refl
     ]))
 
-and_none : (a b : Bool) → a ≡ false → (a && b) ≡ false
-and_none true b h = let bad : true ≡ false = h in absurd (cc)
-and_none false b h = refl
-
-and_no : (a b : Bool) → b ≡ false → (a && b) ≡ false
-and_no true b h = h
-and_no false b h = refl
-
 -- behind a comma PRIMARY comes, or nothing that the columns go on with
 end_clear : ClearBy Test_column End (of rest_goes)
 unfolding grammar.primary_key of same_kind
@@ -132,8 +125,8 @@ end_clear v y m w sm = by w.phrase.from w.phrase.phrase
         let p = q.phrase.phrase in
         let r = p.right.phrase in
         let e : y ≡ p.left.from ∷ r.left.from ∷ r.back = p.whole ∙ ap₂ (λ i j. i ++ j) p.left.phrase.alone (r.whole ∙ ap (λ z. z ++ r.back) r.left.phrase.alone) in
-        ap (λ z. Test_column (z ++ m)) e ∙ and_no (of comma (kind p.left.from)) (of names (kind r.left.from)) (of_apart (k.Primary ∷ []) names refl (kind r.left.from) r.left.phrase.kind)
-    by o (inr n) = ap (λ z. Test_column (z ++ m)) n.none ∙ and_none (starts (of comma) m) _ (among_starts (of comma) (of rest_goes) (of_among comma rest_goes refl) m sm)
+        ap (λ z. Test_column (z ++ m)) e ∙ right_false (of comma (kind p.left.from)) (of names (kind r.left.from)) (of_apart (k.Primary ∷ []) names refl (kind r.left.from) r.left.phrase.kind)
+    by o (inr n) = ap (λ z. Test_column (z ++ m)) n.none ∙ left_false (starts (of comma) m) _ (among_starts (of comma) (of rest_goes) (of_among comma rest_goes refl) m sm)
 
 -- ---- the reader, as a choice at each comma
 

@@ -1,5 +1,6 @@
 -- The reader accepts the grammar of statements, rule by rule.
 use Rattle.std.proofs.Common.{◌≡◌, ℕ, List, [], ◌∷◌, ◌++◌, true, None, inl, inr, refl, ◌∙◌, ap, ap₂, ◌&&◌}
+use Rattle.cq_value.proofs.Truths.{both_true}
 use Rattle.cq_token.specs.declared.token.Token.{Token}
 use Rattle.cq_grammar.specs.declared.kind.Kind.{Kind}
 use Rattle.cq_grammar.specs.declared.kind.Kind.TheVariants as k
@@ -19,7 +20,7 @@ use Rattle.cq_grammar.specs.Read.{Reader, Test, sees_three, tail}
 use Rattle.cq_grammar.proofs.Laws.{Mode, unseen, Begins, true_false, apart_starts, starts_front, among_starts, regroup, first_of_kinds}
 use Rattle.cq_grammar.proofs.Tokens.{token_of}
 use Rattle.cq_grammar.proofs.Sets.{outside, of_apart, of_among, of_in}
-use Rattle.cq_grammar.proofs.Shapes.{Ruled, after, both_true, one_shape, token, seen, ◌then◌, either, maybe, second, word, commas, stated, rule, option}
+use Rattle.cq_grammar.proofs.Shapes.{Ruled, after, one_shape, token, seen, ◌then◌, either, maybe, second, word, commas, stated, rule, option}
 use Rattle.cq_grammar.proofs.Ahead.{OpensBy, ClearBy, three_grows, three_settles, by_sight}
 use Rattle.cq_grammar.proofs.Begun.{sees_so, second_so, first_so, behind_so, none_so, selected_so, name_item, the_so}
 use Rattle.cq_grammar.proofs.Expressions.{or_goes, select_goes, deeper, number, quoted, name, some_of}

@@ -1,5 +1,6 @@
 -- The reader accepts the grammar of expressions, rule by rule.
 use Rattle.std.proofs.Common.{◌≡◌, ℕ, ◌+◌, List, [], ◌∷◌, ◌++◌, Bool, true, false, Option, inl, inr, refl, ◌∙◌, ap, ap₂, ◌&&◌, ◌||◌}
+use Rattle.cq_value.proofs.Truths.{right_false}
 use Rattle.cq_token.specs.declared.token.Token.{Token}
 use Rattle.cq_grammar.specs.declared.kind.Kind.{Kind}
 use Rattle.cq_grammar.specs.declared.kind.Kind.TheVariants as k
@@ -83,12 +84,8 @@ module _ {S : Type 0} {H : Mode} where
 
 -- ---- a name, and what may stand behind it
 
-and_false : (a b : Bool) → b ≡ false → (a && b) ≡ false
-and_false true b h = h
-and_false false b h = refl
-
 name_plain : (t : Token) (rest : List Token) → starts (of (k.Open ∷ [])) rest ≡ false → (starts (of (k.Dot ∷ [])) rest && starts (of (k.Star ∷ [])) (tail rest)) ≡ false → odd (t ∷ rest) ≡ false
-name_plain t rest h d = and_false (of names (kind t)) _ (ap (λ i. i || (starts (of (k.Dot ∷ [])) rest && starts (of (k.Star ∷ [])) (tail rest))) h ∙ d)
+name_plain t rest h d = right_false (of names (kind t)) _ (ap (λ i. i || (starts (of (k.Dot ∷ [])) rest && starts (of (k.Star ∷ [])) (tail rest))) h ∙ d)
 
 behind_name : (t : Token) (c : Option Name) (z m : List Token) → Optional (Behind (The k.Dot) terminal.a_column_name) c z → starts (of after) m ≡ false → odd (t ∷ (z ++ m)) ≡ false
 unfolding of same_kind
@@ -99,7 +96,7 @@ behind_name t c z m (inl w) sm =
     let column = w.phrase.phrase.right.phrase in
     let e : z ≡ w.phrase.phrase.left.from ∷ w.phrase.phrase.right.from ∷ [] = w.phrase.phrase.whole ∙ ap₂ (λ i j. i ++ j) dot.alone column.alone in
     ap (λ i. odd (t ∷ (i ++ m))) e ∙ name_plain t (w.phrase.phrase.left.from ∷ w.phrase.phrase.right.from ∷ m) (of_apart (k.Dot ∷ []) (k.Open ∷ []) refl (kind w.phrase.phrase.left.from) dot.kind)
-    (and_false (of (k.Dot ∷ []) (kind w.phrase.phrase.left.from)) _ (of_apart column_names (k.Star ∷ []) refl (kind w.phrase.phrase.right.from) column.kind))
+    (right_false (of (k.Dot ∷ []) (kind w.phrase.phrase.left.from)) _ (of_apart column_names (k.Star ∷ []) refl (kind w.phrase.phrase.right.from) column.kind))
 
 module _ (S : Type 0) (H : Mode) (r : ℕ → (d : Deeper) → Reader (Tree d)) (P W : ℕ → (d : Deeper) → Lang (Tree d)) (lower : (n : ℕ) (d : Deeper) → Ruled S H (r n d) (P n d) (W n d) (deeper d)) where
   -- ---- what stands alone

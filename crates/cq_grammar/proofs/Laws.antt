@@ -1,5 +1,6 @@
 -- What each step of a reader keeps: it reads the phrases of its rule, and stops at the first token that no phrase goes on with.
 use Rattle.std.proofs.Common.{◌≡◌, ℕ, zero, suc, ◌≤◌, List, [], ◌∷◌, ◌++◌, length, Bool, true, false, cond, ◌⊎◌, inl, inr, Option, Some, None, Result, Ok, Err, refl, sym, ◌∙◌, ◌↔◌, ap, ap₂, subst, append_assoc, arith, rules, eq-eqb, ◌||◌, length-append}
+use Rattle.cq_value.proofs.Truths.{or_left}
 use denote.Enum.Bare.{same_true}
 use Rattle.cq_token.specs.declared.token.Token.{Token}
 use Rattle.cq_grammar.specs.declared.kind.Kind.{Kind}
@@ -464,14 +465,10 @@ pub kind_refl : (a : Kind) → same_kind a a ≡ true
 unfolding same_kind
 kind_refl a = eq-eqb _ _ refl
 
-or_first : (a b : Bool) → a ≡ true → (a || b) ≡ true
-or_first true b h = refl
-or_first false b h = let bad : false ≡ true = h in absurd (cc)
-
 -- a token of the first of these kinds
 pub first_of_kinds : (j : Kind) (ks : List Kind) → of (j ∷ ks) (kind (token_of j)) ≡ true
 unfolding of
-first_of_kinds j ks = or_first (same_kind (kind (token_of j)) j) (of ks (kind (token_of j))) (ap (λ i. same_kind i j) (kind_spelled j) ∙ kind_refl j)
+first_of_kinds j ks = or_left (same_kind (kind (token_of j)) j) (of ks (kind (token_of j))) (ap (λ i. same_kind i j) (kind_spelled j) ∙ kind_refl j)
 
 module _ (ks : List Kind) where
   one_sound : (t : Token) (ts : List Token) (b : Bool) → of ks (kind t) ≡ b → (a : Token) (r : List Token) → one_by t ts b ≡ Ok (a, r) → Read (One ks) (One ks) (of []) a r (t ∷ ts)

@@ -1,6 +1,7 @@
 -- Which tokens are of a kind: a word's or a sign's kind tells its letters.
 use Rattle.std.proofs.Common.{◌≡◌, ℕ, List, [], ◌∷◌, Bool, true, false, not, ◌||◌, ◌&&◌, if◌then◌else◌, ◌⊎◌, inl, inr, bytes_eq, refl, sym, ◌∙◌, ap, subst, rules, eq-eqb}
 use Rattle.std.specs.Cmp.Lexicographic.{same_text}
+use Rattle.cq_value.proofs.Truths.{and_left, and_right, or_right, not_true}
 use denote.Enum.Bare.{same_true}
 use Rattle.cq_token.specs.declared.token.TokenKind.{TokenKind}
 use Rattle.cq_token.specs.declared.token.TokenKind.TheVariants as token
@@ -23,14 +24,6 @@ kind_refl a = eq-eqb _ _ refl
 
 pub true_false : {Q : Type 0} → true ≡ false → Q
 true_false e = absurd (cc)
-
-pub and_first : (a b : Bool) → (a && b) ≡ true → a ≡ true
-and_first true b h = refl
-and_first false b h = h
-
-pub and_second : (a b : Bool) → (a && b) ≡ true → b ≡ true
-and_second true b h = h
-and_second false b h = true_false (sym h)
 
 -- what holds of each of these kinds
 abbrev pub OfEach : (Kind → Type 0) → List Kind → Type 0
@@ -61,12 +54,12 @@ found_here k w word v h same is =
 
 found_step : (k : Kind) (w : List ℕ) (v : List ℕ × Kind) (vs : List (List ℕ × Kind)) (o : Kind) (word : List ℕ) → only k w (v ∷ vs) ≡ true
     → (found_in vs o word ≡ k → (o ≡ k) ⊎ (word ≡ w)) → (b : Bool) → bytes_eq v.0 word ≡ b → (if b then v.1 else found_in vs o word) ≡ k → (o ≡ k) ⊎ (word ≡ w)
-found_step k w v vs o word h more true same e = inr (found_here k w word v (and_first _ _ h) same e)
+found_step k w v vs o word h more true same e = inr (found_here k w word v (and_left _ _ h) same e)
 found_step k w v vs o word h more false same e = more e
 
 found : (k : Kind) (w : List ℕ) (ws : List (List ℕ × Kind)) (o : Kind) (word : List ℕ) → only k w ws ≡ true → found_in ws o word ≡ k → (o ≡ k) ⊎ (word ≡ w)
 found k w [] o word h e = inl e
-found k w (v ∷ vs) o word h e = found_step k w v vs o word h (found k w vs o word (and_second _ _ h)) (bytes_eq v.0 word) refl e
+found k w (v ∷ vs) o word h e = found_step k w v vs o word h (found k w vs o word (and_right _ _ h)) (bytes_eq v.0 word) refl e
 
 in_either : (P Q : Type 0) → P ⊎ Q → (P → Q) → Q
 in_either P Q (inl p) f = f p
@@ -90,10 +83,6 @@ sign_kinds =
 abbrev pub no_words : List Kind
 no_words = k.Number ∷ k.Quoted ∷ sign_kinds
 
-or_more : (a b : Bool) → b ≡ true → (a || b) ≡ true
-or_more true b h = refl
-or_more false b h = h
-
 pub sign_only : (sign : Sign) → of sign_kinds (kind_of_sign sign) ≡ true
 unfolding of same_kind
 sign_only s.Open = refl
@@ -116,7 +105,7 @@ sign_only s.Arrow = refl
 
 pub sign_among : (sign : Sign) → of no_words (kind_of_sign sign) ≡ true
 unfolding of
-sign_among sign = or_more (same_kind (kind_of_sign sign) k.Number) _ (or_more (same_kind (kind_of_sign sign) k.Quoted) _ (sign_only sign))
+sign_among sign = or_right (same_kind (kind_of_sign sign) k.Number) _ (or_right (same_kind (kind_of_sign sign) k.Quoted) _ (sign_only sign))
 
 abbrev sign_of_kind : Kind → Sign
 sign_of_kind k.Open = s.Open
@@ -164,17 +153,13 @@ abbrev pub none_among : List Kind → List (List ℕ × Kind) → Bool
 none_among ks [] = true
 none_among ks (v ∷ vs) = not (of ks v.1) && none_among ks vs
 
-pub not_true : (a : Bool) → not a ≡ true → a ≡ false
-not_true true h = true_false (sym h)
-not_true false h = refl
-
 outside_step : (ks : List Kind) (v : List ℕ × Kind) (o : Kind) (b : Bool) → not (of ks v.1) ≡ true → of ks o ≡ false → of ks (if b then v.1 else o) ≡ false
 outside_step ks v o true h e = not_true (of ks v.1) h
 outside_step ks v o false h e = e
 
 outside : (ks : List Kind) (ws : List (List ℕ × Kind)) (o : Kind) (word : List ℕ) → none_among ks ws ≡ true → of ks o ≡ false → of ks (found_in ws o word) ≡ false
 outside ks [] o word h e = e
-outside ks (v ∷ vs) o word h e = outside_step ks v (found_in vs o word) (bytes_eq v.0 word) (and_first _ _ h) (outside ks vs o word (and_second _ _ h) e)
+outside ks (v ∷ vs) o word h e = outside_step ks v (found_in vs o word) (bytes_eq v.0 word) (and_left _ _ h) (outside ks vs o word (and_right _ _ h) e)
 
 pub word_no_sign : (word : List ℕ) → of no_words (kind_of_word word) ≡ false
 unfolding kind_of_word of same_kind

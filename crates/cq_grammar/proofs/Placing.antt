@@ -1,6 +1,7 @@
 -- What a statement keeps beside the grammar hangs on what its tokens say, and not on their places.
 use Rattle.std.proofs.Common.{◌≡◌, ℕ, suc, List, [], ◌∷◌, length, map, filter, Bool, true, false, not, ◌&&◌, ◌||◌, nat_le, if◌then◌else◌, bytes_eq, Option, Some, None, is_none, refl, sym, ◌∙◌, ap, ap₂}
 use Rattle.std.specs.List.{list_any, list_all}
+use Rattle.cq_value.proofs.Lists.{none_is}
 use Rattle.cq_token.specs.declared.token.Token.{Token}
 use Rattle.cq_token.specs.declared.token.TokenKind.{TokenKind}
 use Rattle.cq_grammar.specs.declared.kind.Kind.{Kind}
@@ -127,13 +128,9 @@ misplaced_moved (t ∷ ts) =
     misplaced_step (same_kind (kind t) k.Create) (same_kind (kind t) k.Copy) _ _ _ _ (primary_moved false ts)
     (option_moved (behind_from ts) no_options ∙ ap (λ l. is_none (refused_option no_options l)) (behind_moved ts))
 
-none_of : {A : Type 0} (o : Option A) → is_none o ≡ true → o ≡ None
-none_of None h = refl
-none_of (Some a) h = absurd (let e : false ≡ true = h in cc)
-
 pub placed_again : (ts us : List Token) → kinds_of ts ≡ kinds_of us → misplaced ts ≡ None → misplaced us ≡ None
 placed_again ts us e h =
-    none_of (misplaced us) (misplaced_moved us ∙ (ap (λ l. is_none (misplaced (map unplaced l))) (sym e) ∙ (sym (misplaced_moved ts) ∙ ap is_none h)))
+    none_is (misplaced us) (misplaced_moved us ∙ (ap (λ l. is_none (misplaced (map unplaced l))) (sym e) ∙ (sym (misplaced_moved ts) ∙ ap is_none h)))
 
 -- ---- arguments
 
@@ -209,7 +206,7 @@ miscalled_bare (ast.Query query) = refl
 
 pub called_again : (a b : Ast) → bare a ≡ bare b → miscalled a ≡ None → miscalled b ≡ None
 called_again a b e h =
-    none_of (miscalled b) (miscalled_bare b ∙ (ap (λ i. is_none (miscalled i)) (sym e) ∙ (sym (miscalled_bare a) ∙ ap is_none h)))
+    none_is (miscalled b) (miscalled_bare b ∙ (ap (λ i. is_none (miscalled i)) (sym e) ∙ (sym (miscalled_bare a) ∙ ap is_none h)))
 
 -- ---- whole statements
 

@@ -1,5 +1,6 @@
 -- The reader accepts the grammar of selects, rule by rule.
 use Rattle.std.proofs.Common.{◌≡◌, ℕ, List, [], ◌∷◌, ◌++◌, Bool, true, false, inl, inr, refl, ◌∙◌, ap, ap₂, ◌&&◌, ◌||◌}
+use Rattle.cq_value.proofs.Truths.{both_true}
 use Rattle.cq_token.specs.declared.token.Token.{Token}
 use Rattle.cq_grammar.specs.declared.kind.Kind.{Kind}
 use Rattle.cq_grammar.specs.declared.kind.Kind.TheVariants as k
@@ -16,7 +17,7 @@ use Rattle.cq_grammar.proofs.Laws.{Mode, Clear, among_starts, apart_starts, regr
 use Rattle.cq_grammar.proofs.Tokens.{token_of}
 use Rattle.cq_grammar.proofs.Laws.{first_of_kinds}
 use Rattle.cq_grammar.proofs.Sets.{outside, of_among, of_apart, of_in, starts_in}
-use Rattle.cq_grammar.proofs.Shapes.{Ruled, Avoids, after, both_true, seen, ◌then◌, either, maybe, some_of_these, second, word, commas, comma, clear_by, stated, rule, option, plain_rule}
+use Rattle.cq_grammar.proofs.Shapes.{Ruled, Avoids, after, seen, ◌then◌, either, maybe, some_of_these, second, word, commas, comma, clear_by, stated, rule, option, plain_rule}
 use Rattle.cq_grammar.proofs.Ahead.{OpensBy, ClearBy, three_grows, three_settles, by_sight}
 use Rattle.cq_grammar.proofs.Begun.{all_of_so, output_so, column_atom}
 use Rattle.cq_grammar.proofs.Expressions.{or_goes, from_goes, select_goes, deeper, number, name, column_name, some_of, or_chain}

@@ -1,5 +1,6 @@
 -- Sets of kinds, given as lists.
 use Rattle.std.proofs.Common.{◌≡◌, List, [], ◌∷◌, Bool, true, false, not, ◌||◌, ◌&&◌, refl, ◌∙◌, ap}
+use Rattle.cq_value.proofs.Truths.{and_left, and_right, not_true}
 use Rattle.cq_token.specs.declared.token.Token.{Token}
 use Rattle.cq_grammar.specs.declared.kind.Kind.{Kind}
 use Rattle.cq_grammar.specs.Words.{kind, Kinds, of, starts, same_kind}
@@ -13,18 +14,6 @@ abbrev pub inside : List Kind → List Kind → Bool
 inside gs [] = true
 inside gs (f ∷ fs) = of gs f && inside gs fs
 
-pub and_first : (a b : Bool) → (a && b) ≡ true → a ≡ true
-and_first true b h = refl
-and_first false b h = h
-
-pub and_second : (a b : Bool) → (a && b) ≡ true → b ≡ true
-and_second true b h = h
-and_second false b h = let bad : false ≡ true = h in absurd (cc)
-
-pub not_true : (a : Bool) → not a ≡ true → a ≡ false
-not_true true h = let bad : false ≡ true = h in absurd (cc)
-not_true false h = refl
-
 apart_by : (gs : List Kind) (f k : Kind) (b : Bool) (rest : Bool) → same_kind k f ≡ b → of gs f ≡ false → (rest ≡ true → of gs k ≡ false) → (b || rest) ≡ true → of gs k ≡ false
 apart_by gs f k true rest is out more h = ap (of gs) (kind_true k f is) ∙ out
 apart_by gs f k false rest is out more h = more h
@@ -33,7 +22,7 @@ pub of_apart : (fs gs : List Kind) → outside gs fs ≡ true → Apart (of fs) 
 unfolding of
 of_apart [] gs h k is = let bad : false ≡ true = is in absurd (cc)
 of_apart (f ∷ fs) gs h k is =
-    apart_by gs f k (same_kind k f) (of fs k) refl (not_true (of gs f) (and_first (not (of gs f)) (outside gs fs) h)) (λ m. of_apart fs gs (and_second (not (of gs f)) (outside gs fs) h) k m) is
+    apart_by gs f k (same_kind k f) (of fs k) refl (not_true (of gs f) (and_left (not (of gs f)) (outside gs fs) h)) (λ m. of_apart fs gs (and_right (not (of gs f)) (outside gs fs) h) k m) is
 
 in_by : (gs : List Kind) (f k : Kind) (b : Bool) (rest : Bool) → same_kind k f ≡ b → of gs f ≡ true → (rest ≡ true → of gs k ≡ true) → (b || rest) ≡ true → of gs k ≡ true
 in_by gs f k true rest is out more h = ap (of gs) (kind_true k f is) ∙ out
@@ -43,7 +32,7 @@ pub of_in : (fs gs : List Kind) → inside gs fs ≡ true → (k : Kind) → of 
 unfolding of
 of_in [] gs h k is = let bad : false ≡ true = is in absurd (cc)
 of_in (f ∷ fs) gs h k is =
-    in_by gs f k (same_kind k f) (of fs k) refl (and_first (of gs f) (inside gs fs) h) (λ m. of_in fs gs (and_second (of gs f) (inside gs fs) h) k m) is
+    in_by gs f k (same_kind k f) (of fs k) refl (and_left (of gs f) (inside gs fs) h) (λ m. of_in fs gs (and_right (of gs f) (inside gs fs) h) k m) is
 
 among_by : (b c : Bool) → (b ≡ true → c ≡ true) → c ≡ false → b ≡ false
 among_by true c f h = true_false (f refl) h

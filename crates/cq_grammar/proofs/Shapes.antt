@@ -1,5 +1,6 @@
 -- What is known of the phrases of a rule by its parts: the kinds with which they begin, and those that would make them longer.
 use Rattle.std.proofs.Common.{◌≡◌, ℕ, List, [], ◌∷◌, ◌++◌, Bool, true, false, not, ◌||◌, ◌&&◌, ◌⊎◌, inl, inr, Some, None, refl, sym, ◌∙◌, ap}
+use Rattle.cq_value.proofs.Truths.{or_either, or_left, or_right, left_false, both_true, and_left, and_right, not_true}
 use Rattle.cq_token.specs.declared.token.Token.{Token}
 use Rattle.cq_grammar.specs.declared.kind.Kind.{Kind}
 use Rattle.cq_grammar.specs.declared.kind.Kind.TheVariants as k
@@ -9,7 +10,7 @@ use Rattle.cq_grammar.specs.Terminals.{Commas, place_of, The}
 use Rattle.cq_grammar.specs.Read.{Test, Reader, one, both, made, nothing, choice, many, optional, behind, several, sees, tail}
 use Rattle.cq_grammar.specs.Descent.{the, list}
 use Rattle.cq_grammar.proofs.Laws.{Mode, Reads, Lawful, Begins, Opens, Clear, Among, starts_front, starts_none, true_false, among_starts, apart_starts, regroup, widen, one_some, one_lawful, both_lawful, made_lawful, nothing_lawful, choice_lawful, many_lawful, both_begins, made_begins}
-use Rattle.cq_grammar.proofs.Sets.{inside, outside, of_apart, of_among, of_in, starts_in, and_first, and_second, not_true}
+use Rattle.cq_grammar.proofs.Sets.{inside, outside, of_apart, of_among, of_in, starts_in}
 
 pub record Shape : Type 0 where
   -- the kinds with which phrases begin
@@ -48,26 +49,10 @@ pub record Ruled (S : Type 0) (H : Mode) {A : Type 0} (p : Reader A) (P W : Lang
 
 -- ---- lists of kinds
 
-or_by : (a b : Bool) → (a || b) ≡ true → (a ≡ true) ⊎ (b ≡ true)
-or_by true b h = inl refl
-or_by false b h = inr h
-
-or_left : (a b : Bool) → a ≡ true → (a || b) ≡ true
-or_left true b h = refl
-or_left false b h = let bad : false ≡ true = h in absurd (cc)
-
-or_right : (a b : Bool) → b ≡ true → (a || b) ≡ true
-or_right true b h = refl
-or_right false b h = h
-
-and_false : (a b : Bool) → a ≡ false → (a && b) ≡ false
-and_false true b h = let bad : true ≡ false = h in absurd (cc)
-and_false false b h = refl
-
 pub of_both : (fs gs : List Kind) (j : Kind) → of (fs ++ gs) j ≡ true → (of fs j ≡ true) ⊎ (of gs j ≡ true)
 unfolding of
 of_both [] gs j h = inr h
-of_both (f ∷ fs) gs j h = elim (or_by (same_kind j f) (of (fs ++ gs) j) h) [
+of_both (f ∷ fs) gs j h = elim (or_either (same_kind j f) (of (fs ++ gs) j) h) [
   | inl u ↦ inl (or_left (same_kind j f) (of fs j) u)
   | inr u ↦ elim (of_both fs gs j u) [
     | inl v ↦ inl (or_right (same_kind j f) (of fs j) v)
@@ -78,7 +63,7 @@ of_both (f ∷ fs) gs j h = elim (or_by (same_kind j f) (of (fs ++ gs) j) h) [
 pub of_left : (fs gs : List Kind) (j : Kind) → of fs j ≡ true → of (fs ++ gs) j ≡ true
 unfolding of
 of_left [] gs j h = let bad : false ≡ true = h in absurd (cc)
-of_left (f ∷ fs) gs j h = elim (or_by (same_kind j f) (of fs j) h) [
+of_left (f ∷ fs) gs j h = elim (or_either (same_kind j f) (of fs j) h) [
   | inl u ↦ or_left (same_kind j f) (of (fs ++ gs) j) u
   | inr u ↦ or_right (same_kind j f) (of (fs ++ gs) j) (of_left fs gs j u)
 ]
@@ -141,7 +126,7 @@ opens_by {s = s} gs r all some a y w = elim (r.opens a y w) [
 
 -- what begins with none of the names isn't odd
 pub not_odd : (ts : List Token) → starts (of names) ts ≡ false → odd ts ≡ false
-not_odd ts h = and_false (starts (of names) ts) _ h
+not_odd ts h = left_false (starts (of names) ts) _ h
 
 -- ---- one token
 
@@ -202,20 +187,16 @@ not_by : (e w : Bool) → (not e || w) ≡ true → e ≡ true → w ≡ true
 not_by true w h is = h
 not_by false w h is = let bad : false ≡ true = is in absurd (cc)
 
-pub both_true : (a b : Bool) → a ≡ true → b ≡ true → (a && b) ≡ true
-both_true true b h g = g
-both_true false b h g = h
-
 module _ {S : Type 0} {H : Mode} {A B : Type 0} {p : Reader A} {q : Reader B} {P W : Lang A} {Q V : Lang B} {s t : Shape} (l : Ruled S H p P W s) (m : Ruled S H q Q V t) where
   behind_none : (a : A) → W a [] → (before : List Token) → Begins V before → Begins (Both W V) before
   behind_none a w before b = record { value = (a, b.value); more = b.more; phrase = record { front = []; back = before ++ b.more; whole = refl; left = w; right = b.phrase } }
 
   both_full : S → (s.whole && (not s.empty || t.whole)) ≡ true → (u : Token) → (of s.firsts (kind u) ≡ true) ⊎ ((s.empty ≡ true) × (of t.firsts (kind u) ≡ true)) → Begins (Both W V) (u ∷ [])
-  both_full h whole u (inl i) = both_begins p q P W Q V (of []) (of []) (m.some h) (u ∷ []) (l.full h (and_first _ _ whole) u i)
-  both_full h whole u (inr i) = let n = l.none i.0 in behind_none n.0 n.1 (u ∷ []) (m.full h (not_by s.empty t.whole (and_second s.whole _ whole) i.0) u i.1)
+  both_full h whole u (inl i) = both_begins p q P W Q V (of []) (of []) (m.some h) (u ∷ []) (l.full h (and_left _ _ whole) u i)
+  both_full h whole u (inr i) = let n = l.none i.0 in behind_none n.0 n.1 (u ∷ []) (m.full h (not_by s.empty t.whole (and_right s.whole _ whole) i.0) u i.1)
 
   both_none : (s.empty && t.empty) ≡ true → (c : A × B) × Both W V c []
-  both_none h = let a = l.none (and_first _ _ h) in let b = m.none (and_second s.empty _ h) in ((a.0, b.0), record { front = []; back = []; whole = refl; left = a.1; right = b.1 })
+  both_none h = let a = l.none (and_left _ _ h) in let b = m.none (and_right s.empty _ h) in ((a.0, b.0), record { front = []; back = []; whole = refl; left = a.1; right = b.1 })
 
   both_opens : (c : A × B) (y : List Token) → Both W V c y → starts (of (with_if s.empty s.firsts t.firsts)) y ≡ true ⊎ (((s.empty && t.empty) ≡ true) × (y ≡ []))
   both_opens c y w = elim (l.opens c.0 w.front w.left) [
@@ -232,19 +213,19 @@ module _ {S : Type 0} {H : Mode} {A B : Type 0} {p : Reader A} {q : Reader B} {P
 
   both_plain : ((outside names s.firsts && not s.empty) ≡ true) ⊎ ((s.plain && outside after t.firsts) ≡ true) → Avoids odd (Both W V) after
   both_plain (inl h) c y n w sm =
-      let filled = not_true s.empty (and_second (outside names s.firsts) _ h) in
+      let filled = not_true s.empty (and_right (outside names s.firsts) _ h) in
       ap odd (ap (λ i. i ++ n) w.whole ∙ regroup w.front w.back n)
-      ∙ not_odd (w.front ++ (w.back ++ n)) (clear_by names [] l (and_first _ _ h) (λ is. true_false is filled) c.0 w.front (w.back ++ n) w.left (starts_none (w.back ++ n)))
+      ∙ not_odd (w.front ++ (w.back ++ n)) (clear_by names [] l (and_left _ _ h) (λ is. true_false is filled) c.0 w.front (w.back ++ n) w.left (starts_none (w.back ++ n)))
   both_plain (inr h) c y n w sm =
       ap odd (ap (λ i. i ++ n) w.whole ∙ regroup w.front w.back n)
-      ∙ l.plain (and_first _ _ h) c.0 w.front (w.back ++ n) w.left (clear_by after after m (and_second s.plain _ h) (λ _ j out. out) c.1 w.back n w.right sm)
+      ∙ l.plain (and_left _ _ h) c.0 w.front (w.back ++ n) w.left (clear_by after after m (and_right s.plain _ h) (λ _ j out. out) c.1 w.back n w.right sm)
 
   both_law : Reads H → (s.fine && (t.fine && outside s.goes t.firsts)) ≡ true → Lawful H (both p q) (Both P Q) (Both W V) (of (with_if t.empty t.goes s.goes))
   both_law h fine =
-      let rest = and_second s.fine _ fine in
-      let wider = widen q Q V (of t.goes) (of (with_if t.empty t.goes s.goes)) (among_if t.empty t.goes s.goes) (m.lawful h (and_first t.fine _ rest)) in
-      both_lawful p q P W Q V (of s.goes) (of (with_if t.empty t.goes s.goes)) (l.lawful h (and_first _ _ fine)) wider
-      (clear_by s.goes (with_if t.empty t.goes s.goes) m (and_second t.fine _ rest) (λ is. among_in (of s.goes) (of (with_if t.empty t.goes s.goes)) (right_if t.empty t.goes s.goes is)))
+      let rest = and_right s.fine _ fine in
+      let wider = widen q Q V (of t.goes) (of (with_if t.empty t.goes s.goes)) (among_if t.empty t.goes s.goes) (m.lawful h (and_left t.fine _ rest)) in
+      both_lawful p q P W Q V (of s.goes) (of (with_if t.empty t.goes s.goes)) (l.lawful h (and_left _ _ fine)) wider
+      (clear_by s.goes (with_if t.empty t.goes s.goes) m (and_right t.fine _ rest) (λ is. among_in (of s.goes) (of (with_if t.empty t.goes s.goes)) (right_if t.empty t.goes s.goes is)))
 
   pub pair : Ruled S H (both p q) (Both P Q) (Both W V) (both_shape s t)
   pair = record {
@@ -252,7 +233,7 @@ module _ {S : Type 0} {H : Mode} {A B : Type 0} {p : Reader A} {q : Reader B} {P
     full = λ h whole u in_. both_full h whole u (from_if s.empty s.firsts t.firsts (kind u) in_);
     none = both_none;
     opens = both_opens;
-    plain = λ h. both_plain (or_by (outside names s.firsts && not s.empty) _ h);
+    plain = λ h. both_plain (or_either (outside names s.firsts && not s.empty) _ h);
     lawful = both_law;
   }
 
@@ -284,8 +265,8 @@ module _ {S : Type 0} {H : Mode} {A : Type 0} (ks : List Kind) {p q : Reader A} 
   right_begins before b = record { value = b.value; more = b.more; phrase = inr b.phrase }
 
   choice_full : S → (s.whole && t.whole) ≡ true → (u : Token) → (of s.firsts (kind u) ≡ true) ⊎ (of t.firsts (kind u) ≡ true) → Begins (Either W V) (u ∷ [])
-  choice_full h whole u (inl i) = left_begins (u ∷ []) (l.full h (and_first _ _ whole) u i)
-  choice_full h whole u (inr i) = right_begins (u ∷ []) (m.full h (and_second s.whole _ whole) u i)
+  choice_full h whole u (inl i) = left_begins (u ∷ []) (l.full h (and_left _ _ whole) u i)
+  choice_full h whole u (inr i) = right_begins (u ∷ []) (m.full h (and_right s.whole _ whole) u i)
 
   choice_opens : s.empty ≡ false → (a : A) (y : List Token) → Either W V a y → starts (of (s.firsts ++ t.firsts)) y ≡ true ⊎ ((t.empty ≡ true) × (y ≡ []))
   choice_opens filled a y (inl w) = elim (l.opens a y w) [
@@ -298,19 +279,19 @@ module _ {S : Type 0} {H : Mode} {A : Type 0} (ks : List Kind) {p q : Reader A} 
   ]
 
   choice_plain : (s.plain && t.plain) ≡ true → Avoids odd (Either W V) after
-  choice_plain h a y n (inl w) sm = l.plain (and_first _ _ h) a y n w sm
-  choice_plain h a y n (inr w) sm = m.plain (and_second s.plain _ h) a y n w sm
+  choice_plain h a y n (inl w) sm = l.plain (and_left _ _ h) a y n w sm
+  choice_plain h a y n (inr w) sm = m.plain (and_right s.plain _ h) a y n w sm
 
   choice_law : s.empty ≡ false → Reads H → (s.fine && (t.fine && (not s.empty && (inside ks s.firsts && outside ks t.firsts)))) ≡ true → Lawful H (choice (sees ks) p q) (Either P Q) (Either W V) (of goes)
   choice_law filled h fine =
-      let more = and_second s.fine _ fine in
-      let sets = and_second (not s.empty) _ (and_second t.fine _ more) in
+      let more = and_right s.fine _ fine in
+      let sets = and_right (not s.empty) _ (and_right t.fine _ more) in
       let sub : (j : Kind) → of (s.goes ++ t.goes) j ≡ true → of goes j ≡ true = left_if t.empty (s.goes ++ t.goes) ks in
       choice_lawful (of ks) p q P W Q V (of goes)
-      (widen p P W (of s.goes) (of goes) (among_in (of s.goes) (of goes) (λ j i. sub j (of_left s.goes t.goes j i))) (l.lawful h (and_first _ _ fine)))
-      (widen q Q V (of t.goes) (of goes) (among_in (of t.goes) (of goes) (λ j i. sub j (of_right s.goes t.goes j i))) (m.lawful h (and_first _ _ more)))
-      (opens_by ks l (and_first _ _ sets) filled)
-      (clear_by ks goes m (and_second (inside ks s.firsts) _ sets) (λ is. among_in (of ks) (of goes) (right_if t.empty (s.goes ++ t.goes) ks is)))
+      (widen p P W (of s.goes) (of goes) (among_in (of s.goes) (of goes) (λ j i. sub j (of_left s.goes t.goes j i))) (l.lawful h (and_left _ _ fine)))
+      (widen q Q V (of t.goes) (of goes) (among_in (of t.goes) (of goes) (λ j i. sub j (of_right s.goes t.goes j i))) (m.lawful h (and_left _ _ more)))
+      (opens_by ks l (and_left _ _ sets) filled)
+      (clear_by ks goes m (and_right (inside ks s.firsts) _ sets) (λ is. among_in (of ks) (of goes) (right_if t.empty (s.goes ++ t.goes) ks is)))
 
   pub either : s.empty ≡ false → Ruled S H (choice (sees ks) p q) (Either P Q) (Either W V) (choice_shape ks s t)
   either filled = record {
@@ -358,9 +339,9 @@ module _ {S : Type 0} {H : Mode} {A : Type 0} (ks : List Kind) {p : ℕ → Read
 
   many_law : s.empty ≡ false → (i : ℕ) → Reads H → (s.fine && (not s.empty && (inside ks s.firsts && outside s.goes ks))) ≡ true → Lawful H (many (sees ks) p i) (Many P i) (Many W i) (of (s.goes ++ ks))
   many_law filled i h fine =
-      let sets = and_second (not s.empty) _ (and_second s.fine _ fine) in
-      many_lawful (of ks) (of s.goes) (of (s.goes ++ ks)) p P W (λ j. (l j).lawful h (and_first _ _ fine)) (λ j. opens_by ks (l j) (and_first _ _ sets) filled)
-      (of_apart ks s.goes (and_second (inside ks s.firsts) _ sets)) (among_left s.goes ks) (among_right s.goes ks) i
+      let sets = and_right (not s.empty) _ (and_right s.fine _ fine) in
+      many_lawful (of ks) (of s.goes) (of (s.goes ++ ks)) p P W (λ j. (l j).lawful h (and_left _ _ fine)) (λ j. opens_by ks (l j) (and_left _ _ sets) filled)
+      (of_apart ks s.goes (and_right (inside ks s.firsts) _ sets)) (among_left s.goes ks) (among_right s.goes ks) i
 
   pub some_of_these : s.empty ≡ false → (i : ℕ) → Ruled S H (many (sees ks) p i) (Many P i) (Many W i) (many_shape ks s)
   some_of_these filled i = record {
@@ -422,28 +403,28 @@ so_by false b h is = let bad : false ≡ true = is in absurd (cc)
 
 module _ {S : Type 0} {H : Mode} {A : Type 0} {p : Reader A} {P W : Lang A} {s : Shape} (l : Ruled S H p P W s) (z : Shape) (h : fits s z ≡ true) where
   e1 : s.empty ≡ z.empty
-  e1 = same_by s.empty z.empty (and_first _ _ h)
+  e1 = same_by s.empty z.empty (and_left _ _ h)
 
   h2 : (inside s.firsts z.firsts && (inside z.goes s.goes && (if_so z.whole s.whole && (if_so z.plain s.plain && if_so z.fine s.fine)))) ≡ true
-  h2 = and_second (inside z.firsts s.firsts) _ (and_second (same_bool s.empty z.empty) _ h)
+  h2 = and_right (inside z.firsts s.firsts) _ (and_right (same_bool s.empty z.empty) _ h)
 
   h3 : (if_so z.whole s.whole && (if_so z.plain s.plain && if_so z.fine s.fine)) ≡ true
-  h3 = and_second (inside z.goes s.goes) _ (and_second (inside s.firsts z.firsts) _ h2)
+  h3 = and_right (inside z.goes s.goes) _ (and_right (inside s.firsts z.firsts) _ h2)
 
   h4 : (if_so z.plain s.plain && if_so z.fine s.fine) ≡ true
-  h4 = and_second (if_so z.whole s.whole) _ h3
+  h4 = and_right (if_so z.whole s.whole) _ h3
 
   pub stated : Ruled S H p P W z
   stated = record {
     some = l.some;
-    full = λ u whole t in_. l.full u (so_by z.whole s.whole (and_first _ _ h3) whole) t (of_in z.firsts s.firsts (and_first _ _ h2) (kind t) in_);
+    full = λ u whole t in_. l.full u (so_by z.whole s.whole (and_left _ _ h3) whole) t (of_in z.firsts s.firsts (and_left _ _ h2) (kind t) in_);
     none = λ is. l.none (e1 ∙ is);
     opens = λ a y w. elim (l.opens a y w) [
-      | inl u ↦ inl (starts_in (of s.firsts) (of z.firsts) (of_in s.firsts z.firsts (and_first _ _ (and_second (same_bool s.empty z.empty) _ h))) y u)
+      | inl u ↦ inl (starts_in (of s.firsts) (of z.firsts) (of_in s.firsts z.firsts (and_left _ _ (and_right (same_bool s.empty z.empty) _ h))) y u)
       | inr u ↦ inr (sym e1 ∙ u.0, u.1)
     ];
-    plain = λ is. l.plain (so_by z.plain s.plain (and_first _ _ h4) is);
-    lawful = λ u is. widen p P W (of s.goes) (of z.goes) (of_among s.goes z.goes (and_first _ _ (and_second (inside s.firsts z.firsts) _ h2))) (l.lawful u (so_by z.fine s.fine (and_second (if_so z.plain s.plain) _ h4) is));
+    plain = λ is. l.plain (so_by z.plain s.plain (and_left _ _ h4) is);
+    lawful = λ u is. widen p P W (of s.goes) (of z.goes) (of_among s.goes z.goes (and_left _ _ (and_right (inside s.firsts z.firsts) _ h2))) (l.lawful u (so_by z.fine s.fine (and_right (if_so z.plain s.plain) _ h4) is));
   }
 
 -- a rule with these first kinds, whose phrases these kinds would make longer

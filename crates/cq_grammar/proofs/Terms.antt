@@ -1,5 +1,6 @@
 -- What single tokens keep.
 use Rattle.std.proofs.Common.{◌≡◌, ℕ, List, [], ◌∷◌, Bool, true, false, not, ◌&&◌, refl, sym, ◌∙◌, ap}
+use Rattle.cq_value.proofs.Truths.{and_left, and_right, not_true}
 use Rattle.cq_token.specs.declared.token.Token.{Token}
 use Rattle.cq_token.specs.declared.token.TokenKind.{TokenKind}
 use Rattle.cq_token.specs.declared.token.TokenKind.TheVariants as token
@@ -11,7 +12,7 @@ use Rattle.cq_grammar.specs.Lang.{One, Made}
 use Rattle.cq_grammar.specs.Terminals.{The, Some-of, place_of, kind_at, name_of, count_of, quoted_of, a_name, a_column_name, a_number, a_quoted}
 use Rattle.cq_grammar.specs.Spelling.{word, sign, named, number, quoted}
 use Rattle.cq_grammar.specs.Bare.{bare_name, bare_count}
-use Rattle.cq_grammar.proofs.Letters.{OfEach, of_each, Says, says_word, says_sign, only, no_words, sign_kinds, sign_only, sign_among, word_no_sign, and_first, and_second, not_true, true_false}
+use Rattle.cq_grammar.proofs.Letters.{OfEach, of_each, Says, says_word, says_sign, only, no_words, sign_kinds, sign_only, sign_among, word_no_sign, true_false}
 use Rattle.cq_grammar.proofs.Keeping.{Keeps, one_keeps}
 
 this_one : (i : Kind) (t : Token) → of (i ∷ []) (kind t) ≡ true → kind t ≡ i
@@ -41,7 +42,7 @@ are_words (j ∷ js) = not (of no_words j) && are_words js
 
 each_word : (ks : List Kind) → are_words ks ≡ true → OfEach (λ j. of no_words j ≡ false) ks
 each_word [] h = tt
-each_word (j ∷ js) h = (not_true (of no_words j) (and_first _ _ h), each_word js (and_second _ _ h))
+each_word (j ∷ js) h = (not_true (of no_words j) (and_left _ _ h), each_word js (and_right _ _ h))
 
 token_of : TokenKind → Token
 token_of j = record { kind = j; start = 0; end = 0 }

@@ -3,6 +3,7 @@ use Rattle.std.proofs.Common.{◌≡◌, ◌∙◌, ◌+◌, ℕ, ◌≤◌, Boo
 use Rattle.std.specs.List.{AllByRecursion, AllZip, flat_map}
 use Rattle.std.proofs.lemmas.List.{map-append}
 use Rattle.std.proofs.lemmas.Grind.{flat_map-append}
+use Rattle.cq_value.proofs.Lists.{all_left, all_right}
 use Rattle.cq_value.specs.declared.schema.Shape.{Shape}
 use Rattle.cq_tree.specs.declared.journal.Entry.{Entry}
 use Rattle.cq_tree.specs.declared.journal.EntryKind.{EntryKind}
@@ -36,14 +37,6 @@ last_split (a ∷ xs) (b ∷ ys) x y e =
     let tail : xs ++ x ∷ [] ≡ ys ++ y ∷ [] = cc in
     let rest = last_split xs ys x y tail in
     (λ i. head i ∷ rest.0 i, rest.1)
-
-all_front : {X : Type 0} (P : X → Type 0) (xs ys : List X) → AllByRecursion P (xs ++ ys) → AllByRecursion P xs
-all_front P [] ys h = tt
-all_front P (x ∷ xs) ys h = (h.0, all_front P xs ys h.1)
-
-all_back : {X : Type 0} (P : X → Type 0) (xs ys : List X) → AllByRecursion P (xs ++ ys) → AllByRecursion P ys
-all_back P [] ys h = h
-all_back P (x ∷ xs) ys h = all_back P xs ys h.1
 
 -- what is found, and isn't the last, is found before it
 found_less : (os : List Outline) (o : Outline) (table : ℕ) → IsSome (shape_at (os ++ o ∷ []) table) → nat_eq o.0 table ≡ false → IsSome (shape_at os table)
@@ -110,7 +103,7 @@ module _ {X : Type 0} (state : X → StoreState) where
   module _ (g : GroupState X) (ts : List (GroupTable X)) (t : GroupTable X) (tables : g.tables.items ≡ ts ++ t ∷ []) where
     last_kept : IsKept state g → IsTableKept state g.node (copies_of g) (entries_of g) t
     last_kept k =
-        (all_back (IsTableKept state g.node (copies_of g) (entries_of g)) ts (t ∷ [])
+        (all_right (IsTableKept state g.node (copies_of g) (entries_of g)) ts (t ∷ [])
         (subst (λ us. AllByRecursion (IsTableKept state g.node (copies_of g) (entries_of g)) us) tables k.tables)).0
 
     pub spare_last : (ys : List X) → IsKept state g → AllZip (Lifted state Releases) t.stores.items ys → AreSpareFrom 0 g.node (map state ys)
@@ -120,7 +113,7 @@ module _ {X : Type 0} (state : X → StoreState) where
     steady_last ys k s =
         let P : GroupTable X → Type 0 = λ u. AllByRecursion (λ (x : X). IsTrue (state x).steady) u.stores.items in
         all_along (λ (x : X). IsTrue (state x).steady) (Lifted state Releases) (λ (x : X). IsTrue (state x).steady) (λ x y a r. subst IsTrue (sym (ap (λ (z : StoreState). z.steady) r.state)) a) t.stores.items ys
-        (all_back P ts (t ∷ []) (subst (λ us. AllByRecursion P us) tables s)).0 k
+        (all_right P ts (t ∷ []) (subst (λ us. AllByRecursion P us) tables s)).0 k
 
   -- a group without its last table keeps what it did
   pub dropped_kept : (g h : GroupState X) (t : GroupTable X) → g.tables.items ≡ h.tables.items ++ t ∷ [] → IsKept state g → EndsUnwritten g → h.node ≡ g.node → h.nodes ≡ g.nodes → h.room ≡ g.room →
@@ -149,7 +142,7 @@ module _ {X : Type 0} (state : X → StoreState) where
             subst (λ n. AllByRecursion (IsTableKept state n (copies_of h) (entries_of h)) h.tables.items) (sym node)
             (subst (λ c. AllByRecursion (IsTableKept state g.node c (entries_of h)) h.tables.items) (sym (copies_same state g h node nodes))
             (subst (λ es. AllByRecursion (IsTableKept state g.node (copies_of g) es) h.tables.items) (sym entries)
-            (all_front (IsTableKept state g.node (copies_of g) (entries_of g)) h.tables.items (t ∷ [])
+            (all_left (IsTableKept state g.node (copies_of g) (entries_of g)) h.tables.items (t ∷ [])
             (subst (λ ts. AllByRecursion (IsTableKept state g.node (copies_of g) (entries_of g)) ts) tables k.tables))));
         distinct = distinct_less os o (subst AreDistinct split k.distinct);
         room = omega (arith, fits, long);

@@ -5,6 +5,7 @@ use Rattle.std.specs.Ordering.{is_eq, ordering_reverse}
 use Rattle.std.specs.declared.cmp.Ordering.{Ordering}
 use Rattle.std.specs.declared.cmp.Ordering.TheVariants.{Less, Equal, Greater}
 use Rattle.std.proofs.lemmas.List.Elements.{All-filter}
+use Rattle.cq_value.proofs.Lists.{any_map}
 use Rattle.cq_value.specs.Order.{value_cmp}
 use Rattle.cq_value.specs.declared.value.Value.{Value}
 use Rattle.cq_value.specs.Tables.{Pair}
@@ -32,16 +33,12 @@ has_key : (key : List ℕ) (row other : Row) → has_values (values_at key row) 
 has_key [] row other = refl
 has_key (place ∷ key) row other = λ i. same_either_way (column other place) (column row place) i && has_key key row other i
 
-any-map : {X Y : Type 0} (p : Y → Bool) (f : X → Y) (xs : List X) → list_any p (map f xs) ≡ list_any (λ x. p (f x)) xs
-any-map p f [] = refl
-any-map p f (x ∷ xs) = ap (λ b. p (f x) || b) (any-map p f xs)
-
 -- the key of one of the rows is met where some row has its values
 pub meets_is : (key : List ℕ) (pairs : List Pair) (rows : List Row) → meets_any pairs key rows ≡ meets key (map (λ (p : Pair). p.1) pairs) rows
 meets_is key pairs rows = ap (λ (p : Row → Bool). list_any p rows) (λ i row. each row i)
   where
     each : (row : Row) → list_any (λ (p : Pair). has_values (values_at key row) p.1) pairs ≡ list_any (same_key key row) (map (λ (p : Pair). p.1) pairs)
-    each row = ap (λ (q : Pair → Bool). list_any q pairs) (λ i p. has_key key row p.1 i) ∙ sym (any-map (same_key key row) (λ (p : Pair). p.1) pairs)
+    each row = ap (λ (q : Pair → Bool). list_any q pairs) (λ i p. has_key key row p.1 i) ∙ sym (any_map (same_key key row) (λ (p : Pair). p.1) pairs)
 
 -- the rows of the pairs that have some values
 pub rows_picked : (wanted : List (ℕ × Value)) (pairs : List Pair) → map (λ (p : Pair). p.1) (filter (λ (p : Pair). has_values wanted p.1) pairs) ≡ filter (has_values wanted) (map (λ (p : Pair). p.1) pairs)

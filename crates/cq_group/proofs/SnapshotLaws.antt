@@ -5,6 +5,7 @@ use Rattle.std.proofs.lemmas.List.{append_assoc}
 use Rattle.std.proofs.lemmas.List.Elements.{filter-append}
 use Rattle.std.proofs.lemmas.List.Folds.{list_any-append}
 use Rattle.std.proofs.lemmas.Bool.Decides.{eqb_tells}
+use Rattle.cq_value.proofs.Truths.{or_true}
 use Rattle.cq_value.specs.declared.change.Change.{Change}
 use Rattle.cq_value.specs.declared.change.Change.TheVariants.{Add, Drop}
 use Rattle.cq_value.specs.Changes.{applied, Fit, has_id}
@@ -66,10 +67,6 @@ stays (p ∷ ps) n h = elim (eqb_tells p.0 n) [
   | inl e ↦ absurd (let less = h.0 in let same = e.1 in omega (arith, less, same))
   | inr e ↦ (ap (λ b. if not b then p ∷ filter (λ (q : Pair). not (nat_eq q.0 n)) ps else filter (λ (q : Pair). not (nat_eq q.0 n)) ps) e.0 ∙ ap (λ qs. p ∷ qs) (stays ps n h.1))
 ]
-
-or_true : (b : Bool) → (b || true) ≡ true
-or_true true = refl
-or_true false = refl
 
 pub raised_fit : (changes : List Change) (n : ℕ) → Fit empty_table changes → (applied empty_table changes).next ≤ n → n < 18446744073709551615 → Fit empty_table ((changes ++ Add n [] ∷ []) ++ Drop n ∷ [])
 raised_fit changes n fit low high =

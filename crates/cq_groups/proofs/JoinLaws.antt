@@ -4,6 +4,8 @@ use Rattle.std.specs.Prelude.{nat_eq, ◌&&◌}
 use Rattle.std.proofs.lemmas.Bool.Decides.{eqb_tells}
 use Rattle.std.proofs.lemmas.List.{length-map}
 use Rattle.std.proofs.lemmas.List.Elements.{filter-append}
+use Rattle.cq_value.proofs.Lists.{all_filtered, all_weaker}
+use Rattle.cq_value.proofs.Truths.{and_both, two_ways}
 use Rattle.cq_tree.specs.declared.journal.Who.{Who}
 use Rattle.cq_tree.specs.declared.query.FromTree.{FromTree, Table, Sub', Result, Cross', Inner', Left', end_of-FromTree, more_of-FromTree}
 use Rattle.cq_tree.specs.declared.query.Query.{Query, out-Query}
@@ -30,7 +32,6 @@ use Rattle.cq_history.specs.Journals.{journal_in}
 use Rattle.cq_history.specs.Legality.{IsLegal}
 use Rattle.cq_history.specs.Refusals.{is_alone}
 use Rattle.cq_history.proofs.Demands.{joins_suffice}
-use Rattle.cq_history.proofs.Lists.{all_filtered, all_weaker, two_ways}
 use Rattle.cq_groups.specs.Reads.{Look, captured_by, AreShaped, IsComputable, Computes, IsComputed, done, stopped, failed}
 use Rattle.cq_groups.specs.Looking.{looks_of, merged, gathered, are_laid, joins_plainly, wants_by}
 use Rattle.cq_groups.proofs.GatherLaws.{merged_rows}
@@ -62,10 +63,6 @@ within_long [] [] h = refl
 within_long [] (v ∷ row) h = absurd h
 within_long (b ∷ bits) [] h = absurd h
 within_long (b ∷ bits) (v ∷ row) h = ap suc (within_long bits row h.1)
-
-and_both : (a b : Bool) → (a && b) ≡ true → (a ≡ true) × (b ≡ true)
-and_both true b h = (refl, h)
-and_both false b h = cc
 
 laid_both : (c : Contents) (xs ys : List Leaf) → are_laid c (xs ++ ys) ≡ true → (are_laid c xs ≡ true) × (are_laid c ys ≡ true)
 laid_both c [] ys h = (refl, h)

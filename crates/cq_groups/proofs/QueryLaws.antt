@@ -1,6 +1,7 @@
 -- The answer of a query that was computed over its looks.
 use Rattle.std.proofs.Common.{◌≡◌, ◌<◌, ◌≤◌, inl, inr, ℕ, true, List, [], ◌∷◌, length, refl, sym, ◌∙◌, ap, subst, Some, None, Option}
 use Rattle.std.specs.List.{AllByRecursion}
+use Rattle.cq_value.proofs.Lists.{length_map}
 use Rattle.cq_tree.specs.declared.journal.Who.{Who}
 use Rattle.cq_tree.specs.declared.journal.EntryKind.TheVariants.{Read}
 use Rattle.cq_tree.specs.declared.query.Query.{Query, out-Query}
@@ -45,7 +46,6 @@ use Rattle.cq_groups.proofs.GatherLaws.{gathered_whole}
 use Rattle.cq_groups.proofs.LookLaws.{can_look_at, in_order_ascends, in_order_below, has_shapes, groups_looked}
 use Rattle.cq_groups.proofs.Failing.{fault_is_placed, named}
 use Rattle.cq_groups.proofs.StepLaws.{no_large_step}
-use Rattle.cq_groups.proofs.Growth.{length_map}
 use Rattle.cq_groups.proofs.ReadLaws.{nothing_read, among_one, below_one}
 
 pub each_of : (P : ℕ → Type 0) (xs : List ℕ) → ((t : ℕ) → among t xs ≡ true → P t) → AllByRecursion P xs

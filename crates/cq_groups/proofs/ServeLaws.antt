@@ -3,6 +3,8 @@ use Rattle.std.proofs.Common.{◌≡◌, ◌≤◌, ◌^◌, inl, inr, ℕ, Bool
 use Rattle.std.specs.Prelude.{◌⊎◌, ◌&&◌, ◌||◌, nat_le}
 use Rattle.std.specs.List.{flat_map, list_any, AllByRecursion}
 use Rattle.std.proofs.lemmas.List.{length-map}
+use Rattle.cq_value.proofs.Lists.{map_map, all_both}
+use Rattle.cq_value.proofs.Truths.{or_true, and_both}
 use Rattle.cq_tree.specs.declared.plan.Combine.{Combine}
 use Rattle.cq_tree.specs.declared.plan.Combine.TheVariants.{Nothing}
 use Rattle.cq_tree.specs.declared.query.FromTree.{FromTree, Table, Sub', Result, Cross', Inner', Left', end_of-FromTree, more_of-FromTree, end_of-Query, more_of-Query}
@@ -14,12 +16,11 @@ use Rattle.cq_meaning.specs.Queries.{from_rows, AnswersWith}
 use Rattle.cq_meaning.specs.Limits.{is_large, is_large_from}
 use Rattle.cq_meaning.specs.Results.{results_of}
 use Rattle.cq_meaning.specs.Safety.{IsSafeQuery}
-use Rattle.cq_meaning.proofs.MapLaws.{map_map, map_same}
+use Rattle.cq_meaning.proofs.MapLaws.{map_same}
 use Rattle.cq_meaning.proofs.Reorder.{Reordered}
 use Rattle.cq_meaning.proofs.RowLaws.{has_filtered}
 use Rattle.cq_meaning_laws.specs.WholeRules.{Step, steps_of, no_results, with_steps, has_large_step, IsSafeTogether}
 use Rattle.cq_meaning_laws.proofs.WholeLaws.{results_in_steps}
-use Rattle.cq_meaning_laws.proofs.WithinLaws.{all_both}
 use Rattle.cq_task_laws.specs.Partial.{partial}
 use Rattle.cq_task_laws.specs.Merging.{joined, GathersTo, has_large_together}
 use Rattle.cq_task_laws.specs.Gathering.{kept_of, has_large_over, IsSafeOver, IsNonEmpty, Serves}
@@ -51,14 +52,6 @@ use Rattle.cq_groups.proofs.GatherLaws.{merged_rows}
 use Rattle.cq_groups.proofs.QueryLaws.{each_of}
 use Rattle.cq_groups.proofs.StepLaws.{no_steps}
 use Rattle.cq_groups.proofs.TaskReads.{tasks_in, counted, tasks_ascend, own_at, beside_at, all_seen, own_are, beside_are, held, read_at, reads_agree, whole_agrees, can, only_there, read_within}
-
-or_yes : (b : Bool) → (b || true) ≡ true
-or_yes true = refl
-or_yes false = refl
-
-and_both : (a b : Bool) → (a && b) ≡ true → (a ≡ true) × (b ≡ true)
-and_both true b h = (refl, h)
-and_both false b h = cc
 
 -- ---- a FROM that pushdown takes
 
@@ -251,7 +244,7 @@ module _ (c : Contents) (q : Query) (rows : ℕ → ℕ → List Row) (placed : 
         let big = tasks_large q [] (kind_by c q) (map task ts) from_whole cut (some_of task ts count.0) (few task) (moved h) in
         let whole_big : is_large q (whole c (held c tables rows gs)) [] ≡ true = elim big [
           | inl task_big ↦ below task_big.0 task_big.1 task_big.2
-          | inr own ↦ large_over q (whole c (held c tables rows gs)) [] ∙ (ap (λ b. is_large_from (from_of q) (whole c (held c tables rows gs)) [] || b) own ∙ or_yes (is_large_from (from_of q) (whole c (held c tables rows gs)) []))
+          | inr own ↦ large_over q (whole c (held c tables rows gs)) [] ∙ (ap (λ b. is_large_from (from_of q) (whole c (held c tables rows gs)) [] || b) own ∙ or_true (is_large_from (from_of q) (whole c (held c tables rows gs)) []))
         ] in
         (tables_suffice q (merged seen) (whole c (held c tables rows gs)) all_agree).3
         (ap (is_large q (whole c (held c tables rows gs))) (no_results_of q (whole c (held c tables rows gs)) simple) ∙ whole_big);

@@ -3,6 +3,8 @@ use Rattle.std.proofs.Common.{◌≡◌, ◌<◌, ◌≤◌, length, inl, inr, �
 use Rattle.std.specs.Prelude.{nat_eq}
 use Rattle.std.proofs.lemmas.Bool.Decides.{eqb_tells}
 use Rattle.std.proofs.lemmas.Bool.{eq-eqb}
+use Rattle.cq_value.proofs.Truths.{two_ways}
+use Rattle.cq_value.proofs.Lists.{all_filtered}
 use Rattle.cq_value.specs.declared.value.Value.{Value}
 use Rattle.cq_tree.specs.declared.journal.Who.{Who}
 use Rattle.cq_tree.specs.declared.query.FromTree.{FromTree, Table}
@@ -32,7 +34,6 @@ use Rattle.cq_history.specs.Log.{IsAnswered}
 use Rattle.cq_history.specs.Refusals.{rules, refusal_in, is_alone}
 use Rattle.cq_history.specs.Run.{Run}
 use Rattle.cq_history.proofs.Demands.{wanted_answer, wanted_large}
-use Rattle.cq_history.proofs.Lists.{all_filtered, two_ways}
 use Rattle.cq_groups.specs.declared.shard.Shard.{Shard}
 use Rattle.cq_groups.specs.Reads.{Look, CanLook, captured_of, captured_by, groups_in, rows_in, AreShaped, IsComputable, Computes, IsComputed, done, stopped, failed}
 use Rattle.cq_groups.specs.Looking.{looks_of, merged, one_shard, shard_alone, look_at, wanted_of, environment_at}

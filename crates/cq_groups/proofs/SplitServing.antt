@@ -4,6 +4,8 @@ use Rattle.std.specs.Prelude.{◌⊎◌, ◌&&◌, ◌||◌, nat_le, nat_lt, if�
 use Rattle.std.specs.List.{flat_map, list_any, range_with_len, AllByRecursion}
 use Rattle.std.proofs.lemmas.List.{length-map}
 use Rattle.std.proofs.lemmas.List.FromFn.{length-range_with_len}
+use Rattle.cq_value.proofs.Lists.{map_map}
+use Rattle.cq_value.proofs.Truths.{and_both, two_ways}
 use Rattle.cq_tree.specs.declared.plan.Combine.{Combine}
 use Rattle.cq_tree.specs.declared.plan.Combine.TheVariants.{Nothing, RowsOnly, Groups}
 use Rattle.cq_tree.specs.declared.plan.Planner.{Planner}
@@ -16,7 +18,6 @@ use Rattle.cq_meaning.specs.Queries.{from_rows, AnswersWith}
 use Rattle.cq_meaning.specs.Limits.{is_large, is_large_from}
 use Rattle.cq_meaning.specs.Results.{results_of}
 use Rattle.cq_meaning.specs.Safety.{IsSafeQuery}
-use Rattle.cq_meaning.proofs.MapLaws.{map_map}
 use Rattle.cq_meaning.proofs.Reorder.{Reordered}
 use Rattle.cq_meaning_laws.specs.WholeRules.{steps_of}
 use Rattle.cq_task_laws.specs.Merging.{joined, GathersTo}
@@ -45,16 +46,11 @@ use Rattle.cq_repartition.specs.Parted.{keys_if_parted}
 use Rattle.cq_repartition.specs.declared.repartition.Repartition.{Repartition}
 use Rattle.cq_history.specs.Computable.{column_bits, AreWithin, IsReadable}
 use Rattle.cq_history.specs.Refusals.{is_alone}
-use Rattle.cq_history.proofs.Lists.{two_ways}
 use Rattle.cq_groups.specs.Looking.{are_laid, joins_plainly}
 use Rattle.cq_groups.specs.Tasks.{CanServe, SplitServes}
 use Rattle.cq_groups.proofs.JoinLaws.{laid_wide}
 use Rattle.cq_groups.proofs.ServeLaws.{no_results_of, safe_alone, over_together, all_of, some_of}
 use Rattle.cq_groups.proofs.StepLaws.{no_steps}
-
-and_both : (a b : Bool) → (a && b) ≡ true → (a ≡ true) × (b ≡ true)
-and_both true b h = (refl, h)
-and_both false b h = cc
 
 -- tables that are joined have no subquery, and so no group that is too large
 plain_small : (f : FromTree) → is_plain f ≡ true → (db : Tables) (rs : List (List Row)) → is_large_from f db rs ≡ false

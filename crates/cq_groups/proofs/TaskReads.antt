@@ -4,6 +4,7 @@ use Rattle.std.specs.Prelude.{not, ◌&&◌, ◌||◌, nat_eq}
 use Rattle.std.specs.List.{flat_map, list_any, AllByRecursion}
 use Rattle.std.proofs.lemmas.Bool.{eq-eqb}
 use Rattle.std.proofs.lemmas.Bool.Decides.{eqb_tells}
+use Rattle.cq_value.proofs.Truths.{two_ways}
 use Rattle.cq_meaning.specs.Lists.{Has}
 use Rattle.cq_meaning.specs.Values.{Row, Tables, table_rows}
 use Rattle.cq_meaning.specs.Widths.{AllWithin}
@@ -19,7 +20,6 @@ use Rattle.cq_pushdown_laws.specs.Tables.{task_at, task_tables, HoldsOnly}
 use Rattle.cq_pushdown_laws.proofs.Spread.{has_among, task_table_at}
 use Rattle.cq_history.specs.Computable.{column_bits, AreWithin}
 use Rattle.cq_history.specs.Looks.{has_shard, has_shard_at}
-use Rattle.cq_history.proofs.Lists.{two_ways}
 use Rattle.cq_history.proofs.Wholes.{whole_by_groups}
 use Rattle.cq_groups.specs.Looking.{with_table, tables_there, looks_by, gathered}
 use Rattle.cq_groups.specs.Tasks.{is_distributed, own_of, beside_of, count_tasks}

@@ -1,6 +1,8 @@
 -- A query's way to be computed serves for what its looks read.
 use Rattle.std.proofs.Common.{◌≡◌, ◌<◌, inl, inr, ℕ, true, List, [], ◌∷◌, ◌++◌, map, refl, sym, ◌∙◌, ap, subst, Option, None, Some, slice_get}
 use Rattle.std.specs.List.{AllByRecursion}
+use Rattle.cq_value.proofs.Lists.{all_filtered}
+use Rattle.cq_value.proofs.Truths.{two_ways}
 use Rattle.cq_tree.specs.declared.plan.Combine.{Combine}
 use Rattle.cq_tree.specs.declared.query.Query.{Query}
 use Rattle.cq_tree.specs.declared.statement.Statement.TheVariants as statement
@@ -24,7 +26,6 @@ use Rattle.cq_history.specs.Journals.{journal_in}
 use Rattle.cq_history.specs.Legality.{IsLegal}
 use Rattle.cq_history.specs.Looks.{has_shard}
 use Rattle.cq_history.specs.Refusals.{is_alone}
-use Rattle.cq_history.proofs.Lists.{two_ways, all_filtered}
 use Rattle.cq_history.proofs.Sums.{among_here, among_more}
 use Rattle.cq_groups.specs.Reads.{Look, captured_of, captured_by, AreShaped}
 use Rattle.cq_groups.specs.Looking.{looks_of, looks_by, tables_there, joins_plainly, merged}

@@ -1,6 +1,7 @@
 -- Deeds stay in the journals, and what stands by a deed stands at every choice of places.
 use Rattle.std.proofs.Common.{◌≡◌, ◌<◌, ◌≤◌, inl, inr, ℕ, Bool, true, false, List, [], ◌∷◌, length, refl, sym, ◌∙◌, ap, subst, arith, Some, length-append}
 use Rattle.std.proofs.lemmas.Bool.{cases_lt}
+use Rattle.cq_value.proofs.Lists.{all_weaker}
 use Rattle.cq_value.specs.Tables.{rows_of, empty_table}
 use Rattle.cq_tree.specs.declared.journal.Who.{Who}
 use Rattle.cq_tree.specs.declared.journal.Entry.{Entry}
@@ -15,7 +16,6 @@ use Rattle.cq_history.specs.Standing.{in_journals}
 use Rattle.cq_history.specs.Deeds.{Deed, MaySee, first_seen, in_deed, HasDeed, GoesOn}
 use Rattle.cq_history.specs.Laws.{DeedsStay, GrowsByOther, DeedsStand}
 use Rattle.cq_history.proofs.Entries.{entries_by, index_beyond, apart, before-take, take_within, with_list, steps_kinds, steps_none, steps_later, first_step, all_own, look_later}
-use Rattle.cq_history.proofs.Lists.{all_weaker}
 use Rattle.cq_history.proofs.Replays.{can_hold}
 use Rattle.cq_history.proofs.Later.{can_hold_before}
 use Rattle.cq_history.proofs.Views.{stands_map}

@@ -4,6 +4,8 @@ use Rattle.std.specs.Prelude.{nat_eq, ⊤}
 use Rattle.std.specs.List.{AllByRecursion, sum_by}
 use Rattle.std.proofs.lemmas.Bool.{eqb-true}
 use Rattle.std.proofs.lemmas.List.{map-append}
+use Rattle.cq_value.proofs.Lists.{all_weaker}
+use Rattle.cq_value.proofs.Truths.{two_ways}
 use Rattle.cq_value.specs.Tables.{rows_of}
 use Rattle.cq_tree.specs.declared.journal.Who.{Who}
 use Rattle.cq_tree.specs.declared.journal.Entry.{Entry}
@@ -42,7 +44,6 @@ use Rattle.cq_history.specs.Legality.{IsLegalKind, CanFollow, IsLegalStep}
 use Rattle.cq_history.specs.Standing.{Enters, most_rows, reads, counted, HasIds, AreReady, IsRefusedIn, tag_of, RunsUnless}
 use Rattle.cq_history.specs.Deeds.{Deed, first_seen, MaySee, in_deed, Does}
 use Rattle.cq_history.specs.Laws.{IsFitting, IsWriting, reply_over as reply_over_journal, MakesEach, MadeDoes, WereReady, RefusedDoes, LacksDoes, seen_whole, IsReading, ReadDoes, LargeDoes, GrowsOn}
-use Rattle.cq_history.proofs.Lists.{two_ways, all_weaker}
 use Rattle.cq_history.proofs.Sums.{among_here, among_only}
 use Rattle.cq_history.proofs.Replies.{reply_by_rows, reply_counted}
 use Rattle.cq_history.proofs.Writes.{not_local, parts_are_made, part_is_refused}

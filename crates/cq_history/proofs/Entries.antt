@@ -6,13 +6,14 @@ use Rattle.std.proofs.Math.Bool.{and-false}
 use Rattle.std.proofs.lemmas.Bool.Decides.{eqb_tells}
 use Rattle.std.proofs.lemmas.List.{map-append}
 use Rattle.std.proofs.lemmas.List.Elements.{filter-append}
+use Rattle.cq_value.proofs.Lists.{all_append}
+use Rattle.cq_value.proofs.Truths.{two_ways}
 use Rattle.cq_tree.specs.declared.journal.Who.{Who}
 use Rattle.cq_tree.specs.declared.journal.Entry.{Entry}
 use Rattle.cq_tree.specs.declared.journal.EntryKind.{EntryKind}
 use Rattle.cq_journal.specs.Records.{Journal}
 use Rattle.cq_history.specs.Journals.{made_by, kinds_of, has_some, before, Step, steps_after, steps_of, kinds_in, IsLook, with_entries, consecutive}
 use Rattle.cq_history.specs.Run.{Run, precedes}
-use Rattle.cq_history.proofs.Lists.{two_ways, all_append}
 
 -- the entries of one statement
 abbrev pub entries_by : Who → List EntryKind → List Entry

@@ -2,6 +2,7 @@
 use Rattle.std.proofs.Common.{suc, zero, ◌≡◌, ◌+◌, ◌<◌, ◌≤◌, ◌⊎◌, inl, inr, ℕ, Bool, true, false, cond, List, [], ◌∷◌, length, refl, sym, ap, subst, arith, Some, None, Option}
 use Rattle.std.specs.Prelude.{pos}
 use Rattle.std.proofs.lemmas.Bool.Decides.{eqb_tells}
+use Rattle.cq_value.proofs.Truths.{two_ways}
 use Rattle.cq_value.specs.Tables.{empty_table}
 use Rattle.cq_value.specs.declared.value.Value.TheVariants.{Int}
 use Rattle.cq_value.specs.declared.schema.Kind.TheVariants.{Bigint}
@@ -30,7 +31,6 @@ use Rattle.cq_history.specs.Standing.{Stands, RunsUnless, IsTagOf, in_journals, 
 use Rattle.cq_history.specs.Deeds.{IsFresh, Grows}
 use Rattle.cq_history.specs.Log.{IsAnswered}
 use Rattle.cq_history.specs.Laws.{IsWriting, reply_over}
-use Rattle.cq_history.proofs.Lists.{two_ways}
 use Rattle.cq_history.proofs.Sums.{among_only}
 use Rattle.cq_history.proofs.Entries.{index_beyond}
 use Rattle.cq_history.proofs.Answering.{made_is_answered}

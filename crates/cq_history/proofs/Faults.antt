@@ -5,6 +5,7 @@ use Rattle.std.specs.List.{AllByRecursion}
 use Rattle.std.proofs.lemmas.Bool.Decides.{eqb_tells, nat_tests}
 use Rattle.std.proofs.lemmas.Bool.{eq-eqb}
 use Rattle.std.proofs.lemmas.List.{append-nil, append_assoc}
+use Rattle.cq_value.proofs.Truths.{two_ways}
 use Rattle.cq_tree.specs.declared.journal.EntryKind.TheVariants as entry
 use Rattle.cq_tree.specs.declared.statement.Statement.TheVariants as statement
 use Rattle.cq_store.specs.Stores.{StoreState, Rose}
@@ -20,7 +21,6 @@ use Rattle.cq_history.specs.Faults.{below, Range, range_in, ranges_of, Climbs, A
 use Rattle.cq_history.specs.Deeds.{in_deed, deed_over, first_seen}
 use Rattle.cq_history.specs.Journals.{Step}
 use Rattle.cq_history.specs.Laws.{look_at, ReadFails, WriteFails, StoreGoesOn, OtherAccounts, FaultAccounts, NewAccounts}
-use Rattle.cq_history.proofs.Lists.{two_ways}
 use Rattle.cq_history.proofs.Doing.{enters_each, legal_each}
 use Rattle.cq_history.proofs.Answering.{makes_each, sees}
 use Rattle.cq_history.proofs.Script.{deed_is_answered, grows_none}

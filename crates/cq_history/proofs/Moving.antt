@@ -6,6 +6,7 @@ use Rattle.std.proofs.lemmas.Bool.Decides.{eqb_tells}
 use Rattle.std.proofs.lemmas.Bool.{eq-eqb}
 use Rattle.std.proofs.lemmas.List.{drop_all, length-append}
 use Rattle.std.proofs.lemmas.List.Sums.{fold-append}
+use Rattle.cq_value.proofs.Truths.{two_ways}
 use Rattle.cq_tree.specs.declared.journal.Who.{Who}
 use Rattle.cq_tree.specs.declared.journal.Entry.{Entry}
 use Rattle.cq_tree.specs.declared.journal.EntryKind.{EntryKind}
@@ -36,7 +37,6 @@ use Rattle.cq_answer.specs.declared.fault.What.TheVariants as what
 use Rattle.cq_history.specs.Laws.{look_at, idle, in_one, IsGivenUp, MovesAlone, IsFound, MoveIsAnswered, MoveIsRefused, IsOfNoMove, IsNoMove, OthersMoveNone, FailedKeepsCatalog}
 use Rattle.cq_history.proofs.Answering.{sees}
 use Rattle.cq_history.proofs.Explaining.{among_only, among_numbers, sees_all}
-use Rattle.cq_history.proofs.Lists.{two_ways}
 use Rattle.cq_history.proofs.Script.{deed_is_answered, idle_is_answered, grows_none, grows_as}
 use Rattle.cq_history.proofs.Tables.{first_none}
 

@@ -2,6 +2,7 @@
 use Rattle.std.proofs.Common.{◌≡◌, ◌+◌, ◌-◌, ◌<◌, ◌≤◌, inl, inr, ℕ, List, length, refl, sym, ◌∙◌, ap, subst, arith, Some, Option, slice_get}
 use Rattle.std.specs.Prelude.{◌%◌}
 use Rattle.std.proofs.lemmas.Bool.{cases_lt}
+use Rattle.cq_value.proofs.Lists.{got}
 use Rattle.cq_tree.specs.declared.journal.Who.{Who}
 use Rattle.cq_catalog.specs.Contents.{Contents, place_in, first_group_in, count_in}
 use Rattle.cq_catalog.specs.Placement.{place_at}
@@ -15,7 +16,6 @@ use Rattle.cq_history.specs.Journals.{journal_in, Kinds, none}
 use Rattle.cq_history.specs.Deeds.{Grows, deed_over}
 use Rattle.cq_history.specs.Log.{IsLaidOut}
 use Rattle.cq_history.specs.Laws.{GoesOnKeyed, OpensGroups, OpensLaidOut, CatalogIsAnswered, look_at}
-use Rattle.cq_history.proofs.Lists.{got}
 use Rattle.cq_history.proofs.Script.{looked_at}
 use Rattle.cq_history.proofs.Tables.{there_is}
 

@@ -6,6 +6,8 @@ use Rattle.std.proofs.lemmas.Bool.Decides.{eqb_tells, nat_tests}
 use Rattle.std.proofs.lemmas.Bool.{eq-eqb}
 use Rattle.std.proofs.lemmas.List.{append_assoc}
 use Rattle.std.proofs.lemmas.List.Sums.{fold-append}
+use Rattle.cq_value.proofs.Lists.{all_append}
+use Rattle.cq_value.proofs.Truths.{and_both, is_at_most, is_below, two_ways}
 use Rattle.cq_tree.specs.declared.journal.Who.{Who}
 use Rattle.cq_tree.specs.declared.journal.Entry.{Entry}
 use Rattle.cq_tree.specs.declared.journal.EntryKind.{EntryKind}
@@ -40,7 +42,6 @@ use Rattle.cq_history.specs.Rebalances.{loads_in, read_for, plan_names, plan_row
 use Rattle.cq_history.specs.Standing.{View, Enters, reads, RunsUnless, IsPlanned, Plans, AreStepsOf, EntersMoves, NoStep, StopsIn, FailsMove}
 use Rattle.cq_history.specs.Deeds.{Deed, in_deed, first_seen, deed_over, IsFresh}
 use Rattle.cq_history.specs.Laws.{look_at, in_one, IsGivenUp, IsPlanOver, PlanIsAnswered, FailsPlan, PlanFails, PlanGoesOn, GrowsInGroup, kinds_of_move, then_in, behind, IsMovable, IsMadeOver, MovesInTurn, MovesGoOn, MovesSettle, DistributedIsOpened, NextIsMovable, GivenUpSettles, RebalanceIsAnswered, GivesUp, FailsAlone, RebalanceIsCutOff}
-use Rattle.cq_history.proofs.Lists.{two_ways, all_append}
 use Rattle.cq_history.proofs.Entries.{entries_by, index_beyond, kinds_consecutive}
 use Rattle.cq_history.proofs.Doing.{with_both}
 use Rattle.cq_history.proofs.Answering.{sees}
@@ -462,23 +463,13 @@ next_is_movable by_size run c who old nodes sizes made next more kinds plan chai
       distributed = opened next.group n.distributed;
     }
 
-both : (a b : Bool) → (a && b) ≡ true → (a ≡ true) × (b ≡ true)
-both true b h = (refl, h)
-both false b h = cc
-
-is_low : (m n : ℕ) → nat_le m n ≡ true → m ≤ n
-is_low m n h = grind (arith, nat_tests, h)
-
-is_below : (m n : ℕ) → nat_lt m n ≡ true → m < n
-is_below m n h = grind (arith, nat_tests, h)
-
 module _ (run : Run) (c : Contents) (journals : List Journal) (g : ℕ) (laid : IsLaidOut run c journals) where
   by_place : (p : Place) → (is_distributed_place p && has_shard_at (slice_get c.colocations (colocation_of p)) p g) ≡ true → (journal_in journals g).opening ≢ 0
   by_place Local h = cc
   by_place (Distributed column colocation first_shard) h =
       let co = slice_get c.colocations colocation in
-      let two = both (nat_le (first_group_in co) g) (nat_lt g (first_group_in co + count_in co)) h in
-      let is = laid.opened colocation g (is_low (first_group_in co) g two.0) (is_below g (first_group_in co + count_in co) two.1) in
+      let two = and_both (nat_le (first_group_in co) g) (nat_lt g (first_group_in co + count_in co)) h in
+      let is = laid.opened colocation g (is_at_most (first_group_in co) g two.0) (is_below g (first_group_in co + count_in co) two.1) in
       λ zero. omega (arith, is, zero)
   by_place (Reference group shard) h = cc
 

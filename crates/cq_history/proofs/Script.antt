@@ -5,6 +5,8 @@ use Rattle.std.specs.List.{AllByRecursion}
 use Rattle.std.proofs.lemmas.Bool.{cases_lt, eqb-true}
 use Rattle.std.proofs.Math.Bool.{and-false}
 use Rattle.std.proofs.lemmas.Bool.Decides.{nat_tests}
+use Rattle.cq_value.proofs.Lists.{all_more, all_weaker, all_append}
+use Rattle.cq_value.proofs.Truths.{two_ways}
 use Rattle.cq_value.specs.Tables.{rows_of}
 use Rattle.cq_tree.specs.declared.journal.Who.{Who}
 use Rattle.cq_tree.specs.declared.journal.Entry.{Entry}
@@ -21,7 +23,7 @@ use Rattle.cq_history.specs.Legality.{IsLegalKind, CanFollow, IsLegalStep, IsLeg
 use Rattle.cq_history.specs.Deeds.{Deed, Does, HasDeed, IsFresh, Grows, Follows, deed_over}
 use Rattle.cq_history.specs.Log.{who_of, NumberedFrom, IsInOrder, IsOfFirst, IsLaidOut, IsWhole, AllDoneFrom, IsConsistent, next_who, answered_by}
 use Rattle.cq_history.specs.Laws.{LogBegins, LogGoesOn, AnswersGoOn, IdleIsAnswered, DeedIsAnswered, idle, look_at, StaysLaidOut, LogStands, BlockIsDone, DoneStands}
-use Rattle.cq_history.proofs.Lists.{two_ways, got_more, all_more, all_weaker, all_append}
+use Rattle.cq_history.proofs.Lists.{got_more}
 use Rattle.cq_history.proofs.Entries.{entries_by, index_beyond, kinds_append, kinds_own, before_fresh, three, with_list, take_all, drop_all, steps_none, steps_more, no_kinds, kinds_consecutive, all_own}
 use Rattle.cq_history.proofs.Deeds.{deeds_stay, grows_by_other, deeds_stand}
 use Rattle.cq_history.proofs.Later.{continues_same, continues_on, legal_later}

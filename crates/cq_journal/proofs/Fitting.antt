@@ -3,6 +3,8 @@ use Rattle.std.proofs.Common.{◌≡◌, ◌≢◌, ◌⊎◌, ◌^◌, ◌<◌,
 use Rattle.std.specs.Prelude.{filter, not, fold, ⊤, if◌then◌else◌}
 use Rattle.std.specs.List.{AllByRecursion, list_all}
 use Rattle.std.proofs.lemmas.Bool.Decides.{eqb_tells, nat_tests}
+use Rattle.cq_value.proofs.Lists.{all_append, all_filtered, all_map, all_weaker}
+use Rattle.cq_value.proofs.Truths.{and_both}
 use Rattle.cq_value.specs.declared.value.Value.{Value}
 use Rattle.cq_value.specs.declared.value.Value.TheVariants.{Null, Int, Text}
 use Rattle.cq_value.specs.declared.schema.Kind.{Kind}
@@ -22,11 +24,6 @@ use Rattle.cq_meaning.specs.Effects.{effect, table_of, inserts, repeats, numbere
 use Rattle.cq_meaning.specs.Widths.{bits_of_kind, IsBelow, Within}
 use Rattle.cq_journal.specs.Journals.{entered, replay_from, replay}
 use Rattle.cq_journal.specs.Fitting.{IsOfSort, IsOfKind, AreOfKinds, Fits, InsertFits, InsertsFit, SetsSort, WriteSetsSorts, EntrySetsSorts, UpdatesSetSorts}
-use Rattle.cq_journal.proofs.Lists.{all_append, all_filter, all_map, all_weaker}
-
-both : (a b : Bool) → (a && b) ≡ true → (a ≡ true) × (b ≡ true)
-both true b h = (refl, h)
-both false b h = absurd (cc h)
 
 -- sorts, and ranges
 
@@ -47,7 +44,7 @@ kinds_of [] [] h r = tt
 kinds_of [] (v ∷ vs) h r = absurd h
 kinds_of (k ∷ ks) [] h r = absurd h
 kinds_of (k ∷ ks) (v ∷ vs) h r =
-    let parts = both (fits_kind k v) (fits_kinds ks vs) r in
+    let parts = and_both (fits_kind k v) (fits_kinds ks vs) r in
     ((h.0, parts.0), kinds_of ks vs h.1 parts.1)
 
 sorts_set : (ks : List Kind) (row : Row) (n : ℕ) (v : Value) → AreOfSorts ks row → ((k : Kind) → slice_get ks n ≡ Some k → IsOfSort k v) → AreOfSorts ks (slice_set row n v)
@@ -84,7 +81,7 @@ module _ (shape : Shape) (filter_ : Cond) (sets : List Set) (sorts : (row : Row)
           (fit_kinds shape.kinds rest ≡ true → AllByRecursion (PairFits shape) (map (renewed filter_ sets) ps)) →
           PairFits shape (cond b (p.0, updated sets p.1) p) × AllByRecursion (PairFits shape) (map (renewed filter_ sets) ps)
       by_cases true e f =
-          let parts = both (fits_kinds shape.kinds (updated sets p.1)) (list_all (fits_kinds shape.kinds) rest) e in
+          let parts = and_both (fits_kinds shape.kinds (updated sets p.1)) (list_all (fits_kinds shape.kinds) rest) e in
           (kinds_of shape.kinds (updated sets p.1) (sorts_updated shape.kinds p.1 p.1 sets (sorts_of shape.kinds p.1 h.0) (sorts p.1 h.0)) parts.0, f parts.1)
       by_cases false e f = (h.0, f e)
 
@@ -98,7 +95,7 @@ effect_fits (Update table filter_ sets) t shape fits sorts h = by_cases (fit_kin
     by_cases : (b : Bool) → fit_kinds shape.kinds (updates filter_ sets t.pairs) ≡ b → AllByRecursion (PairFits shape) (cond b (record { next = t.next; pairs = map (renewed filter_ sets) t.pairs }) t).pairs
     by_cases true e = renewed_fits shape filter_ sets sorts t.pairs e h
     by_cases false e = h
-effect_fits (Remove table filter_) t shape fits sorts h = all_filter (PairFits shape) (λ p. not (is_kept filter_ p)) t.pairs h
+effect_fits (Remove table filter_) t shape fits sorts h = all_filtered (PairFits shape) (λ p. not (is_kept filter_ p)) t.pairs h
 
 -- entries
 

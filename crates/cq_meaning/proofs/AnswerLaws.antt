@@ -39,7 +39,3 @@ mean_answers (Query' cs ctes ss subs from filter_ grouped keys aggs having items
     let full : List Row = distinct_if distinct (item_rows filter_ grouped keys aggs having items rs (from_rows from 0 db rs)) in
     let lt : Row → Row → Bool = λ x y. is_lt (keys_cmp order x y) in
     (sorted (keys_cmp order) full, sorted_moves lt full, sorted_up lt (keys_weak order) full, refl)
-
-pub if_ok_map : {T E : Type 0} (r : Result T E) (P Q : T → Type 0) → ((x : T) → P x → Q x) → IfOk r P → IfOk r Q
-if_ok_map (Ok x) P Q f h = f x h
-if_ok_map (Err e) P Q f h = tt

@@ -6,6 +6,7 @@ use Rattle.std.specs.List.{list_any}
 use Rattle.std.proofs.lemmas.Cmp.{tied_itself}
 use Rattle.std.proofs.lemmas.List.Sums.{fold_push}
 use Rattle.std.proofs.lemmas.Map.Lookups.{exact_signed, exact_bytes}
+use Rattle.cq_value.proofs.Truths.{not_true as not_is}
 use Rattle.cq_value.specs.declared.value.Value.{Value}
 use Rattle.cq_value.specs.declared.value.Value.TheVariants.{Null, Int, Text}
 use Rattle.cq_value.specs.Order.{value_cmp}
@@ -144,13 +145,6 @@ module _ {X : Type 0} where
   filter_all p [] h = refl
   filter_all p (x ∷ xs) h = rw (h x (inl refl)) (ap (λ us. x ∷ us) (filter_all p xs (λ y k. h y (inr k))))
 
-pub filter_map : {X Y : Type 0} (p : Y → Bool) (f : X → Y) (xs : List X) → filter p (map f xs) ≡ map f (filter (λ x. p (f x)) xs)
-filter_map p f [] = refl
-filter_map p f (x ∷ xs) = elim (p (f x)) as (λ b. cond b (f x ∷ filter p (map f xs)) (filter p (map f xs)) ≡ map f (cond b (x ∷ filter (λ x. p (f x)) xs) (filter (λ x. p (f x)) xs))) [
-  | true ↦ ap (λ us. f x ∷ us) (filter_map p f xs)
-  | false ↦ filter_map p f xs
-]
-
 -- the first of the rows that are the same
 
 -- a loop's step: the row goes last, where it isn't there
@@ -175,10 +169,6 @@ has_any y (d ∷ done) (inr h) = elim (same_row y d) as (λ b. (b || list_any (s
 any_push : (y d : Row) (done : List Row) → list_any (same_row y) (done ++ d ∷ []) ≡ (list_any (same_row y) done || same_row y d)
 any_push y d [] = elim (same_row y d) as (λ b. (b || false) ≡ (false || b)) [ true ↦ refl | false ↦ refl ]
 any_push y d (c ∷ done) = elim (same_row y c) as (λ b. (b || list_any (same_row y) (done ++ d ∷ [])) ≡ ((b || list_any (same_row y) done) || same_row y d)) [ true ↦ refl | false ↦ any_push y d done ]
-
-not_is : (b : Bool) → not b ≡ true → b ≡ false
-not_is true e = cc
-not_is false e = refl
 
 pub differs_is : (x y : Row) → differs x y ≡ true → same_row x y ≡ false
 differs_is x y e = not_is (same_row x y) e

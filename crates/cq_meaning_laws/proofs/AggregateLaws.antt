@@ -16,9 +16,10 @@ use Rattle.cq_meaning.specs.Values.{Row, same_row}
 use Rattle.cq_meaning.specs.Expressions.{value_of}
 use Rattle.cq_meaning.specs.Groups.{aggregate, group_row, groups_by, distinct, group_with, known_values, added, lesser_of, greater_of, is_known}
 use Rattle.std.proofs.Math.IntN.{+ℤ_comm, +ℤ_assoc}
+use Rattle.cq_value.proofs.Lists.{map_map}
 use Rattle.cq_meaning.proofs.Reorder.{Reordered, none, kept, turned, then, filtered, mapped, folded}
 use Rattle.cq_meaning.proofs.RowLaws.{value_exact, true_not_false, distinct_again}
-use Rattle.cq_meaning.proofs.MapLaws.{map_map, map_same}
+use Rattle.cq_meaning.proofs.MapLaws.{map_same}
 
 -- the greater of two, the first where they tie
 module _ {X : Type 0} (lt : X → X → Bool) (o : IsStrictWeakOrder lt) (exact : (x y : X) → lt x y ≡ false → lt y x ≡ false → x ≡ y) where

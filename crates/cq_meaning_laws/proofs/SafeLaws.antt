@@ -4,6 +4,8 @@ use Rattle.std.specs.Prelude.{filter, fold, ⊤, All, ◌||◌}
 use Rattle.std.specs.Ordering.{is_lt}
 use Rattle.std.specs.List.{AllByRecursion, flat_map, list_any}
 use Rattle.std.proofs.lemmas.List.Elements.{All-from_recursion}
+use Rattle.cq_value.proofs.Lists.{all_map, all_both}
+use Rattle.cq_value.proofs.Truths.{or_neither}
 use Rattle.cq_value.specs.Order.{value_cmp}
 use Rattle.cq_value.specs.Tables.{Pair}
 use Rattle.cq_value.specs.declared.value.Value.{Value}
@@ -32,11 +34,7 @@ use Rattle.cq_meaning.specs.Widths.{bits, bits_of_aggregate, group_bits, input_b
 use Rattle.cq_meaning.specs.Effects.{IsSafeWrite}
 use Rattle.cq_meaning_laws.specs.WholeRules.{IsSafeTogether}
 use Rattle.cq_meaning_laws.proofs.WidthLaws.{below, safe, safe_condition, sum_below, fits_value, same_length}
-use Rattle.cq_meaning_laws.proofs.WithinLaws.{all_filter, all_append, all_take, all_map, all_both, all_distinct, all_distinct_if, all_sorted, all_of, within_append, within_nulls, within_product, within_left, within_cut}
-
-pub either : (a b : Bool) → (a || b) ≡ false → (a ≡ false) × (b ≡ false)
-either true b e = cc
-either false b e = (refl, e)
+use Rattle.cq_meaning_laws.proofs.WithinLaws.{all_filter, all_append, all_take, all_distinct, all_distinct_if, all_sorted, all_of, within_append, within_nulls, within_product, within_left, within_cut}
 
 module _ (results : Results) where
   -- over rows within widths
@@ -144,7 +142,7 @@ module _ (results : Results) where
 
   groups_small : (gs : List Group) → list_any is_large_group gs ≡ false → AllByRecursion IsSmall gs
   groups_small [] e = tt
-  groups_small (g ∷ gs) e = let p = either (is_large_group g) (list_any is_large_group gs) e in (grind (arith, p.0), groups_small gs p.1)
+  groups_small (g ∷ gs) e = let p = or_neither (is_large_group g) (list_any is_large_group gs) e in (grind (arith, p.0), groups_small gs p.1)
 
   within_aggregates : (ks : List ℕ) (g : Group) (aggs : List Agg) → AllWithin ks g.rows → IsSmall g → AllByRecursion (IsBoundAggregate ks (length results)) aggs → Within (map (bits_of_aggregate ks) aggs) (map (aggregate results g.rows) aggs)
   within_aggregates ks g [] w few h = tt
@@ -251,21 +249,21 @@ module _ (cs : Columns) (db : Tables) (results : Results) (holds : Holds cs db r
     from_fits ahead start (tree.Sub' p (more_of-Query q end_of-Query)) h small = query_fits q h small
     from_fits ahead start (Result i n) h small = holds.in_results i
     from_fits ahead start (Cross' p (more_of-FromTree a end_of-FromTree) q (more_of-FromTree b end_of-FromTree)) h small =
-        let s = either (is_large_from a db results) (is_large_from b db results) small in
+        let s = or_neither (is_large_from a db results) (is_large_from b db results) small in
         within_product (from_bits cs a) (from_bits cs b) (from_rows a start db results) (from_rows b (start + columns_in a) db results) (from_fits ahead start a h.0 s.0) (from_fits (ahead ++ from_bits cs a) (start + columns_in a) b h.1 s.1)
     from_fits ahead start (Inner' p (more_of-FromTree a end_of-FromTree) q (more_of-FromTree b end_of-FromTree) on) h small =
-        let s = either (is_large_from a db results) (is_large_from b db results) small in
+        let s = or_neither (is_large_from a db results) (is_large_from b db results) small in
         all_filter (Within (from_bits cs a ++ from_bits cs b)) (joins on results start) (product (from_rows a start db results) (from_rows b (start + columns_in a) db results))
         (within_product (from_bits cs a) (from_bits cs b) (from_rows a start db results) (from_rows b (start + columns_in a) db results) (from_fits ahead start a h.0 s.0) (from_fits (ahead ++ from_bits cs a) (start + columns_in a) b h.1 s.1))
     from_fits ahead start (Left' p (more_of-FromTree a end_of-FromTree) q (more_of-FromTree b end_of-FromTree) on) h small =
-        let s = either (is_large_from a db results) (is_large_from b db results) small in
+        let s = or_neither (is_large_from a db results) (is_large_from b db results) small in
         subst (λ n. AllWithin (from_bits cs a ++ from_bits cs b) (left_join (joins on results start) n (from_rows a start db results) (from_rows b (start + columns_in a) db results)))
         (sym (columns_are cs (ahead ++ from_bits cs a) b h.1))
         (within_left (from_bits cs a) (from_bits cs b) (joins on results start) (from_rows a start db results) (from_rows b (start + columns_in a) db results) (from_fits ahead start a h.0 s.0) (from_fits (ahead ++ from_bits cs a) (start + columns_in a) b h.1 s.1))
 
     pub query_fits : (q : Query) → IsBoundQuery cs q → is_large q db results ≡ false → AllWithin (output_bits cs q) (meaning q db results)
     query_fits (Query' ts ctes ss subs from filter_ grouped keys aggs having items shown distinct order limit offset names) h small =
-        let s = either (is_large_from from db results) (has_large_group filter_ grouped keys results (from_rows from 0 db results)) small in
+        let s = or_neither (is_large_from from db results) (has_large_group filter_ grouped keys results (from_rows from 0 db results)) small in
         let ks : List ℕ = from_bits cs from in
         let js : List ℕ = map (bits (input_bits ks grouped keys aggs)) items in
         let bound : AreBoundItems ks (length results) filter_ grouped keys aggs having items = subst (λ n. AreBoundItems ks n filter_ grouped keys aggs having items) (sym holds.counted) h.1 in

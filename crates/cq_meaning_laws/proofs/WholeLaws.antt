@@ -3,6 +3,7 @@ use Rattle.std.proofs.Common.{◌≡◌, ℕ, zero, suc, ◌+◌, List, [], ◌�
 use Rattle.std.specs.Prelude.{slice_set, slice_index_or}
 use Rattle.std.specs.List.{AllByRecursion}
 use Rattle.std.proofs.lemmas.List.{length-set, length-replicate}
+use Rattle.cq_value.proofs.Truths.{or_neither}
 use Rattle.cq_tree.specs.declared.query.FromTree.{FromTree, Table, Sub', Result, Cross', Inner', Left', more_of-FromTree, end_of-FromTree}
 use Rattle.cq_tree.specs.declared.query.Query.{Query, Query', Row_of-Query, end_of-Query, more_of-Query}
 use Rattle.cq_meaning.specs.declared.Columns.{Columns}
@@ -12,7 +13,7 @@ use Rattle.cq_meaning.specs.Limits.{is_large}
 use Rattle.cq_meaning.specs.Results.{ins_in, ins_in_from, ins_in_all, ins_in_ctes, count_of, with_ins, with_ins_from, with_ins_all, with_ctes, results_of}
 use Rattle.cq_meaning.specs.Widths.{AllWithin, Holds}
 use Rattle.cq_meaning_laws.specs.WholeRules.{Step, steps_in, steps_in_from, steps_in_all, steps_in_ctes, steps_of, no_results, with_step, with_steps, has_large_step, AreSafeSteps, IsBoundStep, IsBoundStatement, IsSafeTogether, AreTablesWithin, ResultsInSteps, StatementsFit}
-use Rattle.cq_meaning_laws.proofs.SafeLaws.{either, safe_query, query_fits, safe_together, together_weaker}
+use Rattle.cq_meaning_laws.proofs.SafeLaws.{safe_query, query_fits, safe_together, together_weaker}
 
 -- the results of a statement are those of its steps
 
@@ -160,7 +161,7 @@ module _ (cs : Columns) (db : Tables) where
   pub holds_with_steps : (rs : Results) (steps : List Step) → Holds cs db rs → AllByRecursion (IsBoundStep cs) steps → has_large_step db rs steps ≡ false → Holds cs db (with_steps db rs steps)
   holds_with_steps rs [] h b small = h
   holds_with_steps rs (s ∷ more) h b small =
-      let e = either (is_large s.query db rs) (has_large_step db (with_step db rs s) more) small in
+      let e = or_neither (is_large s.query db rs) (has_large_step db (with_step db rs s) more) small in
       holds_with_steps (with_step db rs s) more (holds_with_step rs s h b.0 e.0) b.1 e.1
 
   pub safe_steps : (rs : Results) (steps : List Step) → Holds cs db rs → AllByRecursion (IsBoundStep cs) steps → AreSafeSteps db rs steps

@@ -2,6 +2,7 @@
 use Rattle.std.proofs.Common.{ℕ, zero, suc, Bool, true, false, cond, List, [], ◌∷◌, ◌++◌, map, length, take, drop}
 use Rattle.std.specs.Prelude.{filter, replicate, Option, None, Some}
 use Rattle.std.specs.List.{AllByRecursion}
+use Rattle.cq_value.proofs.Lists.{all_map}
 use Rattle.cq_value.specs.declared.value.Value.TheVariants.{Null}
 use Rattle.cq_meaning.specs.Values.{Row}
 use Rattle.cq_meaning.specs.Joins.{product, or_else, left_join}
@@ -41,14 +42,6 @@ module _ {X : Type 0} (P : X → Type 0) where
   pub all_of : ((x : X) → P x) → (xs : List X) → AllByRecursion P xs
   all_of f [] = tt
   all_of f (x ∷ xs) = (f x, all_of f xs)
-
-pub all_map : {X Y : Type 0} (P : X → Type 0) (Q : Y → Type 0) (f : X → Y) → ((x : X) → P x → Q (f x)) → (xs : List X) → AllByRecursion P xs → AllByRecursion Q (map f xs)
-all_map P Q f h [] k = tt
-all_map P Q f h (x ∷ xs) k = (h x k.0, all_map P Q f h xs k.1)
-
-pub all_both : {X : Type 0} (P Q R : X → Type 0) → ((x : X) → P x → Q x → R x) → (xs : List X) → AllByRecursion P xs → AllByRecursion Q xs → AllByRecursion R xs
-all_both P Q R h [] k l = tt
-all_both P Q R h (x ∷ xs) k l = (h x k.0 l.0, all_both P Q R h xs k.1 l.1)
 
 pub all_distinct : (P : Row → Type 0) (rows : List Row) → AllByRecursion P rows → AllByRecursion P (distinct rows)
 all_distinct P [] h = tt

@@ -48,10 +48,6 @@ some_both R S (x ∷ xs) [] h k = absurd k
 some_both R S (x ∷ xs) (y ∷ ys) h (inl k) = inl (k, h.0)
 some_both R S (x ∷ xs) (y ∷ ys) h (inr k) = inr (some_both R S xs ys h.1 k)
 
-pub if_ok : {T E : Type 0} (r : Result T E) (P Q : T → Type 0) → ((x : T) → P x → Q x) → IfOk r P → IfOk r Q
-if_ok (Ok x) P Q f h = f x h
-if_ok (Err e) P Q f h = tt
-
 pub if_err : {T E : Type 0} (r : Result T E) (P Q : E → Type 0) → ((e : E) → P e → Q e) → IfErr r P → IfErr r Q
 if_err (Ok x) P Q f h = tt
 if_err (Err e) P Q f h = f e h

@@ -2,6 +2,7 @@
 use Rattle.std.proofs.Common.{◌≡◌, ◌∙◌, ◌<◌, ◌≤◌, ℕ, zero, suc, Bool, true, false, cond, if◌then◌else◌, Some, None, List, [], ◌∷◌, ◌++◌, ◌&&◌, inl, inr, IsSome, eq-eqb, nat_le, nat_eq, length, get_or, ◌⊎◌, refl, sym, ap, subst, arith}
 use Rattle.std.specs.List.{HoldsAt, find, remove}
 use Rattle.std.proofs.lemmas.Bool.{le-leb}
+use Rattle.cq_value.proofs.Truths.{both_true}
 use Rattle.cq_store.specs.Stores.{StoreState}
 use Rattle.cq_group.specs.Calls.{Lifted, SomeZip}
 use Rattle.cq_move.specs.Outcomes.{Broke}
@@ -49,9 +50,6 @@ found_around {X} test (y ∷ ys) x e = by (λ k. found_around test ys x k) (test
     by later false t k =
         let rest = later k in
         (rest.0, record { front = y ∷ rest.1.front; back = rest.1.back; whole = ap (λ zs. y ∷ zs) rest.1.whole; rest = ap (λ zs. y ∷ zs) rest.1.rest })
-
-both_true : (a b : Bool) → a ≡ true → b ≡ true → (a && b) ≡ true
-both_true a b h k = ap (λ c. c && b) h ∙ k
 
 some_found : {X : Type 0} (test : X → Bool) (y : X) (ys : List X) (b : Bool) → (b ≡ true) ⊎ IsSome (find test ys) → IsSome (cond b (Some y) (find test ys))
 some_found test y ys true h = refl

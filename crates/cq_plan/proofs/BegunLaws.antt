@@ -2,6 +2,7 @@
 use Rattle.std.proofs.Common.{◌≡◌, ℕ, ◌+◌, ◌<◌, ◌≤◌, List, [], ◌++◌, fold, take, length, get_or, true, false, cond, nat_eq, nat_lt, Option, None, Some, refl, sym, ap, subst, ◌∙◌, arith}
 use Rattle.std.specs.Prelude.{nat_le}
 use Rattle.std.proofs.lemmas.List.Sums.{fold_more, fold-append}
+use Rattle.cq_value.proofs.Truths.{nat_eq_itself, is_below}
 use Rattle.cq_tree.specs.declared.expression.Cond.{Cond}
 use Rattle.cq_tree.specs.declared.query.FromTree.{FromTree, Table, Sub', Result, Cross', Inner', Left', end_of-FromTree, more_of-FromTree}
 use Rattle.cq_meaning.specs.Queries.{columns_in}
@@ -12,9 +13,6 @@ use Rattle.cq_planning.specs.ValueSets.{ValueSet}
 use Rattle.cq_planning.specs.Narrowing.{distribution_in, is_at, right_sets, sets_in, narrowed_by}
 use Rattle.cq_plan.specs.declared.sets.Begun.{Begun}
 use Rattle.cq_plan.specs.Begun.{begun_by, set_there, set_at, set_of, sets_under, one_begun, begun}
-
-nat_eq_itself : (n : ℕ) → nat_eq n n ≡ true
-nat_eq_itself n = grind arith
 
 -- the set of its own distribution column is the narrowed one
 pub own_set : (sets left : ℕ → ValueSet) (low : ℕ) (pairs : List (ℕ × ℕ)) (d : Distribution) (high : ℕ) →
@@ -83,9 +81,6 @@ module _ (c : Contents) (x : ℕ) where
       ∙ (ap (λ o. fold (begun_by x) o (right_begun c sets a b on start)) (afresh sets a start found h)
       ∙ sym (fold-append (begun_by x) None (begun c sets a start) (right_begun c sets a b on start)))
 
-lt_holds : (m n : ℕ) → nat_lt m n ≡ true → m < n
-lt_holds m n h = grind arith
-
 lt_fails : (m n : ℕ) → nat_lt m n ≡ false → n ≤ m
 lt_fails m n h = grind arith
 
@@ -119,17 +114,17 @@ module _ (c : Contents) (x : ℕ) where
   sets_found sets (Result i n) start = one_plain sets start None x
   sets_found sets (Cross' p (more_of-FromTree a end_of-FromTree) q (more_of-FromTree b end_of-FromTree)) start =
       elim (nat_lt x (start + columns_in a)) as (λ t. nat_lt x (start + columns_in a) ≡ t → cond t (sets_in c sets a start x) (sets_in c sets b (start + columns_in a) x) ≡ set_at sets (begun c sets a start ++ begun c sets b (start + columns_in a)) x) [
-        | true ↦ (λ e. sets_found sets a start ∙ sym (ap (set_there sets x) (fold-append (begun_by x) None (begun c sets a start) (begun c sets b (start + columns_in a)) ∙ behind c x sets b (start + columns_in a) (fold (begun_by x) None (begun c sets a start)) (lt_holds x (start + columns_in a) e))))
+        | true ↦ (λ e. sets_found sets a start ∙ sym (ap (set_there sets x) (fold-append (begun_by x) None (begun c sets a start) (begun c sets b (start + columns_in a)) ∙ behind c x sets b (start + columns_in a) (fold (begun_by x) None (begun c sets a start)) (is_below x (start + columns_in a) e))))
         | false ↦ (λ e. sets_found sets b (start + columns_in a) ∙ sym (ap (set_there sets x) (fold-append (begun_by x) None (begun c sets a start) (begun c sets b (start + columns_in a)) ∙ afresh c x sets b (start + columns_in a) (fold (begun_by x) None (begun c sets a start)) (lt_fails x (start + columns_in a) e))))
       ] refl
   sets_found sets (Inner' p (more_of-FromTree a end_of-FromTree) q (more_of-FromTree b end_of-FromTree) on) start =
       elim (nat_lt x (start + columns_in a)) as (λ t. nat_lt x (start + columns_in a) ≡ t → cond t (sets_in c sets a start x) (sets_in c sets b (start + columns_in a) x) ≡ set_at sets (begun c sets a start ++ begun c sets b (start + columns_in a)) x) [
-        | true ↦ (λ e. sets_found sets a start ∙ sym (ap (set_there sets x) (fold-append (begun_by x) None (begun c sets a start) (begun c sets b (start + columns_in a)) ∙ behind c x sets b (start + columns_in a) (fold (begun_by x) None (begun c sets a start)) (lt_holds x (start + columns_in a) e))))
+        | true ↦ (λ e. sets_found sets a start ∙ sym (ap (set_there sets x) (fold-append (begun_by x) None (begun c sets a start) (begun c sets b (start + columns_in a)) ∙ behind c x sets b (start + columns_in a) (fold (begun_by x) None (begun c sets a start)) (is_below x (start + columns_in a) e))))
         | false ↦ (λ e. sets_found sets b (start + columns_in a) ∙ sym (ap (set_there sets x) (fold-append (begun_by x) None (begun c sets a start) (begun c sets b (start + columns_in a)) ∙ afresh c x sets b (start + columns_in a) (fold (begun_by x) None (begun c sets a start)) (lt_fails x (start + columns_in a) e))))
       ] refl
   sets_found sets (Left' p (more_of-FromTree a end_of-FromTree) q (more_of-FromTree b end_of-FromTree) on) start =
       elim (nat_lt x (start + columns_in a)) as (λ t. nat_lt x (start + columns_in a) ≡ t → cond t (sets_in c sets a start x) (right_sets sets (sets_in c sets a start) (distribution_in c b (start + columns_in a)) start (start + columns_in a) on x) ≡ set_at sets (begun c sets a start ++ (right_begun c sets a b on start)) x) [
-        | true ↦ (λ e. sets_found sets a start ∙ sym (ap (set_there sets x) (fold-append (begun_by x) None (begun c sets a start) (right_begun c sets a b on start) ∙ passed (le_false (start + columns_in a) x (lt_holds x (start + columns_in a) e)))))
+        | true ↦ (λ e. sets_found sets a start ∙ sym (ap (set_there sets x) (fold-append (begun_by x) None (begun c sets a start) (right_begun c sets a b on start) ∙ passed (le_false (start + columns_in a) x (is_below x (start + columns_in a) e)))))
         | false ↦ (λ e. at_right sets (sets_in c sets a start) start (equalities (conjuncts on)) (distribution_in c b (start + columns_in a)) (start + columns_in a) x ∙ sym (ap (set_there sets x) (fold-append (begun_by x) None (begun c sets a start) (right_begun c sets a b on start) ∙ taken (le_true (start + columns_in a) x (lt_fails x (start + columns_in a) e)))))
       ] refl
     where

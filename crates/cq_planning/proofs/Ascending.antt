@@ -4,6 +4,7 @@ use Rattle.std.specs.List.{AllByRecursion}
 use Rattle.std.specs.declared.cmp.Ordering.{Ordering}
 use Rattle.std.specs.declared.cmp.Ordering.TheVariants.{Less, Equal, Greater}
 use Rattle.std.specs.Ordering.{is_eq, is_lt, ordering_reverse}
+use Rattle.cq_value.proofs.Truths.{two_ways}
 use Rattle.cq_value.specs.declared.value.Value.{Value}
 use Rattle.cq_value.specs.Order.{value_cmp}
 use Rattle.cq_value.proofs.OrderLaws.{value_cmp_same, value_cmp_total}
@@ -11,10 +12,6 @@ use Rattle.cq_meaning.specs.Lists.{Has}
 use Rattle.cq_meaning.specs.Values.{same_value}
 use Rattle.cq_meaning.proofs.RowLaws.{value_exact}
 use Rattle.cq_planning.specs.ValueSets.{put_value, ascending, IsAscending}
-
-two_ways : (b : Bool) → (b ≡ true) ⊎ (b ≡ false)
-two_ways true = inl refl
-two_ways false = inr refl
 
 -- ---- the order of two values
 

@@ -2,6 +2,8 @@
 use Rattle.std.proofs.Common.{◌≡◌, ◌+◌, inl, inr, ℕ, Bool, true, false, List, [], ◌∷◌, ◌++◌, filter, filter_map, fold, option_map, nat_eq, nat_lt, if◌then◌else◌, Option, None, Some}
 use Rattle.std.specs.List.{AllByRecursion, cons_option, list_any, flat_map}
 use Rattle.std.specs.declared.cmp.Ordering.TheVariants.{Less}
+use Rattle.cq_value.proofs.Lists.{all_append, all_filtered}
+use Rattle.cq_value.proofs.Truths.{two_ways}
 use Rattle.cq_value.specs.declared.value.Value.{Value}
 use Rattle.cq_value.specs.Order.{value_cmp}
 use Rattle.cq_meaning.specs.Groups.{is_known}
@@ -23,7 +25,6 @@ use Rattle.cq_planning.specs.Narrowing.{distribution_in, is_at, met_with, narrow
 use Rattle.cq_planning.specs.Occurrences.{Occurrence, key_values, occurrences_from, occurrences_in, blocks_of}
 use Rattle.cq_planning.proofs.Ascending.{ascends}
 use Rattle.cq_planning_laws.specs.Laws.{SetsAscend}
-use Rattle.cq_planning_laws.proofs.Lists.{two_ways, all_append, all_filtered}
 
 -- a set for one column
 abbrev IsFine : ℕ × List Value → Type 0

@@ -1,12 +1,12 @@
 -- What holds of each block of a statement holds of the query of each of its steps.
 use Rattle.std.specs.Prelude.{ℕ, ◌+◌, ◌∷◌, ◌++◌}
 use Rattle.std.specs.List.{AllByRecursion}
+use Rattle.cq_value.proofs.Lists.{all_append, all_left, all_right}
 use Rattle.cq_tree.specs.declared.query.FromTree.{FromTree, Table, Sub', Result, Cross', Inner', Left', more_of-FromTree, end_of-FromTree}
 use Rattle.cq_tree.specs.declared.query.Query.{Query, Query', Row_of-Query, end_of-Query, more_of-Query}
 use Rattle.cq_meaning.specs.Results.{ins_in, ins_in_from, ins_in_ctes, count_of}
 use Rattle.cq_meaning_laws.specs.WholeRules.{Step, steps_in, steps_in_from, steps_in_all, steps_in_ctes, steps_of}
 use Rattle.cq_planning.specs.Occurrences.{ins_of, ins_of_from, ins_of_all, with_ins, all_with_ins, blocks_of}
-use Rattle.cq_planning_laws.proofs.Lists.{all_append, all_left, all_right}
 
 module _ (P : Query → Type 0) where
   abbrev OfStep : Step → Type 0

@@ -1,9 +1,9 @@
 -- Two columns have the same first column exactly where equalities connect them.
 use Rattle.std.proofs.Common.{◌≡◌, ◌⊎◌, inl, inr, ℕ, min, max, List, [], ◌∷◌, fold, Bool, true, false, cond, nat_eq, refl, sym, ◌∙◌, ap, subst, arith, if◌then◌else◌}
+use Rattle.cq_value.proofs.Truths.{same_number}
 use Rattle.cq_meaning.specs.Lists.{Has}
 use Rattle.cq_planning.specs.Classes.{merged, itself, first_of_class, Connected, paired, alone, turned, chained}
 use Rattle.cq_planning_laws.specs.Laws.{ClassesConnect}
-use Rattle.cq_planning_laws.proofs.Rows.{same_number}
 
 met : (u v : ℕ) → (if nat_eq u (max u v) then min u v else u) ≡ (if nat_eq v (max u v) then min u v else v)
 met u v = grind arith

@@ -2,6 +2,8 @@
 use Rattle.std.proofs.Common.{suc, zero, ◌≡◌, ◌+◌, ◌<◌, ◌≤◌, inl, inr, ℕ, Bool, true, false, ◌&&◌, List, [], ◌∷◌, ◌++◌, length, map, filter, replicate, refl, sym, ◌∙◌, ap, subst, arith, ◌⊎◌, length-append, Some, None}
 use Rattle.std.specs.Prelude.{nat_lt, nat_le}
 use Rattle.std.specs.List.{AllByRecursion, list_all}
+use Rattle.cq_value.proofs.Lists.{all_map, all_append}
+use Rattle.cq_value.proofs.Truths.{below_or_not, two_ways, and_both}
 use Rattle.cq_value.specs.declared.value.Value.{Value}
 use Rattle.cq_value.specs.declared.value.Value.TheVariants.{Null}
 use Rattle.cq_meaning.specs.Values.{Row, column}
@@ -9,18 +11,14 @@ use Rattle.cq_meaning.specs.Groups.{is_known}
 use Rattle.cq_meaning.specs.Lists.{Has}
 use Rattle.cq_tree.specs.declared.expression.Cond.{Cond}
 use Rattle.cq_meaning.specs.Joins.{product, left_join, or_else}
-use Rattle.cq_planning_laws.proofs.Lists.{two_ways, all_append}
 use Rattle.cq_planning.specs.Touched.{numbers}
 use Rattle.cq_planning.specs.ValueSets.{ValueSet, has_value}
-use Rattle.cq_planning_laws.proofs.Rows.{Says, and_true}
+use Rattle.cq_planning_laws.proofs.Rows.{Says}
 
 -- ---- numbers
 
-pub below_or_not : (x m : ℕ) → ((nat_lt x m ≡ true) × (x < m)) ⊎ ((nat_lt x m ≡ false) × (m ≤ x))
-below_or_not x m = elim (two_ways (nat_lt x m)) [ inl y ↦ inl (y, grind arith) | inr n ↦ inr (n, grind arith) ]
-
 pub between : (low high x : ℕ) → (nat_le low x && nat_lt x high) ≡ true → (low ≤ x) × (x < high)
-between low high x e = let b = and_true (nat_le low x) (nat_lt x high) e in let f = b.0 in let g = b.1 in (grind arith, grind arith)
+between low high x e = let b = and_both (nat_le low x) (nat_lt x high) e in let f = b.0 in let g = b.1 in (grind arith, grind arith)
 
 -- ---- columns
 
@@ -103,7 +101,7 @@ FitsEach sets start n row = (x : ℕ) → start ≤ x → x < start + n → has_
 all_numbers : (p : ℕ → Bool) (k n : ℕ) → list_all p (numbers k n) ≡ true → (x : ℕ) → k ≤ x → x < k + n → p x ≡ true
 all_numbers p k zero e x a b = absurd (omega (arith, a, b))
 all_numbers p k (suc n) e x a b =
-    let t = and_true (p k) (list_all p (numbers (k + 1) n)) e in
+    let t = and_both (p k) (list_all p (numbers (k + 1) n)) e in
     elim (below_or_not k x) [
       | inl y ↦ (let h = y.1 in all_numbers p (k + 1) n t.1 x (omega (arith, h)) (omega (arith, b)))
       | inr m ↦ (let h = m.1 in let s : k ≡ x = omega (arith, h, a) in subst (λ z. p z ≡ true) s t.0)
@@ -150,10 +148,6 @@ pub says_right : (start : ℕ) (l r : Row) (w : ℕ) → length l ≡ w → (cs 
 says_right start l r w long cs h = says_on (pad (start + w) r) (pad start (l ++ r)) (known_right start l r w long) cs h
 
 -- ---- facts of all rows of a join
-
-pub all_map : {X Y : Type 0} (P : X → Type 0) (Q : Y → Type 0) (f : X → Y) → ((x : X) → P x → Q (f x)) → (xs : List X) → AllByRecursion P xs → AllByRecursion Q (map f xs)
-all_map P Q f g [] h = tt
-all_map P Q f g (x ∷ xs) h = (g x h.0, all_map P Q f g xs h.1)
 
 module _ (L R P : Row → Type 0) where
   pub all_product : ((l r : Row) → L l → R r → P (l ++ r)) → (ls rs : List Row) → AllByRecursion L ls → AllByRecursion R rs → AllByRecursion P (product ls rs)

@@ -3,6 +3,8 @@ use Rattle.std.proofs.Common.{◌≡◌, ◌+◌, ◌<◌, ◌≤◌, inl, inr, 
 use Rattle.std.specs.Ordering.{is_lt}
 use Rattle.std.proofs.lemmas.List.{length-map}
 use Rattle.std.proofs.lemmas.List.Elements.{filter-append}
+use Rattle.cq_value.proofs.Truths.{two_ways}
+use Rattle.cq_value.proofs.Lists.{filter_map}
 use Rattle.cq_tree.specs.declared.expression.Cond.{Cond}
 use Rattle.cq_tree.specs.declared.expression.Expr.{Expr}
 use Rattle.cq_tree.specs.declared.query.Agg.{Agg}
@@ -15,10 +17,9 @@ use Rattle.cq_meaning.specs.Groups.{differs, distinct, distinct_if}
 use Rattle.cq_meaning.specs.Joins.{product}
 use Rattle.cq_meaning.specs.Sorting.{placed, sorted_by, sorted, keys_cmp, cut}
 use Rattle.cq_meaning.specs.Queries.{item_rows, columns_in, joins, from_rows, meaning}
-use Rattle.cq_meaning.proofs.RowLaws.{filter_map, same_from}
+use Rattle.cq_meaning.proofs.RowLaws.{same_from}
 use Rattle.cq_meaning.proofs.KeyLaws.{keys_weak}
 use Rattle.cq_planning.specs.Simple.{IsSteadyFrom, IsSteady}
-use Rattle.cq_planning_laws.proofs.Lists.{two_ways}
 use Rattle.cq_planning_laws.proofs.Columns.{filter_twice}
 use Rattle.cq_planning_laws.proofs.Tests.{sort_sifted, distinct_sifted}
 

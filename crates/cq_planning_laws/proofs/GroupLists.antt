@@ -4,6 +4,8 @@ use Rattle.std.specs.Prelude.{nat_eq, ◌%◌, ◌^◌, ◌*◌}
 use Rattle.std.specs.Int.{w32}
 use Rattle.std.proofs.lemmas.Bool.Decides.{eqb_tells}
 use Rattle.std.proofs.lemmas.Int.{ints}
+use Rattle.cq_value.proofs.Lists.{got}
+use Rattle.cq_value.proofs.Truths.{two_ways}
 use borrow.Author.Differences.{read_fits}
 use Rattle.cq_value.specs.declared.value.Value.{Value}
 use Rattle.cq_value.specs.declared.value.Value.TheVariants.{Null, Int, Text}
@@ -19,7 +21,6 @@ use Rattle.cq_catalog.proofs.RangeLaws.{index_below}
 use Rattle.cq_catalog.proofs.GroupLaws.{cut_part, cut_length}
 use Rattle.cq_planning.specs.Touched.{among, numbers, in_order}
 use Rattle.cq_planning.specs.Reaching.{IsAscendingFrom}
-use Rattle.cq_planning_laws.proofs.Lists.{two_ways, got}
 use Rattle.cq_planning_laws.proofs.Lists.{among_more}
 
 -- ---- lists of groups

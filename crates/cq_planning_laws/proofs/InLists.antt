@@ -1,5 +1,6 @@
 -- What counts as an IN of literals is what the binder makes of one.
 use Rattle.std.proofs.Common.{◌≡◌, ◌+◌, ◌-◌, ◌/◌, ◌<◌, ◌≤◌, ℕ, zero, suc, true, List, [], ◌∷◌, ◌++◌, map, length, take, drop, ◌&&◌, ◌||◌, nat_eq, Option, None, Some, refl, sym, ap, subst, ◌∙◌, arith, length-append}
+use Rattle.cq_value.proofs.Truths.{and_both, same_number}
 use Rattle.cq_value.specs.declared.value.Value.{Value}
 use Rattle.cq_tree.specs.declared.expression.Op.TheVariants.{Eq}
 use Rattle.cq_tree.specs.declared.expression.Expr.{Expr, Literal, Column}
@@ -10,7 +11,7 @@ use Rattle.cq_meaning.specs.Chains.{halves}
 use Rattle.cq_planning.specs.Conjuncts.{column_of, literal_of, both_of, one_value, both_halves, in_list}
 use Rattle.cq_planning_laws.specs.Laws.{InsAreExact}
 use Rattle.cq_planning_laws.proofs.Halves.{equal_to, in_is_found}
-use Rattle.cq_planning_laws.proofs.Rows.{and_true, same_number, both_found, chosen}
+use Rattle.cq_planning_laws.proofs.Rows.{both_found, chosen}
 
 -- equalities on one column, at least one, halved in so many steps at least as they need
 abbrev IsHalved : Cond → ℕ × List Value → Type 0
@@ -89,7 +90,7 @@ halves_found : (a b : Cond) (m n : Option (ℕ × List Value)) (p : ℕ × List 
     ((q : ℕ × List Value) → m ≡ Some q → IsHalved a q) → ((q : ℕ × List Value) → n ≡ Some q → IsHalved b q) → IsHalved (Or a b) p
 halves_found a b (Some m) (Some n) p e left right =
     let f : ((nat_eq m.0 n.0 && (nat_eq (length m.1) (length n.1) || nat_eq (length m.1) (suc (length n.1)))) ≡ true) × ((m.0, m.1 ++ n.1) ≡ p) = chosen _ _ p e in
-    let g : (nat_eq m.0 n.0 ≡ true) × ((nat_eq (length m.1) (length n.1) || nat_eq (length m.1) (suc (length n.1))) ≡ true) = and_true _ _ f.0 in
+    let g : (nat_eq m.0 n.0 ≡ true) × ((nat_eq (length m.1) (length n.1) || nat_eq (length m.1) (suc (length n.1))) ≡ true) = and_both _ _ f.0 in
     let r : IsHalved b (m.0, n.1) = subst (λ x. IsHalved b (x, n.1)) (sym (same_number m.0 n.0 g.0)) (right n refl) in
     subst (IsHalved (Or a b)) f.1 (or_halved a b m.0 m.1 n.1 g.1 (left m refl) r)
 halves_found a b (Some m) None p e left right = cc

@@ -2,6 +2,7 @@
 use Rattle.std.proofs.Common.{◌≡◌, ◌+◌, ◌<◌, ◌≤◌, inl, inr, ℕ, Bool, true, false, ◌||◌, ◌⊎◌, List, [], ◌∷◌, length, map, filter, refl, sym, ◌∙◌, ap, subst, arith}
 use Rattle.std.specs.Prelude.{nat_lt, ◌^◌}
 use Rattle.std.specs.List.{AllByRecursion, list_any}
+use Rattle.cq_value.proofs.Truths.{two_ways}
 use Rattle.cq_tree.specs.declared.expression.Cond.{Cond}
 use Rattle.cq_tree.specs.declared.expression.Expr.{Expr}
 use Rattle.cq_tree.specs.declared.query.FromTree.{FromTree, Table, Sub', Result, Cross', Inner', Left', end_of-FromTree, more_of-FromTree, end_of-Query, more_of-Query}
@@ -24,7 +25,6 @@ use Rattle.cq_planning.specs.ValueSets.{ValueSet, value_set}
 use Rattle.cq_planning.specs.Database.{shape_in}
 use Rattle.cq_planning_laws.specs.Laid.{IsLaidFrom, IsLaid, IsColumnOf}
 use Rattle.cq_planning.specs.Simple.{IsSteadyFrom, IsSimpleFrom, IsSimple, GivesSimplyFrom, GivesSimply}
-use Rattle.cq_planning_laws.proofs.Lists.{two_ways}
 use Rattle.cq_planning_laws.proofs.SameRows.{PushesThrough}
 use Rattle.cq_planning_laws.proofs.Fewer.{Fewer, fewer_kept, fewer_from}
 use Rattle.cq_planning_laws.proofs.RowFacts.{IsWide}

@@ -2,6 +2,8 @@
 use Rattle.std.proofs.Common.{◌≡◌, ◌+◌, ◌<◌, inl, inr, ℕ, Bool, true, false, ◌&&◌, List, [], ◌∷◌, ◌++◌, length, filter, replicate, refl, sym, ◌∙◌, ap, subst, arith, Some, None, Option}
 use Rattle.std.specs.Prelude.{⊤}
 use Rattle.std.specs.List.{AllByRecursion}
+use Rattle.cq_value.proofs.Lists.{all_append, all_weaker, all_left, all_right}
+use Rattle.cq_value.proofs.Truths.{two_ways, and_both}
 use Rattle.cq_value.specs.declared.value.Value.{Value}
 use Rattle.cq_value.specs.declared.value.Value.TheVariants.{Null}
 use Rattle.cq_tree.specs.declared.expression.Cond.{Cond}
@@ -28,11 +30,10 @@ use Rattle.cq_planning.specs.Touched.{among, groups_at, groups_of}
 use Rattle.cq_planning.specs.ValueSets.{ValueSet, value_set, has_value}
 use Rattle.cq_planning.specs.Database.{shape_in}
 use Rattle.cq_planning_laws.specs.Laid.{IsLaidFrom, IsLaid, IsColumnOf}
-use Rattle.cq_planning_laws.proofs.Lists.{two_ways, all_append, all_weaker, all_left, all_right}
 use Rattle.cq_planning_laws.proofs.Lists.{among_here}
 use Rattle.cq_planning_laws.proofs.SameRows.{is_given, SameKept, PushesThrough}
 use Rattle.cq_planning_laws.proofs.GroupLists.{Cut, cut_there, placed}
-use Rattle.cq_planning_laws.proofs.Rows.{Says, IsOneOf, kept_says, set_has, and_true, known_has, value_there}
+use Rattle.cq_planning_laws.proofs.Rows.{Says, IsOneOf, kept_says, set_has, known_has, value_there}
 use Rattle.cq_planning_laws.proofs.Writes.{groups_has, group_below}
 use Rattle.cq_planning_laws.proofs.Columns.{pad, column_pad, column_nulls, in_left, in_right, fits, FitsEach, fits_each, each_fits, null_in, left_fits, right_fits, filter_twice, restricted}
 use Rattle.cq_planning_laws.proofs.Joins.{joined_restricted, left_restricted}
@@ -68,9 +69,6 @@ filter_same p q (x ∷ xs) h = elim (two_ways (q x)) [
     y2 : {b : Bool} → b ≡ false → b ≡ false
     y2 e = e
 
-both_true : (a b : Bool) → a ≡ true → b ≡ true → (a && b) ≡ true
-both_true a b e f = rw e f
-
 pub items_same : (f : Cond) (grouped : Bool) (keys : List Expr) (aggs : List Agg) (having : Cond) (items : List Expr) (rs : Results) (xs ys : List Row) → filter (keeps f rs) xs ≡ filter (keeps f rs) ys →
     item_rows f grouped keys aggs having items rs xs ≡ item_rows f grouped keys aggs having items rs ys
 items_same f true keys aggs having items rs xs ys e = rw e refl
@@ -94,7 +92,7 @@ mean_same (Query' cs ctes ss subs from filter_ grouped keys aggs having items sh
 given_says : (row : Row) (outer : List (ℕ × List Value)) → is_given outer row ≡ true → AllByRecursion (IsOneOf row) outer
 given_says row [] h = tt
 given_says row (k ∷ outer) h =
-    let t = and_true (has_value (Some k.1) (column row k.0)) (is_given outer row) h in
+    let t = and_both (has_value (Some k.1) (column row k.0)) (is_given outer row) h in
     ((value_there (column row k.0) k.1 t.0, (known_has (column row k.0) k.1 t.0).0), given_says row outer t.1)
 
 module _ (c : Contents) (w : IsWhole c) (touched : List ℕ) (widths : ℕ → ℕ) (through : PushesThrough c) (db dn : Tables) (rs : Results)
@@ -151,7 +149,7 @@ module _ (c : Contents) (w : IsWhole c) (touched : List ℕ) (widths : ℕ → �
       let fa : Row → Bool = fits sets start wa in
       let fb : Row → Bool = fits sets (start + wa) wb in
       let needs : (l r : Row) → IsWide wa l → p (l ++ r) ≡ true → (fa l ≡ true) × (fb r ≡ true) = λ l r long k.
-      (let each : FitsEach sets start (wa + wb) (l ++ r) = fits_each sets start (wa + wb) (l ++ r) (and_true (on (l ++ r)) (fits sets start (wa + wb) (l ++ r)) k).1 in
+      (let each : FitsEach sets start (wa + wb) (l ++ r) = fits_each sets start (wa + wb) (l ++ r) (and_both (on (l ++ r)) (fits sets start (wa + wb) (l ++ r)) k).1 in
       (each_fits sets start wa l (left_fits sets start l r wa wb long each), each_fits sets (start + wa) wb r (right_fits sets start l r wa wb long each))) in
       joined_restricted (IsWide wa) p fa fb us bs wide needs
       ∙ (λ i. filter p (product (ea i) (eb i)))
@@ -228,7 +226,7 @@ module _ (c : Contents) (w : IsWhole c) (touched : List ℕ) (widths : ℕ → �
         let keep : Row → Bool = λ row. keeps filter_ rs row && is_given outer row in
         let fit : Row → Bool = fits sets 0 (columns_in from) in
         let needs : (row : Row) → AllByRecursion (Says (pad 0 row)) (inner_conjuncts from) → keep row ≡ true → fit row ≡ true = λ row says k.
-        (let t = and_true (keeps filter_ rs row) (is_given outer row) k in
+        (let t = and_both (keeps filter_ rs row) (is_given outer row) k in
         each_fits sets 0 (columns_in from) row (λ x lo hi.
         set_has row outer all (given_says row outer t.1) (all_append (Says row) (conjuncts filter_) (inner_conjuncts from) (kept_says row rs filter_ t.0) says) x)) in
         restricted keep fit (from_rows from 0 db rs) (all_weaker (HasFacts c widths db rs sets from 0) (λ row. keep row ≡ true → fit row ≡ true) (λ row g. needs row g.1) (from_rows from 0 db rs) (facts_db from sets 0 h.0))

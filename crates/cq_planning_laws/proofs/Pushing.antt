@@ -4,6 +4,8 @@ use Rattle.std.specs.Prelude.{slice_index_or, nat_lt, is_none}
 use Rattle.std.specs.Ordering.{is_lt}
 use Rattle.std.proofs.lemmas.List.{length-map}
 use Rattle.std.proofs.lemmas.List.Quantifiers.{position-Some}
+use Rattle.cq_value.proofs.Truths.{and_both, same_number}
+use Rattle.cq_value.proofs.Lists.{none_is, filter_map, filter_turned}
 use Rattle.cq_value.specs.declared.value.Value.{Value}
 use Rattle.cq_tree.specs.declared.expression.Cond.{Cond}
 use Rattle.cq_tree.specs.declared.expression.Expr.{Expr, Column}
@@ -16,7 +18,6 @@ use Rattle.cq_meaning.specs.Expressions.{value_of, keeps, items_of}
 use Rattle.cq_meaning.specs.Groups.{groups_of, group_row, aggregate, distinct_if}
 use Rattle.cq_meaning.specs.Sorting.{keys_cmp, sorted, cut}
 use Rattle.cq_meaning.specs.Queries.{item_rows, outputs_of, from_rows, meaning}
-use Rattle.cq_meaning.proofs.RowLaws.{filter_map}
 use Rattle.cq_meaning.proofs.KeyLaws.{keys_weak}
 use Rattle.cq_catalog.specs.Contents.{Contents}
 use Rattle.cq_planning.specs.Classes.{first_of_class}
@@ -26,19 +27,14 @@ use Rattle.cq_planning.specs.Pushable.{Pushable, column_behind, number_or_0, pus
 use Rattle.cq_planning.specs.Relations.{Distribution, Relation, distributions, is_left_in_block, is_plain}
 use Rattle.cq_planning.specs.ValueSets.{has_value}
 use Rattle.cq_planning_laws.proofs.SameRows.{is_given, SameKept, PushesThrough}
-use Rattle.cq_planning_laws.proofs.Rows.{and_true, same_number}
 use Rattle.cq_planning_laws.proofs.Columns.{column_left, filter_twice}
-use Rattle.cq_planning_laws.proofs.Tests.{sifted_same, exchanged, all_sure, sort_sifted, distinct_if_sifted, groups_sifted}
+use Rattle.cq_planning_laws.proofs.Tests.{sifted_same, all_sure, sort_sifted, distinct_if_sifted, groups_sifted}
 
 -- ---- what is pushable
 
 of_if : {X : Type 0} (b : Bool) (o : Option X) (p : X) → (if b then o else None) ≡ Some p → (b ≡ true) × (o ≡ Some p)
 of_if true o p e = (refl, e)
 of_if false o p e = cc
-
-none_is : {X : Type 0} (o : Option X) → is_none o ≡ true → o ≡ None
-none_is None e = refl
-none_is (Some x) e = cc
 
 class_some : (first : ℕ → ℕ) (at : ℕ) (o : Option ℕ) → is_of_class first at o ≡ true → o ≡ Some (number_or_0 o)
 class_some first at None e = cc
@@ -69,10 +65,10 @@ first_facts first rels [] ps grouped keys outputs limit offset p h = cc
 first_facts first rels (r ∷ rs) [] grouped keys outputs limit offset p h = cc
 first_facts first rels (r ∷ rs) (q ∷ ps) grouped keys outputs limit offset p h =
     let f = of_if _ _ p h in
-    let a = and_true _ _ f.0 in
-    let b = and_true _ _ a.1 in
-    let d = and_true _ _ b.1 in
-    let e = and_true _ _ d.1 in
+    let a = and_both _ _ f.0 in
+    let b = and_both _ _ a.1 in
+    let d = and_both _ _ b.1 in
+    let e = and_both _ _ d.1 in
     output_facts r first grouped keys outputs limit offset p (position (λ e. is_of_class first r.column (column_behind grouped keys (column_of e))) outputs) refl (none_is limit d.0) (same_number offset 0 e.0) f.1
 
 bare_is : (e : Expr) (x : ℕ) → column_of e ≡ Some x → e ≡ Column x
@@ -179,7 +175,7 @@ module _ (rs : Results) (vs : List Value) where
             let made : List Row = filter (keeps having rs) (map (group_row aggs rs) gs) in
             filter_map (has_at output) (items_of items rs) made
             ∙ ap (map (items_of items rs)) (sifted_same (λ row. has_at output (items_of items rs row)) (has_at k) made (all_sure (λ row. has_at output (items_of items rs row) ≡ has_at k row) item made)
-            ∙ exchanged (has_at k) (keeps having rs) (map (group_row aggs rs) gs)
+            ∙ filter_turned (has_at k) (keeps having rs) (map (group_row aggs rs) gs)
             ∙ ap (filter (keeps having rs)) (filter_map (has_at k) (group_row aggs rs) gs))
 
   items_sifted : (filter_ : Cond) (grouped : Bool) (keys : List Expr) (aggs : List Agg) (having : Cond) (items : List Expr) (output inner : ℕ) (xs ys : List Row) → output < length items →

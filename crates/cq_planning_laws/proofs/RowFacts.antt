@@ -16,6 +16,8 @@ use Rattle.cq_meaning.specs.Joins.{product}
 use Rattle.cq_meaning.specs.Sorting.{keys_cmp, sorted, limited}
 use Rattle.cq_meaning.specs.Queries.{item_rows, outputs_of, columns_in, joins, from_rows, meaning}
 use Rattle.std.specs.Ordering.{is_lt}
+use Rattle.cq_value.proofs.Lists.{all_append, all_weaker, all_map}
+use Rattle.cq_value.proofs.Truths.{two_ways, same_number, and_both, below_or_not}
 use Rattle.cq_meaning_laws.proofs.WithinLaws.{all_take, all_drop, all_sorted, all_distinct_if}
 use Rattle.cq_catalog.specs.Contents.{Contents}
 use Rattle.cq_catalog.specs.Placement.{place_at}
@@ -25,9 +27,8 @@ use Rattle.cq_planning.specs.Relations.{Distribution, partner_of, is_between}
 use Rattle.cq_planning.specs.ValueSets.{ValueSet, has_value}
 use Rattle.cq_planning.specs.Database.{shape_in}
 use Rattle.cq_planning_laws.specs.Laid.{IsLaidFrom, IsLaid, IsColumnOf}
-use Rattle.cq_planning_laws.proofs.Lists.{two_ways, all_append, all_weaker}
-use Rattle.cq_planning_laws.proofs.Rows.{Says, Agrees, kept_says, pairs_agree, meet_has, same_number, and_true}
-use Rattle.cq_planning_laws.proofs.Columns.{below_or_not, between, pad, column_nulls, in_left, in_right, FitsEach, left_fits, right_fits, says_left, says_right, all_map, all_product, all_left_join, all_passed, length_nulls}
+use Rattle.cq_planning_laws.proofs.Rows.{Says, Agrees, kept_says, pairs_agree, meet_has}
+use Rattle.cq_planning_laws.proofs.Columns.{between, pad, column_nulls, in_left, in_right, FitsEach, left_fits, right_fits, says_left, says_right, all_product, all_left_join, all_passed, length_nulls}
 
 abbrev pub IsWide : ℕ → Row → Type 0
 IsWide n row = length row ≡ n
@@ -60,12 +61,12 @@ module _ (left : ℕ → ValueSet) (low mid : ℕ) (row : Row) (holds : (x : ℕ
     where
       pick : (b d : Bool) → (nat_eq e.1 y && is_between low mid e.0) ≡ b → (nat_eq e.0 y && is_between low mid e.1) ≡ d → has_value (met_with left (cond b (Some e.0) (cond d (Some e.1) None)) s) (column row y) ≡ true
       pick true d is other =
-          let t = and_true (nat_eq e.1 y) (is_between low mid e.0) is in
+          let t = and_both (nat_eq e.1 y) (is_between low mid e.0) is in
           let in' = between low mid e.0 t.1 in
           let same : column row e.0 ≡ column row y = a.0 ∙ ap (column row) (same_number e.1 y t.0) in
           meet_has s (left e.0) (column row y) h (subst (λ v. has_value (left e.0) v ≡ true) same (holds e.0 in'.0 in'.1 a.1))
       pick false true is other =
-          let t = and_true (nat_eq e.0 y) (is_between low mid e.1) other in
+          let t = and_both (nat_eq e.0 y) (is_between low mid e.1) other in
           let in' = between low mid e.1 t.1 in
           let same : column row e.1 ≡ column row y = sym a.0 ∙ ap (column row) (same_number e.0 y t.0) in
           meet_has s (left e.1) (column row y) h (subst (λ v. has_value (left e.1) v ≡ true) same (holds e.1 in'.0 in'.1 (ap is_known (sym a.0) ∙ a.1)))

@@ -4,6 +4,8 @@ use Rattle.std.specs.List.{list_any, cons_option, AllByRecursion}
 use Rattle.std.specs.declared.cmp.Ordering.{Ordering}
 use Rattle.std.specs.declared.cmp.Ordering.TheVariants.{Less, Equal, Greater}
 use Rattle.std.proofs.lemmas.Bool.Decides.{eqb_tells}
+use Rattle.cq_value.proofs.Lists.{all_append}
+use Rattle.cq_value.proofs.Truths.{and_both, same_number, two_ways}
 use Rattle.cq_value.specs.declared.value.Value.{Value}
 use Rattle.cq_value.specs.declared.value.Value.TheVariants.{Null, Int, Text}
 use Rattle.cq_value.specs.declared.value.Truth.{Truth}
@@ -20,7 +22,6 @@ use Rattle.cq_meaning.specs.Lists.{Has}
 use Rattle.cq_meaning.proofs.RowLaws.{value_exact}
 use Rattle.cq_value.proofs.OrderLaws.{value_cmp_same}
 use Rattle.cq_planning.proofs.Ascending.{one_of, has_ascending}
-use Rattle.cq_planning_laws.proofs.Lists.{two_ways, all_append}
 use Rattle.cq_planning.specs.Classes.{merged, itself, first_of_class}
 use Rattle.cq_planning.specs.Conjuncts.{conjuncts, column_of, literal_of, both_of, equality, both_halves, one_value, in_list, turned_equality, equalities}
 use Rattle.cq_planning.specs.ValueSets.{ascending, or_else, known_values, values_said, sets_said, ValueSet, meet, met_by, value_set, has_value}
@@ -64,13 +65,6 @@ one Null v e = cc
 pub chosen : {X : Type 0} (b : Bool) (r p : X) → (if b then Some r else None) ≡ Some p → (b ≡ true) × (r ≡ p)
 chosen true r p e = (refl, cc)
 chosen false r p e = cc
-
-pub and_true : (a b : Bool) → (a && b) ≡ true → (a ≡ true) × (b ≡ true)
-and_true true b e = (refl, e)
-and_true false b e = cc
-
-pub same_number : (a b : ℕ) → nat_eq a b ≡ true → a ≡ b
-same_number a b e = elim (eqb_tells a b) [ inl y ↦ y.1 | inr n ↦ (let bad : true ≡ false = sym e ∙ n.0 in cc) ]
 
 pub both_found : {X Y : Type 0} (m : Option X) (n : Option Y) (p : X × Y) → both_of m n ≡ Some p → (m ≡ Some p.0) × (n ≡ Some p.1)
 both_found (Some x) (Some y) p e = let f : (x, y) ≡ p = cc in (ap (λ q. Some q.0) f, ap (λ q. Some q.1) f)
@@ -150,7 +144,7 @@ module _ (row : Row) (rs : Results) where
       ((q : ℕ × List Value) → m ≡ Some q → a ≡ Yes → IsOneOf row q) → ((q : ℕ × List Value) → n ≡ Some q → b ≡ Yes → IsOneOf row q) → IsOneOf row p
   halved_among (Some m) (Some n) p e a b h left right =
       let f : ((nat_eq m.0 n.0 && (nat_eq (length m.1) (length n.1) || nat_eq (length m.1) (suc (length n.1)))) ≡ true) × ((m.0, m.1 ++ n.1) ≡ p) = chosen _ _ p e in
-      let g : (nat_eq m.0 n.0 ≡ true) × ((nat_eq (length m.1) (length n.1) || nat_eq (length m.1) (suc (length n.1))) ≡ true) = and_true _ _ f.0 in
+      let g : (nat_eq m.0 n.0 ≡ true) × ((nat_eq (length m.1) (length n.1) || nat_eq (length m.1) (suc (length n.1))) ≡ true) = and_both _ _ f.0 in
       let k : m.0 ≡ n.0 = same_number m.0 n.0 g.0 in
       subst (IsOneOf row) f.1 (of_side (either_yes a b h) k)
     where

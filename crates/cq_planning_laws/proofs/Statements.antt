@@ -4,6 +4,8 @@ use Rattle.std.specs.Prelude.{slice_set, nat_eq}
 use Rattle.std.specs.List.{AllByRecursion, flat_map}
 use Rattle.std.specs.List.Sorted.{IsPermutation}
 use Rattle.std.proofs.lemmas.List.Elements.{filter-append}
+use Rattle.cq_value.proofs.Lists.{all_weaker, all_append, filter_none}
+use Rattle.cq_value.proofs.Truths.{two_ways}
 use Rattle.cq_value.specs.declared.schema.Kind.{Kind}
 use Rattle.cq_tree.specs.declared.query.Query.{Query, Query'}
 use Rattle.cq_tree.specs.declared.statement.Statement.TheVariants as statement
@@ -27,7 +29,6 @@ use Rattle.cq_planning.specs.Database.{shape_in, Held, joined, whole_at, whole_f
 use Rattle.cq_planning_laws.specs.Laid.{IsLaid, IsColumnOf, IsLaidStep, IsLaidStatement}
 use Rattle.cq_planning_laws.specs.Laws.{QueriesNarrow, LargeNarrows, UntouchedAreFree}
 use Rattle.cq_planning.specs.Simple.{GivesSimply}
-use Rattle.cq_planning_laws.proofs.Lists.{two_ways, all_weaker, all_append, filter_none}
 use Rattle.cq_planning_laws.proofs.Listed.{listed, listed_at}
 use Rattle.cq_planning_laws.proofs.SameRows.{SameKept, PushesThrough}
 use Rattle.cq_planning_laws.proofs.Pushing.{pushes_through}

@@ -3,14 +3,15 @@ use Rattle.std.proofs.Common.{◌≡◌, inl, inr, ℕ, Bool, true, false, cond,
 use Rattle.std.specs.Cmp.{IsStrictWeakOrder}
 use Rattle.std.specs.List.{AllByRecursion}
 use Rattle.std.specs.List.Sorted.{ties}
+use Rattle.cq_value.proofs.Truths.{two_ways}
+use Rattle.cq_value.proofs.Lists.{filter_turned, filter_map, all_filtered, all_weaker}
 use Rattle.cq_meaning.specs.declared.Group.{Group}
 use Rattle.cq_meaning.specs.Values.{Row, same_row}
 use Rattle.cq_meaning.specs.Groups.{differs, distinct, distinct_if, group_with, groups_by}
 use Rattle.cq_meaning.specs.Sorting.{sorted_by}
-use Rattle.cq_meaning.proofs.RowLaws.{same_is, differs_from, filter_map}
+use Rattle.cq_meaning.proofs.RowLaws.{same_is, differs_from}
 use Rattle.cq_meaning.proofs.StableSort.{Rises, one_answer, sorted_rises, sorted_stable}
 use Rattle.cq_meaning_laws.proofs.WithinLaws.{all_distinct}
-use Rattle.cq_planning_laws.proofs.Lists.{two_ways, all_filtered, all_weaker}
 
 -- ---- filters
 
@@ -20,16 +21,6 @@ sifted_same p q (x ∷ xs) h = elim (two_ways (q x)) [
   | inl y ↦ (let z : p x ≡ true = h.0 ∙ y in rw (y, z) (ap (λ u. x ∷ u) (sifted_same p q xs h.1)))
   | inr n ↦ (let z : p x ≡ false = h.0 ∙ n in rw (n, z) (sifted_same p q xs h.1))
 ]
-
-pub exchanged : {X : Type 0} (p q : X → Bool) (xs : List X) → filter p (filter q xs) ≡ filter q (filter p xs)
-exchanged p q [] = refl
-exchanged p q (x ∷ xs) = by_cases (p x) (q x) refl refl (exchanged p q xs)
-  where
-    by_cases : (a b : Bool) → p x ≡ a → q x ≡ b → filter p (filter q xs) ≡ filter q (filter p xs) → filter p (cond b (x ∷ filter q xs) (filter q xs)) ≡ filter q (cond a (x ∷ filter p xs) (filter p xs))
-    by_cases true true e f rest = rw (e, f) (ap (λ u. x ∷ u) rest)
-    by_cases true false e f rest = rw f rest
-    by_cases false true e f rest = rw e rest
-    by_cases false false e f rest = rest
 
 pub all_sure : {X : Type 0} (P : X → Type 0) → ((x : X) → P x) → (xs : List X) → AllByRecursion P xs
 all_sure P f [] = tt
@@ -63,7 +54,7 @@ module _ {X : Type 0} (lt : X → X → Bool) (o : IsStrictWeakOrder lt) (p : X 
 
   pub sort_sifted : (xs : List X) → filter p (sorted_by lt xs) ≡ sorted_by lt (filter p xs)
   sort_sifted xs = one_answer lt o (filter p (sorted_by lt xs)) (sorted_by lt (filter p xs)) (rises_sifted (sorted_by lt xs) (sorted_rises lt o xs)) (sorted_rises lt o (filter p xs)) (λ x.
-      exchanged (ties lt x) p (sorted_by lt xs) ∙ ap (filter p) (sorted_stable lt o x xs) ∙ exchanged p (ties lt x) xs ∙ sym (sorted_stable lt o x (filter p xs)))
+      filter_turned (ties lt x) p (sorted_by lt xs) ∙ ap (filter p) (sorted_stable lt o x xs) ∙ filter_turned p (ties lt x) xs ∙ sym (sorted_stable lt o x (filter p xs)))
 
 -- ---- DISTINCT
 
@@ -76,7 +67,7 @@ apart p x ys n = sym (sifted_more p (differs x) ys (λ y k. elim (two_ways (same
 pub distinct_sifted : (p : Row → Bool) (xs : List Row) → filter p (distinct xs) ≡ distinct (filter p xs)
 distinct_sifted p [] = refl
 distinct_sifted p (x ∷ xs) = elim (two_ways (p x)) [
-  | inl y ↦ rw y (ap (λ u. x ∷ u) (exchanged p (differs x) (distinct xs) ∙ ap (filter (differs x)) (distinct_sifted p xs)))
+  | inl y ↦ rw y (ap (λ u. x ∷ u) (filter_turned p (differs x) (distinct xs) ∙ ap (filter (differs x)) (distinct_sifted p xs)))
   | inr n ↦ rw n (apart p x (distinct xs) n ∙ distinct_sifted p xs)
 ]
 

@@ -2,6 +2,7 @@
 use Rattle.std.proofs.Common.{◌≡◌, ◌+◌, ◌<◌, inl, inr, ℕ, true, List, [], ◌∷◌, map, refl, sym, subst, arith, Some, None, zero-add}
 use Rattle.std.specs.Prelude.{nat_eq}
 use Rattle.std.specs.List.{AllByRecursion}
+use Rattle.cq_value.proofs.Truths.{two_ways, same_number}
 use Rattle.cq_value.specs.declared.value.Value.{Value}
 use Rattle.cq_tree.specs.declared.expression.Cond.{Cond}
 use Rattle.cq_tree.specs.declared.write.ShardOp.{ShardOp}
@@ -21,9 +22,8 @@ use Rattle.cq_planning.specs.ValueSets.{ValueSet, value_set, has_value}
 use Rattle.cq_planning_laws.specs.Laws.{WritesTouch}
 use Rattle.cq_planning.specs.Reaching.{RowsReach, RowsAreOf, Reaches, IsTouchedBy}
 use Rattle.cq_planning_laws.proofs.Lists.{among_here, among_more, among_only}
-use Rattle.cq_planning_laws.proofs.Lists.{two_ways}
 use Rattle.cq_planning_laws.proofs.GroupLists.{ascends, among_numbers, numbers_only, in_order_has, in_order_only, placed, Cut, cut_there, group_range, groups_below}
-use Rattle.cq_planning_laws.proofs.Rows.{kept_says, set_has, value_there, same_number}
+use Rattle.cq_planning_laws.proofs.Rows.{kept_says, set_has, value_there}
 
 among_map : {X : Type 0} (f : X → ℕ) (x : X) (xs : List X) → Has xs x → among (f x) (map f xs) ≡ true
 among_map f x [] h = absurd h

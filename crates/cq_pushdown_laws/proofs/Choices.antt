@@ -2,6 +2,7 @@
 use Rattle.std.proofs.Common.{◌≡◌, ◌+◌, ◌<◌, ◌≤◌, ℕ, zero-add, true, List, [], ◌∷◌, ◌++◌, length, refl, sym, ◌∙◌, ap, subst, arith, Option, Some, None}
 use Rattle.std.specs.Prelude.{⊤}
 use Rattle.std.specs.List.{AllByRecursion}
+use Rattle.cq_value.proofs.Lists.{all_append}
 use Rattle.cq_tree.specs.declared.query.FromTree.{FromTree, Table, Sub', Result, Cross', Inner', Left', end_of-FromTree, more_of-FromTree, end_of-Query, more_of-Query}
 use Rattle.cq_meaning.specs.Lists.{Has}
 use Rattle.cq_meaning.specs.Values.{Row, Results, Tables, column}
@@ -20,7 +21,6 @@ use Rattle.cq_planning.specs.Pushable.{Pushable, relations, distribution_by, pus
 use Rattle.cq_planning.specs.Relations as listed
 use Rattle.cq_planning.specs.Relations.{Distribution, OuterJoin, distribution_at}
 use Rattle.cq_planning.specs.Touched.{among}
-use Rattle.cq_planning_laws.proofs.Lists.{all_append}
 use Rattle.cq_planning_laws.proofs.Rows.{Says, kept_says}
 use Rattle.cq_planning_laws.proofs.Columns.{pad, in_left, in_right, says_left, says_right}
 use Rattle.cq_pushdown_laws.specs.Pushed.{is_single}

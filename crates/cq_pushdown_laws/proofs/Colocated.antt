@@ -3,6 +3,8 @@ use Rattle.std.proofs.Common.{◌≡◌, ◌+◌, ◌<◌, ◌≤◌, inl, inr, 
 use Rattle.std.specs.Prelude.{nat_eq, ◌&&◌, ◌||◌}
 use Rattle.std.specs.List.{AllByRecursion, list_any, cons_option}
 use Rattle.std.proofs.lemmas.List.Folds.{list_any-append}
+use Rattle.cq_value.proofs.Lists.{all_append, all_weaker}
+use Rattle.cq_value.proofs.Truths.{two_ways, and_both, same_number}
 use Rattle.cq_tree.specs.declared.query.FromTree.{FromTree, Table, Sub', Result, Cross', Inner', Left', end_of-FromTree, more_of-FromTree, end_of-Query, more_of-Query}
 use Rattle.cq_meaning.specs.Groups.{is_known}
 use Rattle.cq_meaning.specs.Values.{Row, Results, column}
@@ -15,8 +17,7 @@ use Rattle.cq_planning.specs.Database.{Held}
 use Rattle.cq_planning.specs.Narrowing.{distribution_in}
 use Rattle.cq_planning.specs.Pushable.{relations}
 use Rattle.cq_planning.specs.Relations.{Distribution, OuterJoin, Relation, distribution_of, is_distributed, partner_of, partners, is_between}
-use Rattle.cq_planning_laws.proofs.Lists.{two_ways, all_append, all_weaker}
-use Rattle.cq_planning_laws.proofs.Rows.{Agrees, and_true, same_number}
+use Rattle.cq_planning_laws.proofs.Rows.{Agrees}
 use Rattle.cq_planning_laws.proofs.Columns.{between}
 use Rattle.cq_pushdown_laws.proofs.Choices.{IsColumn, IsSpread, AreSpread, single_at, single_is}
 
@@ -134,11 +135,11 @@ partner_there low high y test row (e ∷ pairs) all h = by_partner (nat_eq e.1 y
     by_partner : (b d : Bool) → (nat_eq e.1 y && is_between low high e.0) ≡ b → (nat_eq e.0 y && is_between low high e.1) ≡ d → list_any test (cons_option (cond b (Some e.0) (cond d (Some e.1) None)) rest) ≡ true →
         (list_any test rest ≡ true → Partner low high y test row) → Partner low high y test row
     by_partner true d is other_way k more =
-        let t = and_true (nat_eq e.1 y) (is_between low high e.0) is in
+        let t = and_both (nat_eq e.1 y) (is_between low high e.0) is in
         let within = between low high e.0 t.1 in
         passed e.0 (λ p. record { at = e.0; from_low = within.0; below_high = within.1; same = all.0.0 ∙ ap (column row) (same_number e.1 y t.0); known = all.0.1; passes = p }) more k
     by_partner false true is other_way k more =
-        let t = and_true (nat_eq e.0 y) (is_between low high e.1) other_way in
+        let t = and_both (nat_eq e.0 y) (is_between low high e.1) other_way in
         let within = between low high e.1 t.1 in
         passed e.1 (λ p. record { at = e.1; from_low = within.0; below_high = within.1; same = sym all.0.0 ∙ ap (column row) (same_number e.0 y t.0); known = ap is_known (sym all.0.0) ∙ all.0.1; passes = p }) more k
     by_partner false false is other_way k more = more k

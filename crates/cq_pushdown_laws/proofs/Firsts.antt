@@ -3,6 +3,8 @@ use Rattle.std.proofs.Common.{◌≡◌, ◌+◌, ◌<◌, ◌≤◌, ◌⊎◌,
 use Rattle.std.specs.Prelude.{not, ◌&&◌, ◌||◌}
 use Rattle.std.specs.List.{AllByRecursion, list_any}
 use Rattle.std.proofs.lemmas.List.Elements.{filter-append}
+use Rattle.cq_value.proofs.Truths.{and_both}
+use Rattle.cq_value.proofs.Lists.{all_left, all_right}
 use Rattle.cq_tree.specs.declared.query.FromTree.{FromTree, Table, Sub', Result, Cross', Inner', Left', end_of-FromTree, more_of-FromTree, end_of-Query, more_of-Query}
 use Rattle.cq_meaning.specs.Lists.{Has}
 use Rattle.cq_meaning.specs.Queries.{columns_in}
@@ -15,8 +17,6 @@ use Rattle.cq_planning.specs.Database.{Held}
 use Rattle.cq_planning.specs.Narrowing.{distribution_in}
 use Rattle.cq_planning.specs.Pushable.{relations}
 use Rattle.cq_planning.specs.Relations.{Distribution, OuterJoin, Relation, distribution_of, distributions, is_between, is_distributed, is_left_in_block, is_plain}
-use Rattle.cq_planning_laws.proofs.Lists.{all_left, all_right}
-use Rattle.cq_planning_laws.proofs.Rows.{and_true}
 use Rattle.cq_planning_laws.proofs.Columns.{between}
 use Rattle.cq_pushdown_laws.specs.Pushed.{strays}
 use Rattle.cq_pushdown_laws.proofs.Choices.{IsSpread, AreSpread, single_at, single_is}
@@ -94,7 +94,7 @@ module _ (c : Contents) (held : Held) (results : Results) (groups : List ℕ) (f
   right_none start wa (Some d) pairs none stays =
       let there : list_any (λ (l : Relation). is_distributed l && is_between start (start + wa) l.start) rels ≡ true = has_left (list_any (λ (l : Relation). is_distributed l && is_between start (start + wa) l.start) rels) _ stays in
       let u : (l : Relation) × Has rels l × ((is_distributed l && is_between start (start + wa) l.start) ≡ true) = any_at (λ (l : Relation). is_distributed l && is_between start (start + wa) l.start) rels there in
-      let both = and_true (is_distributed u.0) (is_between start (start + wa) (u.0).start) u.2 in
+      let both = and_both (is_distributed u.0) (is_between start (start + wa) (u.0).start) u.2 in
       let within = between start (start + wa) (u.0).start both.1 in
       absurd (none u.0 u.1 both.0 within.0 within.1)
     where

@@ -1,6 +1,7 @@
 -- A group of a FROM's subquery that is too large in a task is too large in the whole.
 use Rattle.std.proofs.Common.{◌≡◌, inl, inr, ℕ, Bool, true, false, cond, List, map, refl, sym, ◌∙◌, None, is_some}
 use Rattle.std.specs.Prelude.{◌&&◌, ◌||◌}
+use Rattle.cq_value.proofs.Truths.{two_ways, and_both}
 use Rattle.cq_tree.specs.declared.plan.Combine.TheVariants.{RowsOnly}
 use Rattle.cq_tree.specs.declared.query.FromTree.{FromTree, Table, Sub', Result, Cross', Inner', Left', end_of-FromTree, more_of-FromTree, end_of-Query, more_of-Query}
 use Rattle.cq_tree.specs.declared.query.Query.{Query, Query'}
@@ -21,8 +22,6 @@ use Rattle.cq_planning.specs.Database.{Held, CanHold, whole}
 use Rattle.cq_planning.specs.Pushable.{pushable, relations}
 use Rattle.cq_planning.specs.Relations.{Relation, distributions, is_plain}
 use Rattle.cq_planning_laws.specs.Laid.{IsLaid, IsLaidFrom}
-use Rattle.cq_planning_laws.proofs.Lists.{two_ways}
-use Rattle.cq_planning_laws.proofs.Rows.{and_true}
 use Rattle.cq_pushdown_laws.specs.Laws.{AreWide}
 use Rattle.cq_pushdown_laws.specs.Pushed.{are_pushed, is_over_references, is_pushed, is_single, joins_pushed}
 use Rattle.cq_pushdown_laws.specs.Tables.{HoldsOnly, task_tables}
@@ -45,7 +44,7 @@ module _ (c : Contents) (widths : ℕ → ℕ) (held : Held) (results : Results)
   own_large (Query' cs ctes ss subs from filter_ grouped keys aggs having items shown distinct order limit offset names) pushed laid h =
       let q : Query = Query' cs ctes ss subs from filter_ grouped keys aggs having items shown distinct order limit offset names in
       let rels : List Relation = relations c from 0 None in
-      let both = and_true (joins_pushed c from) (are_pushed (first_of_class (equalities (conjuncts_of filter_ from))) rels (distributions is_plain rels)) pushed in
+      let both = and_both (joins_pushed c from) (are_pushed (first_of_class (equalities (conjuncts_of filter_ from))) rels (distributions is_plain rels)) pushed in
       let cut = kept_cut c held results groups filter_ from (are_spread c widths held results wide groups differ can only_here from 0 both.0 laid.0) differ both.1 in
       large_task RowsOnly q results (map (task_part q) groups) (from_rows from 0 (whole c held) results) (task_part q i) cut (has_mapped (task_part q) groups i m) (large_partial RowsOnly q results (task_part q i) ∙ h)
 
@@ -61,15 +60,15 @@ module _ (c : Contents) (widths : ℕ → ℕ) (held : Held) (results : Results)
   pub large_from : (f : FromTree) → joins_pushed c f ≡ true → IsLaidFrom c widths f → is_large_from f (task_tables c held i) results ≡ true → is_large_from f (whole c held) results ≡ true
   large_from (Table t n) is laid h = cc
   large_from (Sub' p (more_of-Query (Query' cs ctes ss subs from filter_ grouped keys aggs having items shown distinct order limit offset names) end_of-Query)) is laid h =
-      query_large (Query' cs ctes ss subs from filter_ grouped keys aggs having items shown distinct order limit offset names) is laid (λ pushed. large_from from (and_true (joins_pushed c from) _ pushed).0 laid.0) h
+      query_large (Query' cs ctes ss subs from filter_ grouped keys aggs having items shown distinct order limit offset names) is laid (λ pushed. large_from from (and_both (joins_pushed c from) _ pushed).0 laid.0) h
   large_from (Result k n) is laid h = cc
   large_from (Cross' p (more_of-FromTree a end_of-FromTree) q (more_of-FromTree b end_of-FromTree)) is laid h =
-      let both = and_true (joins_pushed c a) (joins_pushed c b) is in
+      let both = and_both (joins_pushed c a) (joins_pushed c b) is in
       either_true (is_large_from a (task_tables c held i) results) (is_large_from b (task_tables c held i) results) (is_large_from a (whole c held) results) (is_large_from b (whole c held) results) (large_from a both.0 laid.0) (large_from b both.1 laid.1) h
   large_from (Inner' p (more_of-FromTree a end_of-FromTree) q (more_of-FromTree b end_of-FromTree) on) is laid h =
-      let both = and_true (joins_pushed c a) (joins_pushed c b) is in
+      let both = and_both (joins_pushed c a) (joins_pushed c b) is in
       either_true (is_large_from a (task_tables c held i) results) (is_large_from b (task_tables c held i) results) (is_large_from a (whole c held) results) (is_large_from b (whole c held) results) (large_from a both.0 laid.0) (large_from b both.1 laid.1) h
   large_from (Left' p (more_of-FromTree a end_of-FromTree) q (more_of-FromTree b end_of-FromTree) on) is laid h =
-      let single = and_true (is_single b) (joins_pushed c a && joins_pushed c b) is in
-      let both = and_true (joins_pushed c a) (joins_pushed c b) single.1 in
+      let single = and_both (is_single b) (joins_pushed c a && joins_pushed c b) is in
+      let both = and_both (joins_pushed c a) (joins_pushed c b) single.1 in
       either_true (is_large_from a (task_tables c held i) results) (is_large_from b (task_tables c held i) results) (is_large_from a (whole c held) results) (is_large_from b (whole c held) results) (large_from a both.0 laid.0) (large_from b both.1 laid.1) h

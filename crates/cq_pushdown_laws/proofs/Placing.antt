@@ -2,6 +2,8 @@
 use Rattle.std.proofs.Common.{◌≡◌, ◌⊎◌, inl, inr, ℕ, Bool, true, false, List, [], ◌∷◌, map, filter, refl, sym, subst, None}
 use Rattle.std.specs.Prelude.{nat_eq, not}
 use Rattle.std.specs.List.{AllByRecursion, flat_map, list_any, list_all}
+use Rattle.cq_value.proofs.Lists.{all_append}
+use Rattle.cq_value.proofs.Truths.{two_ways, and_both, same_number}
 use Rattle.cq_tree.specs.declared.expression.Cond.{Cond}
 use Rattle.cq_tree.specs.declared.query.FromTree.{FromTree}
 use Rattle.cq_meaning.specs.Expressions.{keeps}
@@ -22,8 +24,7 @@ use Rattle.cq_planning.specs.Database.{Held, whole}
 use Rattle.cq_planning.specs.Pushable.{relations}
 use Rattle.cq_planning.specs.Relations.{Distribution, Relation, distributions, is_plain}
 use Rattle.cq_planning.specs.Touched.{among}
-use Rattle.cq_planning_laws.proofs.Lists.{two_ways, all_append}
-use Rattle.cq_planning_laws.proofs.Rows.{Says, kept_says, pairs_agree, class_agrees, and_true, same_number}
+use Rattle.cq_planning_laws.proofs.Rows.{Says, kept_says, pairs_agree, class_agrees}
 use Rattle.cq_pushdown_laws.specs.Pushed.{strays, are_pushed}
 use Rattle.cq_pushdown_laws.specs.Tables.{task_tables, home_in, side_of}
 use Rattle.cq_pushdown_laws.proofs.Spread.{among_has}
@@ -45,8 +46,8 @@ module _ (c : Contents) (row : Row) (first : ℕ → ℕ) (classes : (x y : ℕ)
   one_home : (ds : List Distribution) → list_all (is_one_component first d) ds ≡ true → AllByRecursion (λ e. home_by c row e ≡ home_by c row d) ds
   one_home [] h = tt
   one_home (e ∷ ds) h =
-      let both = and_true (is_one_component first d e) (list_all (is_one_component first d) ds) h in
-      let one = and_true (nat_eq d.colocation e.colocation) (is_one_class first d.column e.column) both.0 in
+      let both = and_both (is_one_component first d e) (list_all (is_one_component first d) ds) h in
+      let one = and_both (nat_eq d.colocation e.colocation) (is_one_class first d.column e.column) both.0 in
       let same : d.colocation ≡ e.colocation = same_number d.colocation e.colocation one.0 in
       let value : column row d.column ≡ column row e.column = classes d.column e.column (same_number (first d.column) (first e.column) one.1) in
       ((λ k. home_in c (sym same k) (sym value k)), one_home ds both.1)
@@ -71,7 +72,7 @@ module _ (c : Contents) (held : Held) (results : Results) (groups : List ℕ) (f
           (i : ℕ) × Has groups i × (stands (own c held results 0 from) i row ≡ true) × RightsStand (own c held results 0 from) i row × ((has_cut (own c held results 0 from) ≡ true) ⊎ (groups ≡ i ∷ []))
       by_list [] e p = cc
       by_list (d ∷ ds) e p =
-          let both = and_true (list_all (is_one_component first d) ds) (not (list_any (strays first rels) rels)) p in
+          let both = and_both (list_all (is_one_component first d) ds) (not (list_any (strays first rels) rels)) p in
           let i : ℕ = home_by c row d in
           let At : Distribution → Type 0 = λ x. home_by c row x ≡ i in
           let Here : Distribution → Type 0 = λ x. (among (home_by c row x) groups ≡ true) × (has_cut (own c held results 0 from) ≡ true) in

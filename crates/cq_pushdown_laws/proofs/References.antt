@@ -1,6 +1,7 @@
 -- What reads reference tables and results alone is in each task what it is over all rows.
 use Rattle.std.proofs.Common.{◌≡◌, ◌+◌, ℕ, true, refl, sym, ◌∙◌, ap}
 use Rattle.std.specs.Prelude.{filter, ◌||◌}
+use Rattle.cq_value.proofs.Truths.{and_both}
 use Rattle.cq_tree.specs.declared.query.FromTree.{FromTree, Table, Sub', Result, Cross', Inner', Left', end_of-FromTree, more_of-FromTree, end_of-Query, more_of-Query}
 use Rattle.cq_tree.specs.declared.query.Query.{Query, Query', out-Query}
 use Rattle.cq_meaning.specs.Groups.{distinct_if}
@@ -15,7 +16,6 @@ use Rattle.cq_catalog.specs.declared.info.Place.{Place}
 use Rattle.cq_catalog.specs.declared.info.Place.TheVariants.{Reference}
 use Rattle.cq_planning.specs.Database.{Held, whole, whole_at}
 use Rattle.cq_planning.specs.Routing.{is_reference_place}
-use Rattle.cq_planning_laws.proofs.Rows.{and_true}
 use Rattle.cq_planning_laws.proofs.Statements.{table_at}
 use Rattle.cq_pushdown_laws.specs.Laws.{ReferencesSuffice}
 use Rattle.cq_pushdown_laws.specs.Pushed.{is_over_references, reads_references}
@@ -33,11 +33,11 @@ module _ (c : Contents) (held : Held) (results : Results) (i : ℕ) where
       ap (λ rows. cut shown limit offset (sorted (keys_cmp order) (distinct_if distinct (item_rows filter_ grouped keys aggs having items results rows)))) (same_from from 0 is)
   same_from (Result k n) start is = refl
   same_from (Cross' p (more_of-FromTree a end_of-FromTree) q (more_of-FromTree b end_of-FromTree)) start is =
-      let both = and_true (reads_references c a) (reads_references c b) is in λ k. product (same_from a start both.0 k) (same_from b (start + columns_in a) both.1 k)
+      let both = and_both (reads_references c a) (reads_references c b) is in λ k. product (same_from a start both.0 k) (same_from b (start + columns_in a) both.1 k)
   same_from (Inner' p (more_of-FromTree a end_of-FromTree) q (more_of-FromTree b end_of-FromTree) on) start is =
-      let both = and_true (reads_references c a) (reads_references c b) is in λ k. filter (joins on results start) (product (same_from a start both.0 k) (same_from b (start + columns_in a) both.1 k))
+      let both = and_both (reads_references c a) (reads_references c b) is in λ k. filter (joins on results start) (product (same_from a start both.0 k) (same_from b (start + columns_in a) both.1 k))
   same_from (Left' p (more_of-FromTree a end_of-FromTree) q (more_of-FromTree b end_of-FromTree) on) start is =
-      let both = and_true (reads_references c a) (reads_references c b) is in λ k. left_join (joins on results start) (columns_in b) (same_from a start both.0 k) (same_from b (start + columns_in a) both.1 k)
+      let both = and_both (reads_references c a) (reads_references c b) is in λ k. left_join (joins on results start) (columns_in b) (same_from a start both.0 k) (same_from b (start + columns_in a) both.1 k)
 
   pub same_meaning : (q : Query) → is_over_references c q ≡ true → meaning q (task_tables c held i) results ≡ meaning q (whole c held) results
   same_meaning (Query' cs ctes ss subs from filter_ grouped keys aggs having items shown distinct order limit offset names) is =
@@ -49,11 +49,11 @@ module _ (c : Contents) (held : Held) (results : Results) (i : ℕ) where
       λ k. same_large_from from is k || has_large_group filter_ grouped keys results (same_from from 0 is k)
   same_large_from (Result k n) is = refl
   same_large_from (Cross' p (more_of-FromTree a end_of-FromTree) q (more_of-FromTree b end_of-FromTree)) is =
-      let both = and_true (reads_references c a) (reads_references c b) is in λ k. same_large_from a both.0 k || same_large_from b both.1 k
+      let both = and_both (reads_references c a) (reads_references c b) is in λ k. same_large_from a both.0 k || same_large_from b both.1 k
   same_large_from (Inner' p (more_of-FromTree a end_of-FromTree) q (more_of-FromTree b end_of-FromTree) on) is =
-      let both = and_true (reads_references c a) (reads_references c b) is in λ k. same_large_from a both.0 k || same_large_from b both.1 k
+      let both = and_both (reads_references c a) (reads_references c b) is in λ k. same_large_from a both.0 k || same_large_from b both.1 k
   same_large_from (Left' p (more_of-FromTree a end_of-FromTree) q (more_of-FromTree b end_of-FromTree) on) is =
-      let both = and_true (reads_references c a) (reads_references c b) is in λ k. same_large_from a both.0 k || same_large_from b both.1 k
+      let both = and_both (reads_references c a) (reads_references c b) is in λ k. same_large_from a both.0 k || same_large_from b both.1 k
 
   pub same_large : (q : Query) → is_over_references c q ≡ true → is_large q (task_tables c held i) results ≡ is_large q (whole c held) results
   same_large (Query' cs ctes ss subs from filter_ grouped keys aggs having items shown distinct order limit offset names) is =

@@ -3,6 +3,8 @@ use Rattle.std.proofs.Common.{◌≡◌, ◌+◌, ◌<◌, ◌≤◌, ◌⊎◌,
 use Rattle.std.specs.Prelude.{nat_eq, not, ◌&&◌, ◌||◌}
 use Rattle.std.specs.List.{AllByRecursion, list_any}
 use Rattle.std.proofs.lemmas.List.Sums.{fold-append}
+use Rattle.cq_value.proofs.Lists.{all_append, all_left, all_right}
+use Rattle.cq_value.proofs.Truths.{two_ways, and_both, same_number}
 use Rattle.cq_value.specs.declared.value.Value.TheVariants.{Null}
 use Rattle.cq_tree.specs.declared.expression.Cond.{Cond}
 use Rattle.cq_tree.specs.declared.query.FromTree.{FromTree, Table, Sub', Result, Cross', Inner', Left', end_of-FromTree, more_of-FromTree, end_of-Query, more_of-Query}
@@ -19,8 +21,7 @@ use Rattle.cq_planning.specs.Database.{Held, whole}
 use Rattle.cq_planning.specs.Narrowing.{distribution_in}
 use Rattle.cq_planning.specs.Pushable.{relations}
 use Rattle.cq_planning.specs.Relations.{Distribution, OuterJoin, Relation, distributions, is_plain, has_distributed_left, partners}
-use Rattle.cq_planning_laws.proofs.Lists.{two_ways, all_append, all_left, all_right}
-use Rattle.cq_planning_laws.proofs.Rows.{Agrees, kept_says, pairs_agree, and_true, same_number}
+use Rattle.cq_planning_laws.proofs.Rows.{Agrees, kept_says, pairs_agree}
 use Rattle.cq_planning_laws.proofs.Columns.{pad, column_pad, column_nulls, in_left, in_right}
 use Rattle.cq_pushdown_laws.specs.Pushed.{is_single, strays}
 use Rattle.cq_pushdown_laws.specs.Tables.{home_in, side_by, side_of}
@@ -90,12 +91,12 @@ module _ (c : Contents) (held : Held) (results : Results) (groups : List ℕ) (w
 
       by_class : (d : Distribution) → home_by c whole_row d ≡ i → of_class d ≡ true → home_in c colocation (column whole_row x) ≡ i
       by_class d here t =
-          let both = and_true (nat_eq d.colocation colocation) (is_one_class first d.column x) t in
+          let both = and_both (nat_eq d.colocation colocation) (is_one_class first d.column x) t in
           (λ k. home_in c (sym (same_number d.colocation colocation both.0) k) (sym (classes d.column x (same_number (first d.column) (first x) both.1)) k)) ∙ here
 
       by_right : (d : Distribution) → StandsBy d → of_right d ≡ true → home_in c colocation (column whole_row x) ≡ i
       by_right d here t =
-          let both = and_true (nat_eq d.colocation colocation) (nat_eq d.column x) t in
+          let both = and_both (nat_eq d.colocation colocation) (nat_eq d.column x) t in
           let same : d.column ≡ x = same_number d.column x both.1 in
           (λ k. home_in c (sym (same_number d.colocation colocation both.0) k) (column whole_row (sym same k))) ∙ here (ap (λ z. is_known (column whole_row z)) same ∙ known)
 

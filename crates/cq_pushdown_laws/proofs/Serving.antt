@@ -1,6 +1,7 @@
 -- The tasks of a query that is pushed serve for it.
 use Rattle.std.proofs.Common.{◌≡◌, ◌≤◌, inl, inr, ℕ, true, false, List, [], ◌∷◌, length, map, refl, sym, ◌∙◌, ap, arith, None}
 use Rattle.std.specs.Prelude.{◌||◌}
+use Rattle.cq_value.proofs.Truths.{two_ways, and_both}
 use Rattle.cq_tree.specs.declared.plan.Combine.{Combine}
 use Rattle.cq_tree.specs.declared.plan.Combine.TheVariants.{RowsOnly}
 use Rattle.cq_tree.specs.declared.query.Query.{Query, Query', out-Query}
@@ -19,8 +20,6 @@ use Rattle.cq_planning.specs.Pushable.{relations}
 use Rattle.cq_planning.specs.Reaching.{IsAscendingFrom}
 use Rattle.cq_planning.specs.Relations.{Distribution, Relation, distributions, is_plain}
 use Rattle.cq_planning_laws.specs.Laid.{IsLaid}
-use Rattle.cq_planning_laws.proofs.Lists.{two_ways}
-use Rattle.cq_planning_laws.proofs.Rows.{and_true}
 use Rattle.cq_outline.specs.Tasking.{first_column, shares_rows, combine_by}
 use Rattle.cq_pushdown_laws.specs.Laws.{AreWide, LargeBelow, PartsServe, PushdownServes}
 use Rattle.cq_pushdown_laws.specs.Pushed.{are_pushed, is_pushed, joins_pushed}
@@ -50,7 +49,7 @@ serving : (kind : Combine) (c : Contents) (widths : ℕ → ℕ) (q : Query) (he
     Serves kind q results (map (λ i. from_rows (from_of q) 0 (task_tables c held i) results) groups) → TasksServe (side_of c) kind q (whole c held) (task_tables c held) results groups
 serving kind c widths (Query' cs ctes ss subs from filter_ grouped keys aggs having items shown distinct order limit offset names) held results groups laid wide pushed can ascending only_here serves =
     let rels : List Relation = relations c from 0 None in
-    let both = and_true (joins_pushed c from) (are_pushed (first_of_class (equalities (conjuncts_of filter_ from))) rels (distributions is_plain rels)) pushed in
+    let both = and_both (joins_pushed c from) (are_pushed (first_of_class (equalities (conjuncts_of filter_ from))) rels (distributions is_plain rels)) pushed in
     let differ = ascending_distinct 0 groups ascending in
     let spread : AreSpread c held results groups from 0 = are_spread c widths held results wide groups differ can only_here from 0 both.0 laid.0 in
     (differ, all_fit c held results groups from 0 spread, placed c held results groups filter_ from spread both.1, serves)
@@ -75,7 +74,7 @@ parts_apart c widths (Query' cs ctes ss subs from filter_ grouped keys aggs havi
     rels = relations c from 0 None
 
     both : (joins_pushed c from ≡ true) × (are_pushed first rels (distributions is_plain rels) ≡ true)
-    both = and_true (joins_pushed c from) (are_pushed first rels (distributions is_plain rels)) pushed
+    both = and_both (joins_pushed c from) (are_pushed first rels (distributions is_plain rels)) pushed
 
     spread : AreSpread c held results groups from 0
     spread = are_spread c widths held results wide groups (ascending_distinct 0 groups ascending) can only_here from 0 both.0 laid.0
@@ -105,4 +104,4 @@ large_below c widths q held results groups laid wide pushed can ascending only_h
   where
     by_parts : (q : Query) → IsLaid c widths q → is_pushed c q ≡ true → is_large_from (from_of q) (task_tables c held i) results ≡ true → is_large_from (from_of q) (whole c held) results ≡ true
     by_parts (Query' cs ctes ss subs from filter_ grouped keys aggs having items shown distinct order limit offset names) laid pushed h =
-        large_from c widths held results wide groups (ascending_distinct 0 groups ascending) can only_here i m from (and_true (joins_pushed c from) _ pushed).0 laid.0 h
+        large_from c widths held results wide groups (ascending_distinct 0 groups ascending) can only_here i m from (and_both (joins_pushed c from) _ pushed).0 laid.0 h

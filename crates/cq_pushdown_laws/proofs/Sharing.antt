@@ -3,6 +3,8 @@
 use Rattle.std.proofs.Common.{◌≡◌, ◌<◌, suc, zero, inl, inr, ℕ, Bool, true, false, List, [], ◌∷◌, ◌++◌, map, filter, take, length, refl, sym, ◌∙◌, ap, subst, arith}
 use Rattle.std.specs.Prelude.{◌⊎◌, ◌&&◌, ◌||◌, not, nat_lt, slice_index_or}
 use Rattle.std.specs.List.{list_any}
+use Rattle.cq_value.proofs.Truths.{same_number, two_ways}
+use Rattle.cq_value.proofs.Lists.{map_map}
 use Rattle.cq_tree.specs.declared.expression.Cond.{Cond}
 use Rattle.cq_tree.specs.declared.expression.Expr.{Expr, Column}
 use Rattle.cq_tree.specs.declared.plan.Combine.TheVariants.{Groups}
@@ -16,7 +18,6 @@ use Rattle.cq_meaning.specs.Expressions.{value_of, items_of, keeps}
 use Rattle.cq_meaning.specs.Groups.{group_row, group_with, groups_of, aggregate, distinct}
 use Rattle.cq_meaning.specs.Lists.{Has}
 use Rattle.cq_meaning.specs.Queries.{item_rows}
-use Rattle.cq_meaning.proofs.MapLaws.{map_map}
 use Rattle.cq_meaning.proofs.RowLaws.{distinct_has, has_filtered}
 use Rattle.cq_task_laws.specs.Cutting.{AreDistinct}
 use Rattle.cq_task_laws.specs.Gathering.{IsNonEmpty, ShareNo, Serves}
@@ -26,9 +27,7 @@ use Rattle.cq_planning.specs.Classes.{first_of_class}
 use Rattle.cq_planning.specs.Components.{is_of_class}
 use Rattle.cq_planning.specs.Conjuncts.{conjuncts_of, equalities, column_of}
 use Rattle.cq_planning.specs.Pushable.{column_behind}
-use Rattle.cq_planning_laws.proofs.Rows.{same_number}
 use Rattle.cq_outline.specs.Tasking.{shares_rows}
-use Rattle.cq_planning_laws.proofs.Lists.{two_ways}
 
 -- ---- lists
 

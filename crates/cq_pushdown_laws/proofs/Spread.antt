@@ -4,6 +4,8 @@ use Rattle.std.specs.Prelude.{nat_eq, not, ◌||◌}
 use Rattle.std.specs.List.{AllByRecursion}
 use Rattle.std.proofs.lemmas.List.Elements.{filter-append}
 use Rattle.std.proofs.lemmas.Bool.Decides.{eqb_tells}
+use Rattle.cq_value.proofs.Lists.{all_weaker}
+use Rattle.cq_value.proofs.Truths.{two_ways}
 use Rattle.cq_value.specs.declared.value.Value.{Value}
 use Rattle.cq_meaning.specs.Lists.{Has}
 use Rattle.cq_meaning.specs.Values.{Row, column, table_rows}
@@ -21,7 +23,6 @@ use Rattle.cq_planning.specs.Reaching.{IsAscendingFrom}
 use Rattle.cq_planning.specs.Relations.{distribution_at}
 use Rattle.cq_planning.specs.Touched.{among}
 use Rattle.cq_planning_laws.specs.Laid.{IsColumnOf}
-use Rattle.cq_planning_laws.proofs.Lists.{two_ways, all_weaker}
 use Rattle.cq_planning_laws.proofs.Listed.{listed, listed_at}
 use Rattle.cq_planning_laws.proofs.Statements.{table_at, table_wide, wide_row}
 use Rattle.cq_pushdown_laws.specs.Tables.{task_at, task_from, task_tables, HoldsOnly, home_in, side_by}

@@ -2,13 +2,15 @@
 use Rattle.std.proofs.Common.{◌≡◌, ◌+◌, inl, inr, ℕ, Bool, true, false, List, [], ◌∷◌, ◌++◌, length, take, drop, refl, sym, ◌∙◌, ap, subst, arith, eq-eqb, Some, None, Option, is_some}
 use Rattle.std.specs.Prelude.{nat_eq, not, ◌&&◌, ◌||◌, ◌↔◌}
 use Rattle.std.specs.List.{AllByRecursion}
+use Rattle.cq_value.proofs.Lists.{all_append, all_left, all_right, all_weaker}
+use Rattle.cq_value.proofs.Truths.{both_true, two_ways, and_both, same_number}
 use Rattle.cq_tree.specs.declared.query.FromTree.{FromTree, Table, Sub', Result, Cross', Inner', Left', end_of-FromTree, more_of-FromTree, end_of-Query, more_of-Query}
 use Rattle.cq_meaning.specs.Lists.{Has}
 use Rattle.cq_meaning.specs.Values.{Row, Results, column}
 use Rattle.cq_meaning.specs.Queries.{columns_in, from_rows}
 use Rattle.cq_task_laws.specs.Cutting.{width_of, IsChoice, stands}
 use Rattle.cq_task_laws.specs.Tasks.{has_cut}
-use Rattle.cq_task_laws.proofs.CutLaws.{take_left, drop_left, both_true}
+use Rattle.cq_task_laws.proofs.CutLaws.{take_left, drop_left}
 use Rattle.cq_catalog.specs.Contents.{Contents}
 use Rattle.cq_planning.specs.Conjuncts.{conjuncts, equalities}
 use Rattle.cq_planning.specs.Database.{Held, whole}
@@ -16,8 +18,6 @@ use Rattle.cq_planning.specs.Narrowing.{distribution_in}
 use Rattle.cq_planning.specs.Pushable.{relations}
 use Rattle.cq_planning.specs.Relations.{Distribution, OuterJoin, Relation, distribution_of, is_plain, distributions}
 use Rattle.cq_planning.specs.Touched.{among}
-use Rattle.cq_planning_laws.proofs.Lists.{two_ways, all_append, all_left, all_right, all_weaker}
-use Rattle.cq_planning_laws.proofs.Rows.{and_true, same_number}
 use Rattle.cq_planning_laws.proofs.Columns.{column_pad}
 use Rattle.cq_pushdown_laws.specs.Pushed.{is_single}
 use Rattle.cq_pushdown_laws.specs.Tables.{home_in, side_by, side_of}
@@ -91,7 +91,7 @@ module _ (c : Contents) (held : Held) (results : Results) (groups : List ℕ) (w
         let rb : List Relation = relations c b (start + columns_in a) None in (
           λ plain. both_true (stands (own c held results start a) i (take w row)) (stands (own c held results (start + columns_in a) b) i (drop w row)) (in_a ∙ tells_a.0 (all_left IsPlainAt ra rb plain)) (in_b ∙ tells_b.0 (all_right IsPlainAt ra rb plain)),
           λ here.
-              (let both = and_true (stands (own c held results start a) i (take w row)) (stands (own c held results (start + columns_in a) b) i (drop w row)) here in
+              (let both = and_both (stands (own c held results start a) i (take w row)) (stands (own c held results (start + columns_in a) b) i (drop w row)) here in
               all_append IsPlainAt ra rb (tells_a.1 (sym in_a ∙ both.0)) (tells_b.1 (sym in_b ∙ both.1))),
         )
 

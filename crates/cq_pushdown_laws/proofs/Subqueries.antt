@@ -9,6 +9,8 @@ use Rattle.std.proofs.lemmas.Bool.{eqb-true, eq-eqb}
 use Rattle.std.proofs.lemmas.List.{length-take-le}
 use Rattle.std.proofs.lemmas.List.Quantifiers.{position-Some}
 use Rattle.std.proofs.lemmas.List.Sorted.{IsPermutation-refl}
+use Rattle.cq_value.proofs.Truths.{and_both, same_number}
+use Rattle.cq_value.proofs.Lists.{none_is}
 use Rattle.cq_tree.specs.declared.expression.Cond.{Cond}
 use Rattle.cq_tree.specs.declared.expression.Expr.{Expr, Column}
 use Rattle.cq_tree.specs.declared.query.Agg.{Agg}
@@ -45,7 +47,6 @@ use Rattle.cq_planning.specs.Relations.{Distribution, Relation, distribution_at,
 use Rattle.cq_planning.specs.Touched.{among}
 use Rattle.cq_planning_laws.specs.Laid.{IsColumnOf, IsLaid, IsLaidFrom}
 use Rattle.cq_planning_laws.proofs.RowFacts.{IsWide, mean_wide}
-use Rattle.cq_planning_laws.proofs.Rows.{and_true, same_number}
 use Rattle.cq_pushdown_laws.specs.Laws.{AreWide}
 use Rattle.cq_pushdown_laws.specs.Pushed.{are_pushed, is_over_references, is_pushed, is_single, joins_pushed, strays}
 use Rattle.cq_pushdown_laws.specs.Tables.{HoldsOnly, home_in, task_tables}
@@ -61,10 +62,6 @@ use Rattle.cq_pushdown_laws.proofs.Sharing.{IsOne, Source, any_there, apart_serv
 of_if : {X : Type 0} (b : Bool) (o : Option X) (p : X) → cond b o None ≡ Some p → (b ≡ true) × (o ≡ Some p)
 of_if true o p e = (refl, e)
 of_if false o p e = cc
-
-none_is : {X : Type 0} (o : Option X) → is_none o ≡ true → o ≡ None
-none_is None e = refl
-none_is (Some x) e = cc
 
 where_grouped : (g k : Bool) → (not g || k) ≡ true → g ≡ true → k ≡ true
 where_grouped true k h e = h
@@ -105,10 +102,10 @@ pushes first rels [] ps grouped keys outputs limit offset p h d more is = cc
 pushes first rels (r ∷ rs) [] grouped keys outputs limit offset p h d more is = cc
 pushes first rels (r ∷ rs) (q ∷ ps) grouped keys outputs limit offset p h d more is =
     let f = of_if _ _ p h in
-    let a = and_true _ _ f.0 in
-    let b = and_true _ _ a.1 in
-    let e = and_true _ _ b.1 in
-    let z = and_true _ _ e.1 in
+    let a = and_both _ _ f.0 in
+    let b = and_both _ _ a.1 in
+    let e = and_both _ _ b.1 in
+    let z = and_both _ _ e.1 in
     let same : r ≡ d = head_is r d rs more is in
     subst (λ x. Pushes first x grouped keys outputs limit offset p) same
     (output_pushes first r grouped keys outputs limit offset p (position (λ e. is_of_class first r.column (column_behind grouped keys (column_of e))) outputs) refl (none_is limit e.0) (same_number offset 0 z.0)
@@ -308,7 +305,7 @@ module _ (c : Contents) (widths : ℕ → ℕ) (held : Held) (results : Results)
   pushed_spread : (q : Query) (p : Pushable) → pushable c q ≡ Some p → is_pushed c q ≡ true → IsLaid c widths q → AreSpread c held results groups (from_of q) 0 → (s : _) (start : ℕ) →
       IsSpreadBy c held results groups (distribution_by 0 (Some p)) (Sub' s (more_of-Query q end_of-Query)) start
   pushed_spread (Query' ns ctes nss subs from filter_ grouped keys aggs having items shown distinct order limit offset names) p e pushed laid are s start =
-      by_plain (distributions is_plain rels) refl (and_true (joins_pushed c from) (are_pushed first rels (distributions is_plain rels)) pushed).1
+      by_plain (distributions is_plain rels) refl (and_both (joins_pushed c from) (are_pushed first rels (distributions is_plain rels)) pushed).1
     where
       q : Query
       q = Query' ns ctes nss subs from filter_ grouped keys aggs having items shown distinct order limit offset names
@@ -322,7 +319,7 @@ module _ (c : Contents) (widths : ℕ → ℕ) (held : Held) (results : Results)
       by_plain : (xs : List Distribution) → distributions is_plain rels ≡ xs → are_pushed first rels xs ≡ true → IsSpreadBy c held results groups (distribution_by 0 (Some p)) (Sub' s (more_of-Query q end_of-Query)) start
       by_plain [] plain y = cc
       by_plain (d ∷ ds) plain y =
-          let stay = none_strays (strays first rels) rels (and_true (list_all (is_one_component first d) ds) (not (list_any (strays first rels) rels)) y).1 in
+          let stay = none_strays (strays first rels) rels (and_both (list_all (is_one_component first d) ds) (not (list_any (strays first rels) rels)) y).1 in
           let begins : (more : List Distribution) × (distributions (is_left_in_block rels) rels ≡ d ∷ more) = first_stays c held results groups first from are stay d ds plain in
           sub_spread filter_ grouped keys aggs having items shown distinct order limit offset results c held groups differ from are p d ds plain y
           (pushes first rels (distributions (is_left_in_block rels) rels) (distributions is_plain rels) grouped keys (take shown items) limit offset p e d begins.0 begins.1)
@@ -346,13 +343,13 @@ module _ (c : Contents) (widths : ℕ → ℕ) (held : Held) (results : Results)
   are_spread (Table t n) start is laid = table_spread t n start laid
   are_spread (Sub' s (more_of-Query (Query' ns ctes nss subs from filter_ grouped keys aggs having items shown distinct order limit offset names) end_of-Query)) start is laid =
       let q : Query = Query' ns ctes nss subs from filter_ grouped keys aggs having items shown distinct order limit offset names in
-      query_spread q s start is laid (λ pushed. are_spread from 0 (and_true (joins_pushed c from) _ pushed).0 laid.0)
+      query_spread q s start is laid (λ pushed. are_spread from 0 (and_both (joins_pushed c from) _ pushed).0 laid.0)
   are_spread (Result k n) start is laid = result_spread k n start laid
   are_spread (Cross' p (more_of-FromTree a end_of-FromTree) q (more_of-FromTree b end_of-FromTree)) start is laid =
-      let both = and_true (joins_pushed c a) (joins_pushed c b) is in (are_spread a start both.0 laid.0, are_spread b (start + columns_in a) both.1 laid.1)
+      let both = and_both (joins_pushed c a) (joins_pushed c b) is in (are_spread a start both.0 laid.0, are_spread b (start + columns_in a) both.1 laid.1)
   are_spread (Inner' p (more_of-FromTree a end_of-FromTree) q (more_of-FromTree b end_of-FromTree) on) start is laid =
-      let both = and_true (joins_pushed c a) (joins_pushed c b) is in (are_spread a start both.0 laid.0, are_spread b (start + columns_in a) both.1 laid.1)
+      let both = and_both (joins_pushed c a) (joins_pushed c b) is in (are_spread a start both.0 laid.0, are_spread b (start + columns_in a) both.1 laid.1)
   are_spread (Left' p (more_of-FromTree a end_of-FromTree) q (more_of-FromTree b end_of-FromTree) on) start is laid =
-      let single = and_true (is_single b) (joins_pushed c a && joins_pushed c b) is in
-      let both = and_true (joins_pushed c a) (joins_pushed c b) single.1 in
+      let single = and_both (is_single b) (joins_pushed c a && joins_pushed c b) is in
+      let both = and_both (joins_pushed c a) (joins_pushed c b) single.1 in
       (are_spread a start both.0 laid.0, single_spread b (start + columns_in a) single.0 (are_spread b (start + columns_in a) both.1 laid.1))

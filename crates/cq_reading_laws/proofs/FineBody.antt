@@ -2,6 +2,8 @@
 use Rattle.std.proofs.Common.{◌≡◌, ℕ, ◌+◌, ◌≤◌, Bool, true, false, ◌||◌, not, List, [], ◌∷◌, ◌++◌, map, take, length, refl, sym, ap, ◌∙◌, subst, arith, Option, None, Some}
 use Rattle.std.specs.Prelude.{⊤, slice_get}
 use Rattle.std.specs.List.{AllByRecursion, list_any}
+use Rattle.cq_value.proofs.Lists.{append_nil}
+use Rattle.cq_value.proofs.Truths.{or_left, or_right}
 use Rattle.cq_tree.specs.declared.expression.Expr.{Expr}
 use Rattle.cq_tree.specs.declared.expression.Cond.{Cond, Always}
 use Rattle.cq_tree.specs.declared.query.Agg.{Agg}
@@ -25,7 +27,7 @@ use Rattle.cq_reading.specs.Selects as s
 use Rattle.cq_reading.specs.Walk.{groups, block_of}
 use Rattle.cq_reading_laws.specs.Bounds.{HasBits, HaveBits, MayStand, Onward, AggregatesStand}
 use Rattle.cq_reading_laws.specs.Worlds.{OutputsFit}
-use Rattle.cq_reading_laws.proofs.Onwards.{Kept, now, on, more_results, gives, where_fit, onwards, append_empty}
+use Rattle.cq_reading_laws.proofs.Onwards.{Kept, now, on, more_results, gives, where_fit, onwards}
 use Rattle.cq_reading_laws.proofs.Standing.{no_truth}
 use Rattle.cq_reading_laws.proofs.CarryingParts.{IfPart}
 use Rattle.cq_reading_laws.proofs.FineParts.{PartStands}
@@ -57,14 +59,6 @@ pub record PartsStand (q : Layer Select-F) : Type 0 where
   pub order : AllByRecursion (λ o. PartStands o.key) q.order
 
 -- ---- where it groups
-
-or_left : (a b : Bool) → a ≡ true → (a || b) ≡ true
-or_left true b h = refl
-or_left false b h = absurd (no_truth h)
-
-or_right : (a b : Bool) → b ≡ true → (a || b) ≡ true
-or_right true b h = refl
-or_right false b h = h
 
 any_holds : {A : Type 0} (f : A → Bool) (xs : List A) (T : Bool) → (list_any f xs ≡ true → T ≡ true) → AllByRecursion (λ x. f x ≡ true → T ≡ true) xs
 any_holds f [] T h = tt
@@ -123,7 +117,7 @@ module _ (cs : Columns) (w : World) (q : Layer Select-F) (parts : PartsStand q) 
   after keys m = s.after_grouping w r (groups q) keys m
 
   bits_there : (i : ℕ) (c : _) → slice_get r.columns i ≡ Some c → HasBits ks (0 + i) c
-  bits_there i c is = subst (λ js. HasBits js (0 + i) c) (append_empty ks) (sources_have [] ks [] r.columns joined.columns i c is)
+  bits_there i c is = subst (λ js. HasBits js (0 + i) c) (append_nil ks) (sources_have [] ks [] r.columns joined.columns i c is)
 
   have_before : (m : Bool) → HaveBits ks (before m)
   have_before m i c is = bits_there i c is
@@ -204,7 +198,7 @@ module _ (cs : Columns) (w : World) (q : Layer Select-F) (parts : PartsStand q) 
       onwards ks (OrderFine ks (after keys false) (have_after keys false) outs) BlockFine m4 (s.order_keys (after keys false) outs q.distinct q.order (record { items = map s.item_of outs; keys = [] }) m4) _
       (order_fine ks (after keys false) (have_after keys false) outs q.distinct q.order (record { items = map s.item_of outs; keys = [] }) m4
       (order_stand ks (after keys false) (have_after keys false) q.order parts.order (any_holds (λ (o : OrderPart). o.key.aggregates) q.order (groups q) groups_order))
-      (λ later l. (([], sym (append_empty (map s.item_of outs))), exprs_shown keys later outs (g4 later l)))) (λ o m5 l5 g5.
+      (λ later l. (([], sym (append_nil (map s.item_of outs))), exprs_shown keys later outs (g4 later l)))) (λ o m5 l5 g5.
       gives ks BlockFine m5 (block_of q r c keys h outs o m5) (λ later l.
       let a4 = l5 in let a3 = on ks m3 m4 m5 l4 l5 in let a2 = on ks m2 m3 m5 l3 a3 in let a1 = on ks m1 m2 m5 l2 a2 in let a0 = on ks first m1 m5 l1 a1 in
       let p = g5 m5 (now ks m5) in (

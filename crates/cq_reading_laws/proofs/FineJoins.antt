@@ -1,6 +1,7 @@
 -- The joins of a FROM are what the engine asks for.
 use Rattle.std.proofs.Common.{◌≡◌, ℕ, ◌+◌, ◌≤◌, Bool, true, false, List, [], ◌∷◌, ◌++◌, length, refl, sym, subst, arith, Result, Ok, Err}
 use Rattle.std.specs.Prelude.{⊤}
+use Rattle.cq_value.proofs.Lists.{append_nil}
 use Rattle.cq_grammar.specs.declared.name.Name.{Name}
 use Rattle.cq_tree.specs.declared.expression.Cond.{Cond}
 use Rattle.cq_tree.specs.declared.query.FromTree.{FromTree, Sub}
@@ -21,7 +22,7 @@ use Rattle.cq_reading.specs.Relations as r
 use Rattle.cq_reading_laws.specs.Bounds.{HasBits, HaveBits, AggregatesStand}
 use Rattle.cq_reading_laws.specs.Worlds.{SourcesFit, WorldFits, BlockStands}
 use Rattle.cq_reading_laws.proofs.Standing.{no_truth}
-use Rattle.cq_reading_laws.proofs.Onwards.{Kept, Fine, more_results, append_empty, append_all}
+use Rattle.cq_reading_laws.proofs.Onwards.{Kept, Fine, more_results, append_all}
 use Rattle.cq_reading_laws.proofs.FineParts.{PartStands}
 use Rattle.cq_reading_laws.proofs.FineFrom.{Joined, JoinedIf, joined_provided, joined_where, sources_append, sources_have, outputs_fit}
 use Rattle.cq_reading_laws.proofs.Trees.{bits_sub, bound_sub}
@@ -103,7 +104,7 @@ module _ (cs : Columns) (w : World) (first : ℕ) (ahead : List ℕ) (same : len
       both_joined cs ahead (λ x y. make x y (cond_of p.0)) a b start f g p.1 h k (read []).0.results (λ more. (read more).0.stand) (is (cond_of p.0)) (λ l left right.
       let last : Found = record p.1 { results = length cs.results } in
       let s = (read []).1 last (more_results (over []) p.1 last l refl) in
-      bound (cond_of p.0) left right (subst (λ ks. IsBoundCondition (ahead ++ ks) (length cs.results) (cond_of p.0)) (append_empty B) s.condition))
+      bound (cond_of p.0) left right (subst (λ ks. IsBoundCondition (ahead ++ ks) (length cs.results) (cond_of p.0)) (append_nil B) s.condition))
 
   of_truth : (make : FromTree → FromTree → Cond → FromTree) (p : Bound × Found) (t : Bool) (e : BindError) → Joined cs ahead start (r.both (λ x y. make x y (cond_of p.0)) a b) p.1
       → JoinedIf cs ahead start (follow (provided t e (give (cond_of p.0)) p.1) (λ c. give (r.both (λ x y. make x y c) a b)))

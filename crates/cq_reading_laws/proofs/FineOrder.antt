@@ -2,6 +2,7 @@
 use Rattle.std.proofs.Common.{◌≡◌, ℕ, ◌+◌, ◌-◌, Bool, ◌&&◌, not, List, [], ◌∷◌, ◌++◌, map, length, ap, ◌∙◌, Option, None, Some}
 use Rattle.std.specs.Prelude.{slice_get, position, nat_lt}
 use Rattle.std.specs.List.{AllByRecursion}
+use Rattle.cq_value.proofs.Lists.{all_more}
 use Rattle.cq_tree.specs.declared.expression.Expr.{Expr}
 use Rattle.cq_reading.specs.declared.bound.Found.{Found}
 use Rattle.cq_reading.specs.declared.bound.Shown.{Shown}
@@ -21,10 +22,6 @@ use Rattle.cq_reading_laws.specs.Bounds.{HaveBits, MayStand, Onward}
 use Rattle.cq_reading_laws.proofs.Onwards.{Later, Kept, lasts, gives, where_fit, onwards, through_all, append_all}
 use Rattle.cq_reading_laws.proofs.FineParts.{PartStands}
 use Rattle.cq_reading_laws.proofs.FineLists.{ExprFine, ValueFine, value_fine}
-
-all_more : {B : Type 0} (P : B → Type 0) (bs : List B) (b : B) → AllByRecursion P bs → P b → AllByRecursion P (bs ++ b ∷ [])
-all_more P [] b h p = (p, tt)
-all_more P (c ∷ bs) b h p = (h.0, all_more P bs b h.1 p)
 
 module _ (ks : List ℕ) (cx : Context) (have : HaveBits ks cx) (outputs : List Shown) where
   -- the outputs come first, and all items stand

@@ -1,6 +1,7 @@
 -- The nodes of expressions over parts that stand.
 use Rattle.std.proofs.Common.{◌≡◌, ℕ, if◌then◌else◌, Bool, true, false, ◌&&◌, ◌||◌, not, List, [], ◌∷◌, map, length, refl, sym, subst}
 use Rattle.std.specs.List.{AllByRecursion}
+use Rattle.cq_value.proofs.Truths.{and_left}
 use Rattle.cq_grammar.specs.declared.expr.NullTest.{NullTest}
 use Rattle.cq_grammar.specs.declared.expr.Comparison.{Comparison}
 use Rattle.cq_reading.specs.declared.bound.Found.{Found}
@@ -15,7 +16,7 @@ use Rattle.cq_reading.specs.Expressions as e
 use Rattle.cq_reading.specs.Expressions.{reads, behind_keys}
 use Rattle.cq_reading_laws.specs.Bounds.{HaveBits, MayStand, Onward}
 use Rattle.cq_reading_laws.proofs.Onwards.{Later, Kept, Fine, on, lasts, gives, onwards, through_all, next_one, each_one}
-use Rattle.cq_reading_laws.proofs.Standing.{no_truth, left_true}
+use Rattle.cq_reading_laws.proofs.Standing.{no_truth}
 use Rattle.cq_reading_laws.proofs.FromLeft.{from_left_keeps, from_left_aggregates}
 use Rattle.cq_reading_laws.proofs.FineRules.{added_fine, multiplied_fine, compared_fine, negated_fine, null_tested_fine, between_fine, listed_fine, chain_fine, PartsFine}
 use Rattle.cq_reading_laws.proofs.FineNames.{Plain, keyed_fine}
@@ -35,7 +36,7 @@ by_case false r ks cx found grouped g h = h
 -- a node that stands, stands as a whole key too
 pub behind_stands : (selects aggregates : Bool) (r : Context → Reading Bound) → Stand aggregates r → Stand aggregates (behind_keys selects r)
 behind_stands selects aggregates r h ks cx have may found =
-    by_case (cx.grouped && not selects) r ks cx found (left_true cx.grouped (not selects)) (h ks (plain cx) have (λ a b. absurd (no_truth b)) rule.nothing) (h ks cx have may found)
+    by_case (cx.grouped && not selects) r ks cx found (and_left cx.grouped (not selects)) (h ks (plain cx) have (λ a b. absurd (no_truth b)) rule.nothing) (h ks cx have may found)
 
 abbrev pub AnyOf : List Part → Bool
 AnyOf ps = e.any_aggregates ps

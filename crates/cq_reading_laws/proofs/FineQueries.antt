@@ -2,6 +2,8 @@
 use Rattle.std.proofs.Common.{◌≡◌, ℕ, zero, suc, ◌+◌, ◌≤◌, Bool, true, false, not, List, [], ◌∷◌, ◌++◌, length, refl, sym, ap, ◌∙◌, subst, arith, Option, None, Some, Result, Ok, Err}
 use Rattle.std.specs.Prelude.{⊤, slice_get, slice_index_or}
 use Rattle.std.specs.List.{AllByRecursion}
+use Rattle.cq_value.proofs.Truths.{and_left, and_right}
+use Rattle.cq_value.proofs.Lists.{all_more}
 use Rattle.cq_catalog.specs.declared.info.TableInfo.{TableInfo}
 use Rattle.cq_grammar.specs.declared.query.Select.{Select}
 use Rattle.cq_grammar.specs.declared.query.Query as written
@@ -22,7 +24,6 @@ use Rattle.cq_reading.specs.Statements as st
 use Rattle.cq_reading_laws.specs.Worlds.{OutputsFit, WorldFits, BlockStands}
 use Rattle.cq_reading_laws.specs.Written.{written_select}
 use Rattle.cq_reading_laws.specs.QueryLaws.{written_tables, HaveResults, QueriesBound}
-use Rattle.cq_reading_laws.proofs.Standing.{left_true, right_true}
 use Rattle.cq_reading_laws.proofs.Carrying.{Carries}
 use Rattle.cq_reading_laws.proofs.Growth.{Grew}
 use Rattle.cq_reading_laws.proofs.GrowthWalk.{select_grows}
@@ -53,10 +54,6 @@ with_last P [] y h k zero x is = subst (λ o. IfSome (P 0) o) is k
 with_last P [] y h k (suc i) x is = absurd (subst (λ o. IsNone o) is tt)
 with_last P (a ∷ xs) y h k zero x is = h zero x is
 with_last P (a ∷ xs) y h k (suc i) x is = with_last (λ i x. P (suc i) x) xs y (λ i x is. h (suc i) x is) k i x is
-
-all_more : {B : Type 0} (P : B → Type 0) (bs : List B) (b : B) → AllByRecursion P bs → P b → AllByRecursion P (bs ++ b ∷ [])
-all_more P [] b h p = (p, tt)
-all_more P (c ∷ bs) b h p = (h.0, all_more P bs b h.1 p)
 
 pub length_more : {A : Type 0} (xs : List A) (y : A) → length (xs ++ y ∷ []) ≡ length xs + 1
 length_more [] y = refl
@@ -107,7 +104,7 @@ module _ (cs : Columns) (tables : List TableInfo) where
 
   all_commons : (ctes : List CommonTable) (p : st.Ctes) (f : Found) → written_tables ctes ≡ true → Commons p f → CommonsIf (through (st.with_cte tables) ctes p f)
   all_commons [] p f w h = h
-  all_commons (c ∷ more) p f w h = after_step (st.with_cte tables p c f) (through (st.with_cte tables) more) (step p c f (left_true _ _ w) h) (λ q g k. all_commons more q g (right_true _ _ w) k)
+  all_commons (c ∷ more) p f w h = after_step (st.with_cte tables p c f) (through (st.with_cte tables) more) (step p c f (and_left _ _ w) h) (λ q g k. all_commons more q g (and_right _ _ w) k)
 
   -- ---- the query over them
 

@@ -3,6 +3,7 @@ use Rattle.std.proofs.Common.{◌≡◌, ◌≢◌, ℕ, zero, suc, ℤ, pos, �
 use Rattle.std.specs.List.{AllByRecursion}
 use Rattle.std.specs.Ordering.{int_eq}
 use Rattle.std.proofs.lemmas.Bool.Decides.{Decides-int_eq}
+use Rattle.cq_value.proofs.Truths.{and_left, and_right}
 use Rattle.cq_tree.specs.declared.expression.Op.TheVariants as op
 use Rattle.cq_tree.specs.declared.expression.Expr.{Expr, Div, Rem, Case}
 use Rattle.cq_tree.specs.declared.expression.Cond.{Cond, Compare, IsNull, And}
@@ -25,7 +26,7 @@ use Rattle.cq_reading.specs.Scopes.{Context}
 use Rattle.cq_reading.specs.Rules as rule
 use Rattle.cq_reading_laws.specs.Bounds.{Stands, bits_in, Onward}
 use Rattle.cq_reading_laws.proofs.Onwards.{Later, Kept, Fine, on, lasts, gives, where_fit, onwards}
-use Rattle.cq_reading_laws.proofs.Standing.{no_truth, left_true, right_true, stands_truth, stands_neg, stands_add, stands_sub, stands_mul, stands_div, stands_rem, stands_same, bound_negated, bound_joined, bound_and, stands_listed, stands_coalesce, stands_case, PairStands}
+use Rattle.cq_reading_laws.proofs.Standing.{no_truth, stands_truth, stands_neg, stands_add, stands_sub, stands_mul, stands_div, stands_rem, stands_same, bound_negated, bound_joined, bound_and, stands_listed, stands_coalesce, stands_case, PairStands}
 use Rattle.cq_reading_laws.proofs.Types.{some_width}
 
 pub fits : (w : ℕ) → fits_width w ≡ true → w ≤ 127
@@ -48,8 +49,8 @@ module _ (ks : List ℕ) (cx : Context) (found : Found) where
       gives ks (Fine ks cx) found (Value e type.Number width) (h t (fits width f))))
 
   pub added_fine : (o : AddOperator) (a b : Bound) (at : ℕ) → IsFine a → IsFine b → Gives (rule.added o a b at found)
-  added_fine add.Plus a b at h k = numbers_fine _ _ (is_number a && is_number b) at (λ t f later l. stands_add _ _ a b (h later l) (k later l) (left_true _ _ t) (right_true _ _ t) f)
-  added_fine add.Minus a b at h k = numbers_fine _ _ (is_number a && is_number b) at (λ t f later l. stands_sub _ _ a b (h later l) (k later l) (left_true _ _ t) (right_true _ _ t) f)
+  added_fine add.Plus a b at h k = numbers_fine _ _ (is_number a && is_number b) at (λ t f later l. stands_add _ _ a b (h later l) (k later l) (and_left _ _ t) (and_right _ _ t) f)
+  added_fine add.Minus a b at h k = numbers_fine _ _ (is_number a && is_number b) at (λ t f later l. stands_sub _ _ a b (h later l) (k later l) (and_left _ _ t) (and_right _ _ t) f)
 
   pub signed_fine : (o : AddOperator) (a : Bound) (at : ℕ) → IsFine a → Gives (rule.signed o a at found)
   signed_fine add.Plus a at h = numbers_fine _ _ (is_number a) at (λ t f later l. stands_same _ _ a (h later l) t)
@@ -64,13 +65,13 @@ module _ (ks : List ℕ) (cx : Context) (found : Found) where
       gives ks (Fine ks cx) found (Value (make (expr_of a) c) type.Number width) (h c (not_zero c z) (fits width f))))
 
   pub multiplied_fine : (o : MultiplyOperator) (a b : Bound) (c : Option ℤ) (at : ℕ) → IsFine a → IsFine b → Gives (rule.multiplied o a b c at found)
-  multiplied_fine multiply.Times a b c at h k = numbers_fine _ _ (is_number a && is_number b) at (λ t f later l. stands_mul _ _ a b (h later l) (k later l) (left_true _ _ t) (right_true _ _ t) f)
+  multiplied_fine multiply.Times a b c at h k = numbers_fine _ _ (is_number a && is_number b) at (λ t f later l. stands_mul _ _ a b (h later l) (k later l) (and_left _ _ t) (and_right _ _ t) f)
   multiplied_fine multiply.Divide a b c at h k =
       where_fit ks (Fine ks cx) found (is_number a && is_number b) (error.Type at) (rule.divided_by Div (width_of a + 1) a at c) (λ t.
-      divided_fine Div (width_of a + 1) a at c (λ c z f later l. stands_div _ _ a c (h later l) (left_true _ _ t) f z))
+      divided_fine Div (width_of a + 1) a at c (λ c z f later l. stands_div _ _ a c (h later l) (and_left _ _ t) f z))
   multiplied_fine multiply.Remainder a b c at h k =
       where_fit ks (Fine ks cx) found (is_number a && is_number b) (error.Type at) (rule.divided_by Rem (width_of a) a at c) (λ t.
-      divided_fine Rem (width_of a) a at c (λ c z f later l. stands_rem _ _ a c (h later l) (left_true _ _ t) f z))
+      divided_fine Rem (width_of a) a at c (λ c z f later l. stands_rem _ _ a c (h later l) (and_left _ _ t) f z))
 
   -- ---- conditions
 

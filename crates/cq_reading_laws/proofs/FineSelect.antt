@@ -19,11 +19,12 @@ use Rattle.cq_reading.specs.Relations as r
 use Rattle.cq_reading.specs.Selects as s
 use Rattle.cq_reading.specs.Walk as walk
 use Rattle.std.proofs.Common.{map}
+use Rattle.cq_value.proofs.Lists.{append_nil}
 use Rattle.cq_reading.specs.Steps.{◌then◌, give}
 use Rattle.cq_reading_laws.specs.Bounds.{AggregatesStand}
 use Rattle.cq_reading_laws.specs.Worlds.{WorldFits}
 use Rattle.cq_reading_laws.proofs.GrowthSelects.{select_body}
-use Rattle.cq_reading_laws.proofs.Onwards.{Kept, now, append_empty}
+use Rattle.cq_reading_laws.proofs.Onwards.{Kept, now}
 use Rattle.cq_reading_laws.proofs.FineFrom.{Joined, JoinedIf}
 use Rattle.cq_reading_laws.proofs.FineJoins.{FineBlockIf, FromStands}
 use Rattle.cq_reading_laws.proofs.FineProducts.{some_from_stands}
@@ -45,7 +46,7 @@ module _ (cs : Columns) (w : World) (fit : WorldFits cs w) (q : Layer Select-F) 
       record { results = omega (arith, j.results, h.0.results); aggs = refl; outputs = b.0; bound = b.1 }
 
   no_aggregates : (r : Relations) (first : Found) → Joined cs [] start r first → AggregatesStand (from_bits cs r.tree) first
-  no_aggregates r first j = subst (λ ks. AggregatesStand ks first) (append_empty (from_bits cs r.tree)) (j.aggs [] (λ n l. tt))
+  no_aggregates r first j = subst (λ ks. AggregatesStand ks first) (append_nil (from_bits cs r.tree)) (j.aggs [] (λ n l. tt))
 
   of_from : (o : Result (Relations × Found) BindError) → JoinedIf cs [] start o → FineBlockIf cs found (s.in_block (follow o (λ r. s.filter_of (s.before_grouping w r true) q.filter then (λ filter.
       s.group_keys (s.before_grouping w r false) (s.targets r.columns q.items) r.joined q.groups then (λ keys.

@@ -1,6 +1,7 @@
 -- What the walk gives of a SELECT is what the engine asks for: the induction over the tree.
 use Rattle.std.proofs.Common.{◌≡◌, true, ◌&&◌, List, [], ◌∷◌, map, Option, None, Some, subst}
 use Rattle.std.specs.List.{AllByRecursion}
+use Rattle.cq_value.proofs.Truths.{and_left, and_right}
 use Rattle.cq_grammar.specs.declared.expr.Expr.{Expr}
 use Rattle.cq_grammar.specs.declared.query.Select.{Select}
 use Rattle.cq_grammar.specs.declared.query.From.{From}
@@ -14,7 +15,7 @@ use Rattle.cq_reading.specs.Walk.{part_of, test_part, item_part, join_part, rela
 use Rattle.cq_reading_laws.specs.Written.{all, if_any, is_some, written_expr, written_test, written_item, written_join, written_relation, written_added, written_arm, written_chained, written_multiplied, written_from, written_group_by, written_having, written_order_key, written_select}
 use Rattle.cq_reading_laws.specs.SelectLaws.{SelectsBound}
 use Rattle.cq_reading_laws.proofs.Induction as tree
-use Rattle.cq_reading_laws.proofs.Standing.{left_true, right_true, no_truth}
+use Rattle.cq_reading_laws.proofs.Standing.{no_truth}
 use Rattle.cq_reading_laws.proofs.CarryingParts.{IfPart}
 use Rattle.cq_reading_laws.proofs.FineParts.{PartStands}
 use Rattle.cq_reading_laws.proofs.FineNodes.{ArmStands}
@@ -33,7 +34,7 @@ firsts (p ∷ ps) h = (h.0.0, firsts ps h.1)
 
 froms_stand : (xs : List ((x : From) × (written_from x ≡ true → FromStands (from_part x)))) → (is_some (map written_from (map (λ e. e.0) xs)) && all (map written_from (map (λ e. e.0) xs))) ≡ true → FromsStand (map from_part (map (λ e. e.0) xs))
 froms_stand [] h = absurd (no_truth h)
-froms_stand (x ∷ xs) h = (x.1 (left_true _ _ h), all_stand written_from from_part FromStands xs (right_true _ _ h))
+froms_stand (x ∷ xs) h = (x.1 (and_left _ _ h), all_stand written_from from_part FromStands xs (and_right _ _ h))
 
 items : tree.KeepsItem (λ w p. w ≡ true → ExprStands p) (λ w t. w ≡ true → TestStands t) (λ w i. w ≡ true → ItemStands i) (λ w j. w ≡ true → JoinStands j) (λ w r. w ≡ true → RelationStands r) (λ w a. w ≡ true → PartStands a.part) (λ w a. w ≡ true → ArmStands a) (λ w l. w ≡ true → PartStands l.part) (λ w m. w ≡ true → PartStands m.part) (λ w f. w ≡ true → FromStands f) (λ w g. w ≡ true → AllByRecursion PartStands g.keys) (λ w h. w ≡ true → PartStands h.condition) (λ w o. w ≡ true → PartStands o.key) (λ w s. w ≡ true → SelectStands s)
 items (Item-F.All at) h = tt
@@ -42,8 +43,8 @@ items (Item-F.Value value None) h = (value.1 h).0
 items (Item-F.Value value (Some name)) h = (value.1 h).0
 
 joins : tree.KeepsJoin (λ w p. w ≡ true → ExprStands p) (λ w t. w ≡ true → TestStands t) (λ w i. w ≡ true → ItemStands i) (λ w j. w ≡ true → JoinStands j) (λ w r. w ≡ true → RelationStands r) (λ w a. w ≡ true → PartStands a.part) (λ w a. w ≡ true → ArmStands a) (λ w l. w ≡ true → PartStands l.part) (λ w m. w ≡ true → PartStands m.part) (λ w f. w ≡ true → FromStands f) (λ w g. w ≡ true → AllByRecursion PartStands g.keys) (λ w h. w ≡ true → PartStands h.condition) (λ w o. w ≡ true → PartStands o.key) (λ w s. w ≡ true → SelectStands s)
-joins (Join-F.Inner spelled relation on at) h = on_join Inner (relation_part relation.0) (part_of on.0) bits_inner bound_inner (relation.1 (left_true _ _ h)) (on.1 (right_true _ _ h)).0
-joins (Join-F.Left spelled relation on at) h = on_join Left (relation_part relation.0) (part_of on.0) bits_left bound_left (relation.1 (left_true _ _ h)) (on.1 (right_true _ _ h)).0
+joins (Join-F.Inner spelled relation on at) h = on_join Inner (relation_part relation.0) (part_of on.0) bits_inner bound_inner (relation.1 (and_left _ _ h)) (on.1 (and_right _ _ h)).0
+joins (Join-F.Left spelled relation on at) h = on_join Left (relation_part relation.0) (part_of on.0) bits_left bound_left (relation.1 (and_left _ _ h)) (on.1 (and_right _ _ h)).0
 joins (Join-F.Cross relation at) h = cross_join (relation_part relation.0) (relation.1 h)
 
 relations : tree.KeepsRelation (λ w p. w ≡ true → ExprStands p) (λ w t. w ≡ true → TestStands t) (λ w i. w ≡ true → ItemStands i) (λ w j. w ≡ true → JoinStands j) (λ w r. w ≡ true → RelationStands r) (λ w a. w ≡ true → PartStands a.part) (λ w a. w ≡ true → ArmStands a) (λ w l. w ≡ true → PartStands l.part) (λ w m. w ≡ true → PartStands m.part) (λ w f. w ≡ true → FromStands f) (λ w g. w ≡ true → AllByRecursion PartStands g.keys) (λ w h. w ≡ true → PartStands h.condition) (λ w o. w ≡ true → PartStands o.key) (λ w s. w ≡ true → SelectStands s)
@@ -52,7 +53,7 @@ relations (Relation-F.TableAs name spelled alias) h = λ cs w fit names ahead fo
 relations (Relation-F.Subquery select spelled alias at) h = subquery_stands (select_of select.0) alias (select.1 h)
 
 froms : tree.KeepsFrom (λ w p. w ≡ true → ExprStands p) (λ w t. w ≡ true → TestStands t) (λ w i. w ≡ true → ItemStands i) (λ w j. w ≡ true → JoinStands j) (λ w r. w ≡ true → RelationStands r) (λ w a. w ≡ true → PartStands a.part) (λ w a. w ≡ true → ArmStands a) (λ w l. w ≡ true → PartStands l.part) (λ w m. w ≡ true → PartStands m.part) (λ w f. w ≡ true → FromStands f) (λ w g. w ≡ true → AllByRecursion PartStands g.keys) (λ w h. w ≡ true → PartStands h.condition) (λ w o. w ≡ true → PartStands o.key) (λ w s. w ≡ true → SelectStands s)
-froms f h = from_stands (relation_part f.first.0) (map join_part (map (λ e. e.0) f.joins)) (f.first.1 (left_true _ _ h)) (all_stand written_join join_part JoinStands f.joins (right_true _ _ h))
+froms f h = from_stands (relation_part f.first.0) (map join_part (map (λ e. e.0) f.joins)) (f.first.1 (and_left _ _ h)) (all_stand written_join join_part JoinStands f.joins (and_right _ _ h))
 
 groups : tree.KeepsGroupBy (λ w p. w ≡ true → ExprStands p) (λ w t. w ≡ true → TestStands t) (λ w i. w ≡ true → ItemStands i) (λ w j. w ≡ true → JoinStands j) (λ w r. w ≡ true → RelationStands r) (λ w a. w ≡ true → PartStands a.part) (λ w a. w ≡ true → ArmStands a) (λ w l. w ≡ true → PartStands l.part) (λ w m. w ≡ true → PartStands m.part) (λ w f. w ≡ true → FromStands f) (λ w g. w ≡ true → AllByRecursion PartStands g.keys) (λ w h. w ≡ true → PartStands h.condition) (λ w o. w ≡ true → PartStands o.key) (λ w s. w ≡ true → SelectStands s)
 groups g h = firsts (map part_of (map (λ e. e.0) g.keys)) (all_stand written_expr part_of ExprStands g.keys h)
@@ -77,16 +78,16 @@ having_part_stands q (Some p) h = p.1 h
 
 selects : tree.KeepsSelect (λ w p. w ≡ true → ExprStands p) (λ w t. w ≡ true → TestStands t) (λ w i. w ≡ true → ItemStands i) (λ w j. w ≡ true → JoinStands j) (λ w r. w ≡ true → RelationStands r) (λ w a. w ≡ true → PartStands a.part) (λ w a. w ≡ true → ArmStands a) (λ w l. w ≡ true → PartStands l.part) (λ w m. w ≡ true → PartStands m.part) (λ w f. w ≡ true → FromStands f) (λ w g. w ≡ true → AllByRecursion PartStands g.keys) (λ w h. w ≡ true → PartStands h.condition) (λ w o. w ≡ true → PartStands o.key) (λ w s. w ≡ true → SelectStands s)
 selects q h = λ cs w fit found.
-    let e = left_true _ _ h in let d = left_true _ _ e in let c = left_true _ _ d in let b = left_true _ _ c in
+    let e = and_left _ _ h in let d = and_left _ _ e in let c = and_left _ _ d in let b = and_left _ _ c in
     select_step_stands cs w fit (map-Select _ _ _ _ _ _ _ _ _ _ _ _ _ _ _ _ _ _ _ _ _ _ _ _ _ _ _ _ part_of test_part item_part join_part relation_part added_part arm_part later_part multiplied_part from_part group_part having_part order_part select_of (map-Select _ _ _ _ _ _ _ _ _ _ _ _ _ _ _ _ _ _ _ _ _ _ _ _ _ _ _ _ (λ e. e.0) (λ e. e.0) (λ e. e.0) (λ e. e.0) (λ e. e.0) (λ e. e.0) (λ e. e.0) (λ e. e.0) (λ e. e.0) (λ e. e.0) (λ e. e.0) (λ e. e.0) (λ e. e.0) (λ e. e.0) q))
     (record {
-      items = all_stand written_item item_part ItemStands q.items (left_true _ _ b);
-      filter = filter_part q q.filter (right_true _ _ c);
-      keys = groups_part q q.groups (right_true _ _ d);
-      having = having_part_stands q q.having (right_true _ _ e);
-      order = all_stand written_order_key order_part (λ o. PartStands o.key) q.order (right_true _ _ h);
+      items = all_stand written_item item_part ItemStands q.items (and_left _ _ b);
+      filter = filter_part q q.filter (and_right _ _ c);
+      keys = groups_part q q.groups (and_right _ _ d);
+      having = having_part_stands q q.having (and_right _ _ e);
+      order = all_stand written_order_key order_part (λ o. PartStands o.key) q.order (and_right _ _ h);
     })
-    (froms_stand q.from (right_true _ _ b)) found
+    (froms_stand q.from (and_right _ _ b)) found
 
 pub select_stands : (x : Select) → written_select x ≡ true → SelectStands (select_of x)
 select_stands = tree.of_select (λ w p. w ≡ true → ExprStands p) (λ w t. w ≡ true → TestStands t) (λ w i. w ≡ true → ItemStands i) (λ w j. w ≡ true → JoinStands j) (λ w r. w ≡ true → RelationStands r) (λ w a. w ≡ true → PartStands a.part) (λ w a. w ≡ true → ArmStands a) (λ w l. w ≡ true → PartStands l.part) (λ w m. w ≡ true → PartStands m.part) (λ w f. w ≡ true → FromStands f) (λ w g. w ≡ true → AllByRecursion PartStands g.keys) (λ w h. w ≡ true → PartStands h.condition) (λ w o. w ≡ true → PartStands o.key) (λ w s. w ≡ true → SelectStands s) (step.expressions (λ w i. w ≡ true → ItemStands i) (λ w j. w ≡ true → JoinStands j) (λ w r. w ≡ true → RelationStands r) (λ w f. w ≡ true → FromStands f) (λ w g. w ≡ true → AllByRecursion PartStands g.keys) (λ w h. w ≡ true → PartStands h.condition) (λ w o. w ≡ true → PartStands o.key) (λ w s. w ≡ true → SelectStands s)) (step.tests (λ w i. w ≡ true → ItemStands i) (λ w j. w ≡ true → JoinStands j) (λ w r. w ≡ true → RelationStands r) (λ w f. w ≡ true → FromStands f) (λ w g. w ≡ true → AllByRecursion PartStands g.keys) (λ w h. w ≡ true → PartStands h.condition) (λ w o. w ≡ true → PartStands o.key) (λ w s. w ≡ true → SelectStands s)) items joins relations (step.addeds (λ w i. w ≡ true → ItemStands i) (λ w j. w ≡ true → JoinStands j) (λ w r. w ≡ true → RelationStands r) (λ w f. w ≡ true → FromStands f) (λ w g. w ≡ true → AllByRecursion PartStands g.keys) (λ w h. w ≡ true → PartStands h.condition) (λ w o. w ≡ true → PartStands o.key) (λ w s. w ≡ true → SelectStands s)) (step.arms (λ w i. w ≡ true → ItemStands i) (λ w j. w ≡ true → JoinStands j) (λ w r. w ≡ true → RelationStands r) (λ w f. w ≡ true → FromStands f) (λ w g. w ≡ true → AllByRecursion PartStands g.keys) (λ w h. w ≡ true → PartStands h.condition) (λ w o. w ≡ true → PartStands o.key) (λ w s. w ≡ true → SelectStands s)) (step.chaineds (λ w i. w ≡ true → ItemStands i) (λ w j. w ≡ true → JoinStands j) (λ w r. w ≡ true → RelationStands r) (λ w f. w ≡ true → FromStands f) (λ w g. w ≡ true → AllByRecursion PartStands g.keys) (λ w h. w ≡ true → PartStands h.condition) (λ w o. w ≡ true → PartStands o.key) (λ w s. w ≡ true → SelectStands s)) (step.multiplieds (λ w i. w ≡ true → ItemStands i) (λ w j. w ≡ true → JoinStands j) (λ w r. w ≡ true → RelationStands r) (λ w f. w ≡ true → FromStands f) (λ w g. w ≡ true → AllByRecursion PartStands g.keys) (λ w h. w ≡ true → PartStands h.condition) (λ w o. w ≡ true → PartStands o.key) (λ w s. w ≡ true → SelectStands s)) froms groups havings orders selects

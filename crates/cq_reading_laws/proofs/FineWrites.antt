@@ -7,6 +7,8 @@ use Rattle.cq_value.specs.declared.schema.Column as schema
 use Rattle.cq_value.specs.declared.schema.Kind.{Kind}
 use Rattle.cq_value.specs.declared.schema.Kind.TheVariants as kind
 use Rattle.std.proofs.Common.{suc}
+use Rattle.cq_value.proofs.Lists.{append_nil}
+use Rattle.cq_value.proofs.Truths.{and_left, and_right}
 use Rattle.cq_catalog.specs.declared.info.TableInfo.{TableInfo}
 use Rattle.cq_catalog.specs.Contents.{number_of, is_local}
 use Rattle.cq_grammar.specs.declared.name.Name.{Name}
@@ -36,8 +38,6 @@ use Rattle.cq_reading_laws.specs.Worlds.{SourcesFit}
 use Rattle.cq_reading_laws.specs.Written.{written_expr}
 use Rattle.cq_reading_laws.specs.WriteLaws.{table_of, written_filter, written_sets, TablesFit, UpdatesBound, DeletionsBound}
 use Rattle.cq_reading_laws.proofs.Keeping as keep
-use Rattle.cq_reading_laws.proofs.Standing.{left_true, right_true}
-use Rattle.cq_reading_laws.proofs.Onwards.{append_empty}
 use Rattle.cq_reading_laws.proofs.FineFrom.{columns_fit, sources_have}
 use Rattle.cq_reading_laws.proofs.FineWalk.{results_grow, expressions_bound}
 
@@ -89,7 +89,7 @@ module _ (cs : Columns) (tables : List TableInfo) (fit : TablesFit cs tables) wh
     cx = st.write_context (st.among tables []) (table_sources t.name t)
 
     have : HaveBits ks cx
-    have n c is = subst (λ js. HasBits js (0 + n) c) (append_empty ks)
+    have n c is = subst (λ js. HasBits js (0 + n) c) (append_nil ks)
         (sources_have [] ks [] (table_sources t.name t) (subst (λ js. SourcesFit js (table_sources t.name t)) (sym (fit i t there)) (columns_fit t.name t.columns)) n c is)
 
     abbrev Fine : Found → Bound → Type 0
@@ -155,7 +155,7 @@ module _ (cs : Columns) (tables : List TableInfo) (fit : TablesFit cs tables) wh
 
     set_steps : (sets : List SetClause) (found : Found) → written_sets sets ≡ true → AllByRecursion (λ s. (before : List Set) (f : Found) → Same found f → Later SetsFine f before → Kept SetsFine f (st.with_set cx t before s f)) sets
     set_steps [] found w = tt
-    set_steps (s ∷ more) found w = ((λ before f l h. set_fine before s f (left_true _ _ w) h), set_steps more found (right_true _ _ w))
+    set_steps (s ∷ more) found w = ((λ before f l h. set_fine before s f (and_left _ _ w) h), set_steps more found (and_right _ _ w))
 
     sets_fine : (sets : List SetClause) (found : Found) → written_sets sets ≡ true → Kept SetsFine found (through (st.with_set cx t) sets [] found)
     sets_fine sets found w = keep.kept_through Same now on SetsFine (st.with_set cx t) sets [] found (set_steps sets found w) (λ later l. tt)

@@ -9,19 +9,16 @@ use Rattle.std.proofs.Common.{Bool, true}
 use Rattle.cq_reading.specs.Steps.{Reading, give, follow, provided, through, with_next, each}
 use Rattle.cq_reading.specs.Scopes.{Context}
 use Rattle.std.specs.Prelude.{Result}
+use Rattle.cq_value.proofs.Lists.{append_nil}
 use Rattle.cq_reading_laws.specs.Bounds.{Stands, bits_in, Onward}
 use Rattle.cq_reading_laws.proofs.Keeping as keep
-
-pub append_empty : {A : Type 0} (xs : List A) → xs ++ [] ≡ xs
-append_empty [] = refl
-append_empty (x ∷ xs) = ap (λ ys. x ∷ ys) (append_empty xs)
 
 pub append_all : {A : Type 0} (xs ys zs : List A) → (xs ++ ys) ++ zs ≡ xs ++ (ys ++ zs)
 append_all [] ys zs = refl
 append_all (x ∷ xs) ys zs = ap (λ us. x ∷ us) (append_all xs ys zs)
 
 pub now : (ks : List ℕ) (f : Found) → Onward ks f f
-now ks f = record { results = omega arith; aggs = ([], sym (append_empty f.aggs)); stand = λ h. h }
+now ks f = record { results = omega arith; aggs = ([], sym (append_nil f.aggs)); stand = λ h. h }
 
 pub on : (ks : List ℕ) (f g h : Found) → Onward ks f g → Onward ks g h → Onward ks f h
 on ks f g h a b = record {
@@ -34,7 +31,7 @@ on ks f g h a b = record {
 pub more_results : (ks : List ℕ) (f g : Found) → f.results ≤ g.results → g.aggs ≡ f.aggs → Onward ks f g
 more_results ks f g l e = record {
   results = l;
-  aggs = ([], e ∙ sym (append_empty f.aggs));
+  aggs = ([], e ∙ sym (append_nil f.aggs));
   stand = λ h n m. subst (λ aggs. AllByRecursion (IsBoundAggregate ks n) aggs) (sym e) (h n (omega (arith, l, m)));
 }
 

@@ -8,15 +8,12 @@ use Rattle.cq_tree.specs.declared.query.Agg.{Agg}
 use Rattle.cq_meaning.specs.Widths.{bits, bits_of_aggregate, group_bits, IsBoundAggregate}
 use Rattle.cq_reading.specs.Widths.{is_some}
 use Rattle.std.proofs.Common.{if◌then◌else◌}
+use Rattle.cq_value.proofs.Lists.{append_nil}
 use Rattle.cq_reading.specs.Equal.{equal_aggs}
 use Rattle.cq_same.specs.Equal.{equal_exprs}
 use Rattle.cq_reading.specs.Rules.{place_among, with_aggregate}
 use Rattle.cq_same.proofs.Equals.{exprs_same}
 use Rattle.cq_reading_laws.proofs.Equals.{aggs_same}
-
-append_none : {A : Type 0} (xs : List A) → xs ++ [] ≡ xs
-append_none [] = refl
-append_none (x ∷ xs) = ap (λ ys. x ∷ ys) (append_none xs)
 
 mapped : {A : Type 0} (f : A → ℕ) (xs : List A) (i : ℕ) (d : A) (rest : List ℕ) → i < length xs → (i < length (map f xs ++ rest)) × (slice_index_or (map f xs ++ rest) i 0 ≡ f (get_or xs i d))
 mapped f [] i d rest h = absurd (omega (arith, h))
@@ -63,13 +60,13 @@ aggregate_has_bits ks keys aggs later more a is =
     let i = place_among aggs a in
     let q : (i < length later) × (get_or later i a ≡ a) = subst (λ l. (i < length l) × (get_or l i a ≡ a)) (sym is) p in
     let m = mapped (bits_of_aggregate ks) later i a [] q.0 in
-    let e = append_none (map (bits_of_aggregate ks) later) in
+    let e = append_nil (map (bits_of_aggregate ks) later) in
     let b = behind (bits ks) keys i (map (bits_of_aggregate ks) later) (subst (λ l. i < length l) e m.0) in
     (b.0, b.1 ∙ (ap (λ l. slice_index_or l i 0) (sym e) ∙ (m.1 ∙ ap (bits_of_aggregate ks) q.1)))
 
 -- the aggregates stay as they were, or the one comes behind them
 with_more : (aggs : List Agg) (a : Agg) (t : Bool) → (more : List Agg) × ((if t then aggs else aggs ++ a ∷ []) ≡ aggs ++ more)
-with_more aggs a true = ([], sym (append_none aggs))
+with_more aggs a true = ([], sym (append_nil aggs))
 with_more aggs a false = (a ∷ [], refl)
 
 pub aggregates_go_on : (aggs : List Agg) (a : Agg) → (more : List Agg) × (with_aggregate aggs a ≡ aggs ++ more)

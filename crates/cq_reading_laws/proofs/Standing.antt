@@ -20,14 +20,6 @@ use Rattle.cq_reading_laws.specs.Bounds.{Stands}
 pub no_truth : false ≡ true → ⊥
 no_truth e = grind arith
 
-pub left_true : (a b : Bool) → (a && b) ≡ true → a ≡ true
-left_true true b h = refl
-left_true false b h = h
-
-pub right_true : (a b : Bool) → (a && b) ≡ true → b ≡ true
-right_true true b h = h
-right_true false b h = absurd (no_truth h)
-
 abbrev bits_of_exprs : List ℕ → List Expr → ℕ
 bits_of_exprs ks [] = 0
 bits_of_exprs ks (e ∷ es) = max (bits ks e) (bits_of_exprs ks es)

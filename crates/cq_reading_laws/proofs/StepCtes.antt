@@ -1,6 +1,8 @@
 -- The steps of a whole statement: those in its CTEs, each of which sees the CTEs before it, and those in its own SELECT.
 use Rattle.std.proofs.Common.{◌≡◌, ℕ, ◌+◌, ◌≤◌, min, Bool, true, false, not, List, [], ◌∷◌, ◌++◌, length, refl, sym, ap, ◌∙◌, subst, arith, Result, Ok, Err}
 use Rattle.std.specs.Prelude.{⊤, slice_index_or}
+use Rattle.cq_value.proofs.Lists.{all_append}
+use Rattle.cq_value.proofs.Truths.{and_left, and_right}
 use Rattle.cq_catalog.specs.declared.info.TableInfo.{TableInfo}
 use Rattle.cq_grammar.specs.declared.query.Query as written
 use Rattle.cq_grammar.specs.declared.query.CommonTable.{CommonTable}
@@ -25,11 +27,10 @@ use Rattle.cq_reading_laws.specs.Written.{written_select}
 use Rattle.cq_reading_laws.specs.QueryLaws.{written_tables, HaveResults}
 use Rattle.cq_reading_laws.specs.WriteLaws.{TablesFit}
 use Rattle.cq_reading_laws.specs.StepLaws.{start_of}
-use Rattle.cq_reading_laws.proofs.Standing.{left_true, right_true}
 use Rattle.cq_reading_laws.proofs.FineJoins.{FineBlockIf}
 use Rattle.cq_reading_laws.proofs.FineTree.{select_stands}
 use Rattle.cq_reading_laws.proofs.FineQueries.{IsNone, before_last, at_last, with_last, length_more, with_ctes_bound}
-use Rattle.cq_reading_laws.proofs.StepRows.{ins_all, steps_all, ins_ctes, steps_ctes, ins_query, steps_query, ins_ctes_last, steps_ctes_last, steps_statement, all_append, all_as}
+use Rattle.cq_reading_laws.proofs.StepRows.{ins_all, steps_all, ins_ctes, steps_ctes, ins_query, steps_query, ins_ctes_last, steps_ctes_last, steps_statement, all_as}
 use Rattle.cq_reading_laws.proofs.StepSubs.{Depends, Right, AreRight, right_later, BlockSteps, BlockIf}
 use Rattle.cq_reading_laws.proofs.StepTree.{select_steps}
 
@@ -129,8 +130,8 @@ module _ (tables : List TableInfo) where
   all_ctes n count [] p f w h = let e : count ≡ count + 0 = omega arith in subst (λ j. Ctes n j p f) e h
   all_ctes n count (c ∷ more) p f w h =
       let e : count + 1 + length more ≡ count + length (c ∷ more) = omega arith in
-      after_step n (count + 1) (count + length (c ∷ more)) (st.with_cte tables p c f) (through (st.with_cte tables) more) (step n count p c f (left_true _ _ w) h)
-      (λ q g k. subst (λ j. CtesIf n j (through (st.with_cte tables) more q g)) e (all_ctes n (count + 1) more q g (right_true _ _ w) k))
+      after_step n (count + 1) (count + length (c ∷ more)) (st.with_cte tables p c f) (through (st.with_cte tables) more) (step n count p c f (and_left _ _ w) h)
+      (λ q g k. subst (λ j. CtesIf n j (through (st.with_cte tables) more q g)) e (all_ctes n (count + 1) more q g (and_right _ _ w) k))
 
   -- ---- the query over them
 

@@ -2,6 +2,7 @@
 use Rattle.std.proofs.Common.{◌≡◌, ℕ, zero, suc, ◌+◌, ◌≤◌, ◌<◌, Bool, true, false, List, [], ◌∷◌, ◌++◌, length, refl, sym, ap, ◌∙◌, subst, arith, Option, None, Some, Result, Ok, Err}
 use Rattle.std.specs.Prelude.{⊤, slice_get, position, bytes_eq}
 use Rattle.std.specs.List.{AllByRecursion}
+use Rattle.cq_value.proofs.Lists.{append_nil, all_append}
 use Rattle.cq_catalog.specs.declared.info.TableInfo.{TableInfo}
 use Rattle.cq_catalog.specs.Contents.{number_of}
 use Rattle.cq_grammar.specs.declared.name.Name.{Name}
@@ -26,9 +27,8 @@ use Rattle.cq_reading.specs.Relations as r
 use Rattle.cq_reading_laws.proofs.Carrying.{Law, Carried, Carries}
 use Rattle.cq_reading_laws.proofs.CarryingParts.{PartCarries}
 use Rattle.cq_reading_laws.proofs.CarryingSelects.{condition_of_carries}
-use Rattle.cq_reading_laws.proofs.Onwards.{append_empty}
 use Rattle.cq_reading_laws.proofs.Trees.{bits_cross, bits_inner, bits_left, bits_sub}
-use Rattle.cq_reading_laws.proofs.StepRows.{ins_all, all_append, ins_cross, ins_inner, ins_left, ins_sub, steps_cross, steps_inner, steps_left, steps_sub}
+use Rattle.cq_reading_laws.proofs.StepRows.{ins_all, ins_cross, ins_inner, ins_left, ins_sub, steps_cross, steps_inner, steps_left, steps_sub}
 use Rattle.cq_reading_laws.proofs.StepSubs.{Agree, Right, AreRight, right_later, Subs, subs_law, law, same_law, BlockIf, SelectSteps}
 
 -- the widths of a FROM's columns hang on no more than the first n results
@@ -162,7 +162,7 @@ nothing_found : (w : World) (g new : Found) → Subs w false g new → (new.subs
 nothing_found w g new s =
     let e = s.none refl in
     let n : ins_all s.more ≡ 0 = ap ins_all e in
-    (s.subs ∙ (ap (λ qs. g.subs ++ qs) e ∙ append_empty g.subs), omega (arith, s.results, n), s.blocks)
+    (s.subs ∙ (ap (λ qs. g.subs ++ qs) e ∙ append_nil g.subs), omega (arith, s.results, n), s.blocks)
 
 of_condition : (w : World) (make : FromTree → FromTree → Cond → FromTree) (m : (c : Cond) → Makes (λ a b. make a b c)) (a b : Relations) (start f g : Found) → FromSteps w start a f → FromSteps w f b g
     → (o : Result (Cond × Found) BindError) → Carried (subs_law w false) g o → FromStepsIf w start (follow o (λ c. give (r.both (λ x y. make x y c) a b)))

@@ -2,6 +2,7 @@
 use Rattle.std.proofs.Common.{◌≡◌, ℕ, zero, suc, ◌+◌, ◌≤◌, List, [], ◌∷◌, ◌++◌, length, sym, ap, ◌∙◌, subst, arith, Option, None, Some}
 use Rattle.std.specs.Prelude.{⊤, slice_get, slice_index_or}
 use Rattle.std.specs.List.{AllByRecursion}
+use Rattle.cq_value.proofs.Lists.{all_left, all_right}
 use Rattle.cq_catalog.specs.declared.info.TableInfo.{TableInfo}
 use Rattle.cq_tree.specs.declared.query.FromTree.{FromTree}
 use Rattle.cq_tree.specs.declared.query.FromTree.TheOpen.{Query-F}
@@ -20,20 +21,12 @@ use Rattle.cq_reading_laws.proofs.StepSubs.{Depends, Right, AreRight}
 use Rattle.cq_reading_laws.proofs.StepCtes.{world, Whole, query_whole}
 use Rattle.cq_reading_laws.proofs.StepWidths.{length_statement, rs, each_has, as_many}
 
-split_first : {A : Type 0} (P : A → Type 0) (xs ys : List A) → AllByRecursion P (xs ++ ys) → AllByRecursion P xs
-split_first P [] ys h = tt
-split_first P (x ∷ xs) ys h = (h.0, split_first P xs ys h.1)
-
-split_second : {A : Type 0} (P : A → Type 0) (xs ys : List A) → AllByRecursion P (xs ++ ys) → AllByRecursion P ys
-split_second P [] ys h = h
-split_second P (x ∷ xs) ys h = split_second P xs ys h.1
-
 -- what holds of all steps holds of each CTE
 of_cte : (P : Step → Type 0) (i k : ℕ) (qs : List Query) → AllByRecursion P (steps_ctes i k qs) → (j : ℕ) (q : Query) → slice_get qs j ≡ Some q → P (record { number = i + j; query = q })
 of_cte P i k [] h j q is = absurd (subst (λ o. IsNone o) is tt)
 of_cte P i k (p ∷ more) h zero q is =
     let e : i ≡ i + 0 = omega arith in
-    let mine : P (record { number = i; query = p }) = (split_second P (steps_in k p) (record { number = i; query = p } ∷ steps_ctes (i + 1) (k + ins_in p) more) h).0 in
+    let mine : P (record { number = i; query = p }) = (all_right P (steps_in k p) (record { number = i; query = p } ∷ steps_ctes (i + 1) (k + ins_in p) more) h).0 in
     let there : P (record { number = i; query = q }) = subst (λ o. IfSome (λ q. P (record { number = i; query = q })) o) is mine in
     subst (λ n. P (record { number = n; query = q })) e there
   where
@@ -42,7 +35,7 @@ of_cte P i k (p ∷ more) h zero q is =
     IfSome Q (Some q) = Q q
 of_cte P i k (p ∷ more) h (suc j) q is =
     let e : i + 1 + j ≡ i + suc j = omega arith in
-    subst (λ n. P (record { number = n; query = q })) e (of_cte P (i + 1) (k + ins_in p) more (split_second P (steps_in k p) (record { number = i; query = p } ∷ steps_ctes (i + 1) (k + ins_in p) more) h).1 j q is)
+    subst (λ n. P (record { number = n; query = q })) e (of_cte P (i + 1) (k + ins_in p) more (all_right P (steps_in k p) (record { number = i; query = p } ∷ steps_ctes (i + 1) (k + ins_in p) more) h).1 j q is)
 
 module _ (cs : Columns) (tables : List TableInfo) (fit : TablesFit cs tables) (q : Query) (m : ℕ) (whole : Whole tables q m) (have : HaveWidths cs q) where
   abbrev Has : Step → Type 0
@@ -60,7 +53,7 @@ module _ (cs : Columns) (tables : List TableInfo) (fit : TablesFit cs tables) (q
   results : HaveResults cs x.ctes
   results j c is =
       let e : 0 + j ≡ j = omega arith in
-      subst (λ n. slice_index_or cs.results n [] ≡ output_bits cs c) e (of_cte Has 0 (length x.ctes) x.ctes (split_first Has (steps_ctes 0 (length x.ctes) x.ctes) others of_steps) j c is)
+      subst (λ n. slice_index_or cs.results n [] ≡ output_bits cs c) e (of_cte Has 0 (length x.ctes) x.ctes (all_left Has (steps_ctes 0 (length x.ctes) x.ctes) others of_steps) j c is)
 
   few : m ≤ length cs.results
   few = let e : length (steps_of q) ≡ length (steps_of (roll-Query x)) = ap (λ q. length (steps_of q)) whole.is in omega (arith, whole.total, have.1, e, length_statement x)

@@ -129,10 +129,6 @@ steps_sub k q = refl
 
 -- ---- lists behind one another
 
-pub all_append : {A : Type 0} (P : A → Type 0) (xs ys : List A) → AllByRecursion P xs → AllByRecursion P ys → AllByRecursion P (xs ++ ys)
-all_append P [] ys h k = k
-all_append P (x ∷ xs) ys h k = (h.0, all_append P xs ys h.1 k)
-
 pub all_as : {A : Type 0} (P Q : A → Type 0) (xs : List A) → ((x : A) → P x → Q x) → AllByRecursion P xs → AllByRecursion Q xs
 all_as P Q [] f h = tt
 all_as P Q (x ∷ xs) f h = (f x h.0, all_as P Q xs f h.1)

@@ -2,6 +2,7 @@
 use Rattle.std.proofs.Common.{◌≡◌, ℕ, ◌+◌, ◌≤◌, ◌<◌, Bool, true, false, List, [], ◌++◌, map, length, refl, sym, ap, ◌∙◌, subst, arith, Result, Ok, Err}
 use Rattle.std.specs.Prelude.{nat_lt, take}
 use Rattle.std.specs.List.{AllByRecursion}
+use Rattle.cq_value.proofs.Lists.{all_append}
 use Rattle.cq_tree.specs.declared.expression.Expr.{Expr}
 use Rattle.cq_tree.specs.declared.expression.Cond.{Cond}
 use Rattle.cq_tree.specs.declared.query.FromTree.{FromTree}
@@ -31,7 +32,7 @@ use Rattle.cq_reading_laws.proofs.CarryingWalk.{PartsCarry}
 use Rattle.cq_reading_laws.proofs.GrowthSelects.{select_body}
 use Rattle.cq_reading_laws.proofs.Standing.{no_truth}
 use Rattle.cq_reading_laws.proofs.Trees.{output_bits_of}
-use Rattle.cq_reading_laws.proofs.StepRows.{ins_all, steps_all, ins_query, steps_query, all_append}
+use Rattle.cq_reading_laws.proofs.StepRows.{ins_all, steps_all, ins_query, steps_query}
 use Rattle.cq_reading_laws.proofs.StepSubs.{Right, AreRight, right_later, Depends, Subs, no_more, subs_on, subs_law, law, same_law, BlockSteps, BlockIf}
 use Rattle.cq_reading_laws.proofs.StepFrom.{DependsFrom, FromSteps, FromStepsIf, FromPartSteps, from_steps, carried}
 

@@ -2,6 +2,7 @@
 use Rattle.std.proofs.Common.{◌≡◌, ℕ, ◌+◌, ◌≤◌, ◌<◌, Bool, true, false, List, [], ◌∷◌, ◌++◌, length, refl, sym, ap, ◌∙◌, subst, arith, Result, Ok, Err}
 use Rattle.std.specs.Prelude.{⊤, slice_index_or}
 use Rattle.std.specs.List.{AllByRecursion}
+use Rattle.cq_value.proofs.Lists.{append_nil, all_append}
 use Rattle.cq_tree.specs.declared.query.Query.{Query}
 use Rattle.cq_meaning.specs.declared.Columns.{Columns}
 use Rattle.cq_meaning.specs.Results.{ins_in}
@@ -19,10 +20,10 @@ use Rattle.cq_reading.specs.Expressions as e
 use Rattle.cq_reading.specs.Parts.{SelectPart}
 use Rattle.cq_reading_laws.specs.Worlds.{WorldFits}
 use Rattle.cq_reading_laws.proofs.Carrying.{Law, Carried, Carries}
-use Rattle.cq_reading_laws.proofs.Onwards.{append_empty, append_all}
+use Rattle.cq_reading_laws.proofs.Onwards.{append_all}
 use Rattle.cq_reading_laws.proofs.Standing.{no_truth}
 use Rattle.cq_reading_laws.proofs.FineJoins.{FineBlockIf, SelectStands}
-use Rattle.cq_reading_laws.proofs.StepRows.{ins_all, steps_all, ins_append, steps_append, all_append, all_as}
+use Rattle.cq_reading_laws.proofs.StepRows.{ins_all, steps_all, ins_append, steps_append, all_as}
 
 -- the same tables, and the same widths of the first n results
 pub record Agree (n : ℕ) (cs ds : Columns) : Type 0 where
@@ -55,7 +56,7 @@ pub record Subs (w : World) (may : Bool) (f g : Found) : Type 0 where
   pub steps : AreRight w g.results (steps_all f.results more)
 
 pub no_more : (w : World) (may : Bool) (f g : Found) → g.subs ≡ f.subs → g.results ≡ f.results → g.blocks ≡ f.blocks → Subs w may f g
-no_more w may f g s r b = record { more = []; subs = s ∙ sym (append_empty f.subs); results = omega (arith, r); blocks = omega (arith, b); none = λ e. refl; steps = tt }
+no_more w may f g s r b = record { more = []; subs = s ∙ sym (append_nil f.subs); results = omega (arith, r); blocks = omega (arith, b); none = λ e. refl; steps = tt }
 
 both_none : (ps qs : List Query) → ps ≡ [] → qs ≡ [] → ps ++ qs ≡ []
 both_none ps qs e f = ap (λ rs. rs ++ qs) e ∙ f

@@ -2,6 +2,7 @@
 use Rattle.std.proofs.Common.{◌≡◌, ◌⊎◌, inl, inr, ℕ, zero, suc, ◌+◌, ◌≤◌, ◌<◌, List, [], ◌∷◌, ◌++◌, map, length, refl, sym, ap, ◌∙◌, subst, arith, length-append}
 use Rattle.std.specs.Prelude.{⊤, slice_index_or}
 use Rattle.std.specs.List.{AllByRecursion}
+use Rattle.cq_value.proofs.Lists.{all_append}
 use Rattle.cq_tree.specs.declared.query.FromTree.{FromTree, Table, Sub', Result, Cross', Inner', Left', more_of-FromTree, end_of-FromTree}
 use Rattle.cq_tree.specs.declared.query.FromTree.TheOpen.{Query-F}
 use Rattle.cq_tree.specs.declared.query.Query.{Query, Query', Row_of-Query, end_of-Query, more_of-Query, roll-Query}
@@ -9,7 +10,7 @@ use Rattle.cq_meaning.specs.declared.Columns.{Columns}
 use Rattle.cq_meaning.specs.Results.{ins_in, ins_in_from, ins_in_all}
 use Rattle.cq_meaning.specs.Widths.{output_bits}
 use Rattle.cq_meaning_laws.specs.WholeRules.{Step, steps_in, steps_in_from, steps_in_all, steps_of}
-use Rattle.cq_reading_laws.proofs.StepRows.{ins_all, steps_all, ins_ctes, steps_ctes, steps_statement, all_append}
+use Rattle.cq_reading_laws.proofs.StepRows.{ins_all, steps_all, ins_ctes, steps_ctes, steps_statement}
 use Rattle.cq_reading_laws.proofs.StepSubs.{Agree, Depends}
 use Rattle.cq_reading_laws.proofs.StepCtes.{DependEach}
 

@@ -1,6 +1,7 @@
 -- A statement that is read has no more CTEs than have their numbers.
 use Rattle.std.proofs.Common.{◌≡◌, ℕ, ◌+◌, ◌≤◌, Bool, true, false, not, List, [], ◌∷◌, length, refl, ap, ◌∙◌, subst, arith, Result, Ok, Err}
 use Rattle.std.specs.Prelude.{⊤}
+use Rattle.cq_value.proofs.Truths.{and_left, and_right}
 use Rattle.cq_catalog.specs.declared.info.TableInfo.{TableInfo}
 use Rattle.cq_grammar.specs.declared.query.Query as written
 use Rattle.cq_grammar.specs.declared.query.CommonTable.{CommonTable}
@@ -15,7 +16,6 @@ use Rattle.cq_reading.specs.Statements as st
 use Rattle.cq_reading_laws.specs.Written.{written_select}
 use Rattle.cq_reading_laws.specs.QueryLaws.{written_tables}
 use Rattle.cq_reading_laws.specs.StepLaws.{start_of}
-use Rattle.cq_reading_laws.proofs.Standing.{left_true, right_true}
 use Rattle.cq_reading_laws.proofs.FineQueries.{length_more}
 use Rattle.cq_reading_laws.proofs.StepSubs.{BlockIf}
 use Rattle.cq_reading_laws.proofs.StepTree.{select_steps}
@@ -57,8 +57,8 @@ module _ (tables : List TableInfo) where
   all_counted count [] p f w h = let e : count ≡ count + 0 = omega arith in subst (λ j. Counted j p f) e h
   all_counted count (c ∷ more) p f w h =
       let e : count + 1 + length more ≡ count + length (c ∷ more) = omega arith in
-      after_step (count + 1) (count + length (c ∷ more)) (st.with_cte tables p c f) (through (st.with_cte tables) more) (step count p c f (left_true _ _ w) h)
-      (λ q g k. subst (λ j. CountedIf j (through (st.with_cte tables) more q g)) e (all_counted (count + 1) more q g (right_true _ _ w) k))
+      after_step (count + 1) (count + length (c ∷ more)) (st.with_cte tables p c f) (through (st.with_cte tables) more) (step count p c f (and_left _ _ w) h)
+      (λ q g k. subst (λ j. CountedIf j (through (st.with_cte tables) more q g)) e (all_counted (count + 1) more q g (and_right _ _ w) k))
 
   abbrev FewIf : ℕ → Result (Query × Found) BindError → Type 0
   FewIf n (Ok p) = n ≤ 64

@@ -2,6 +2,8 @@
 use Rattle.std.proofs.Common.{◌≡◌, ℕ, ◌+◌, ◌≤◌, Bool, true, false, ◌||◌, not, List, [], ◌∷◌, ◌++◌, map, take, length, refl, sym, ap, ◌∙◌, subst, arith, Option, None, Some}
 use Rattle.std.specs.Prelude.{⊤, slice_get}
 use Rattle.std.specs.List.{AllByRecursion, list_any}
+use Rattle.cq_value.proofs.Lists.{append_nil}
+use Rattle.cq_value.proofs.Truths.{or_left, or_right}
 use Rattle.cq_tree.specs.declared.expression.Expr.{Expr}
 use Rattle.cq_tree.specs.declared.expression.Cond.{Cond, Always}
 use Rattle.cq_tree.specs.declared.query.Agg.{Agg}
@@ -22,7 +24,6 @@ use Rattle.cq_reading.specs.Relations as r
 use Rattle.cq_reading.specs.Selects as s
 use Rattle.cq_reading.specs.Walk.{groups, block_of}
 use Rattle.cq_reading_laws.specs.Bounds.{MayStand}
-use Rattle.cq_reading_laws.proofs.Onwards.{append_empty}
 use Rattle.cq_reading_laws.proofs.CarryingParts.{IfPart}
 use Rattle.cq_reading_laws.specs.Typing.{AllFit, type_over, input_types, IsTyped, IsTypedCondition, IsTypedAggregate}
 use Rattle.cq_reading_laws.specs.TypedQueries.{Types, from_types, output_types, results_in, results_in_from, results_of, AreTypedItems, IsTypedFrom, IsTypedQuery}
@@ -57,14 +58,6 @@ pub record PartsTyped (q : Layer Select-F) : Type 0 where
   pub order : AllByRecursion (λ o. PartTyped o.key) q.order
 
 -- ---- where it groups
-
-or_left : (a b : Bool) → a ≡ true → (a || b) ≡ true
-or_left true b h = refl
-or_left false b h = absurd (no_truth h)
-
-or_right : (a b : Bool) → b ≡ true → (a || b) ≡ true
-or_right true b h = refl
-or_right false b h = h
 
 any_holds : {A : Type 0} (f : A → Bool) (xs : List A) (T : Bool) → (list_any f xs ≡ true → T ≡ true) → AllByRecursion (λ x. f x ≡ true → T ≡ true) xs
 any_holds f [] T h = tt
@@ -257,7 +250,7 @@ module _ (cs : Types) (w : World) (fit : WorldTyped cs w) (q : Layer Select-F) (
       (weaken z anything (after keys false) (O keys outs) m (s.order_keys (after keys false) outs q.distinct q.order (record { items = map s.item_of outs; keys = [] }) m) (λ e. e) (λ e. absurd (no_truth (sym e)))
       (order_fine z (after keys false) (reach_after keys false) outs q.distinct q.order (record { items = map s.item_of outs; keys = [] }) m
       (order_typed z (after keys false) (reach_after keys false) q.order parts.order (any_holds (λ (o : OrderPart). o.key.aggregates) q.order (groups q) groups_order))
-      (λ later l. (([], sym (append_empty (map s.item_of outs))), exprs_shown keys later outs (gx later l))))) (λ o n l go.
+      (λ later l. (([], sym (append_nil (map s.item_of outs))), exprs_shown keys later outs (gx later l))))) (λ o n l go.
       ended c keys h outs o n (λ later k. gc later (on m n later l k)) (λ later k. gk later (on m n later l k)) (λ later k. gh later (on m n later l k)) (λ later k. gx later (on m n later l k)) go)
 
   listed : (c : Cond) (keys : List Expr) (h : Cond) (m : Found) → C m c → K m keys → H keys m h

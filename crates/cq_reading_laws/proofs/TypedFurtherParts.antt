@@ -2,6 +2,7 @@
 use Rattle.std.proofs.Common.{◌≡◌, ℕ, ◌+◌, Bool, true, false, List, [], ◌∷◌, ◌++◌, length, refl, sym, ap, ◌∙◌, subst, arith, Option, None, Some, Result, Ok, Err}
 use Rattle.std.specs.Prelude.{⊤}
 use Rattle.std.specs.List.{AllByRecursion}
+use Rattle.cq_value.proofs.Lists.{append_nil, all_more}
 use Rattle.cq_tree.specs.declared.expression.Cond.{InResult}
 use Rattle.cq_tree.specs.declared.query.Query.{Query}
 use Rattle.cq_grammar.specs.declared.expr.AddOperator.{AddOperator}
@@ -24,7 +25,7 @@ use Rattle.cq_reading.specs.Parts.{Part, ArmPart, SelectPart}
 use Rattle.cq_reading.specs.Expressions as e
 use Rattle.cq_reading.specs.Expressions.{reads}
 use Rattle.cq_reading_laws.specs.Bounds.{MayStand}
-use Rattle.cq_reading_laws.proofs.Onwards.{append_empty, append_all}
+use Rattle.cq_reading_laws.proofs.Onwards.{append_all}
 use Rattle.cq_reading_laws.proofs.Standing.{no_truth}
 use Rattle.cq_reading_laws.proofs.FineParts.{AnyOf, first_may, second_may}
 use Rattle.cq_reading_laws.proofs.CarryingParts.{IfPart}
@@ -33,7 +34,7 @@ use Rattle.cq_reading_laws.specs.TypedQueries.{Types, result_types, output_types
 use Rattle.cq_reading_laws.specs.Reach.{WorldTyped, BlockTyped, kinds_of, types_in, Onward}
 use Rattle.cq_reading_laws.proofs.TypedForms.{OfType, alike_below}
 use Rattle.cq_reading_laws.proofs.TypedNodes.{sound_truth, sound_null, typed_negated}
-use Rattle.cq_reading_laws.proofs.TypedKeeping.{Steady, all_more, Setting, Given, Good, Later, Run, RunIf, Fine, on, lasts, given_on, gives, onwards, each_one, weaken, append_length, results_append, have_first, have_rest}
+use Rattle.cq_reading_laws.proofs.TypedKeeping.{Steady, Setting, Given, Good, Later, Run, RunIf, Fine, on, lasts, given_on, gives, onwards, each_one, weaken, append_length, results_append, have_first, have_rest}
 use Rattle.cq_reading_laws.proofs.TypedRules.{signed_fine, chosen_fine, ArmsFine}
 use Rattle.cq_reading_laws.proofs.TypedNames.{Plain, named_fine, named_of_fine, summed_fine}
 use Rattle.cq_reading_laws.proofs.TypedParts.{Reached, PartTyped, plainly}
@@ -141,7 +142,7 @@ module _ (z : Setting) (cx : Context) (x : Bound) (found : Found) (good : Good z
     subs_are = ap (λ qs. qs ++ block.query ∷ []) b.subs
 
     goes : Onward found end
-    goes = record { aggs = ([], b.aggs ∙ sym (append_empty found.aggs)); subs = (block.query ∷ [], subs_are) }
+    goes = record { aggs = ([], b.aggs ∙ sym (append_nil found.aggs)); subs = (block.query ∷ [], subs_are) }
 
     -- the results in it come behind its own
     in_it : Given z end → HaveResults cs began.results (results_in cs block.query)

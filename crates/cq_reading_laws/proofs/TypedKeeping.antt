@@ -2,6 +2,7 @@
 use Rattle.std.proofs.Common.{◌≡◌, ℕ, ◌+◌, ◌<◌, Bool, true, false, List, [], ◌∷◌, ◌++◌, length, Result, Ok, Err, refl, sym, ap, ◌∙◌, subst, arith}
 use Rattle.std.specs.Prelude.{⊤}
 use Rattle.std.specs.List.{AllByRecursion}
+use Rattle.cq_value.proofs.Lists.{all_more, append_nil}
 use Rattle.cq_tree.specs.declared.query.Query.{Query}
 use Rattle.cq_reading.specs.declared.bound.Found.{Found}
 use Rattle.cq_reading.specs.declared.bound.Bound.{Bound}
@@ -9,7 +10,7 @@ use Rattle.cq_reading.specs.declared.error.BindError.{BindError}
 use Rattle.cq_reading.specs.Steps.{Reading, give, follow, provided, through, with_next, each}
 use Rattle.cq_reading.specs.Widths.{ValueType}
 use Rattle.cq_reading.specs.Scopes.{Context}
-use Rattle.cq_reading_laws.proofs.Onwards.{append_empty, append_all}
+use Rattle.cq_reading_laws.proofs.Onwards.{append_all}
 use Rattle.cq_reading_laws.specs.TypedQueries.{Types, result_types, output_types, results_in, results_of, HaveResults}
 use Rattle.cq_reading_laws.specs.Reach.{types_in, FoundTyped, Onward}
 use Rattle.cq_reading_laws.proofs.TypedNodes.{Sound}
@@ -17,10 +18,6 @@ use Rattle.cq_reading_laws.proofs.TypedNodes.{Sound}
 pub append_length : {A : Type 0} (xs ys : List A) → length (xs ++ ys) ≡ length xs + length ys
 append_length [] ys = omega arith
 append_length (x ∷ xs) ys = let e = append_length xs ys in omega (arith, e)
-
-pub all_more : {B : Type 0} (P : B → Type 0) (bs : List B) (b : B) → AllByRecursion P bs → P b → AllByRecursion P (bs ++ b ∷ [])
-all_more P [] b h p = (p, tt)
-all_more P (c ∷ bs) b h p = (h.0, all_more P bs b h.1 p)
 
 -- ---- results
 
@@ -79,7 +76,7 @@ pub record Step (cx : Context) (f g : Found) : Type 0 where
   pub no_subs : cx.may_select ≡ false → g.subs ≡ f.subs
 
 pub now : (f : Found) → Onward f f
-now f = record { aggs = ([], sym (append_empty f.aggs)); subs = ([], sym (append_empty f.subs)) }
+now f = record { aggs = ([], sym (append_nil f.aggs)); subs = ([], sym (append_nil f.subs)) }
 
 pub on : (f g h : Found) → Onward f g → Onward g h → Onward f h
 on f g h a b = record {

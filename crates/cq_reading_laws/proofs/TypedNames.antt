@@ -1,6 +1,7 @@
 -- Columns, aggregates and keys are well typed.
 use Rattle.std.proofs.Common.{◌≡◌, ℕ, ◌+◌, true, not, List, [], length, refl, sym, ◌∙◌, subst, Option, None, Some, Result, Ok, Err}
 use Rattle.std.specs.Prelude.{position, slice_get}
+use Rattle.cq_value.proofs.Lists.{append_nil}
 use Rattle.cq_tree.specs.declared.expression.Expr.{Expr, Column}
 use Rattle.cq_tree.specs.declared.query.Agg.{Agg}
 use Rattle.cq_tree.specs.declared.query.Agg.TheVariants as agg
@@ -19,7 +20,6 @@ use Rattle.cq_same.specs.Equal.{equal_exprs}
 use Rattle.cq_reading.specs.Scopes.{Context, plain, Place, Nowhere, Once, Repeated, place_of, column_bound, column_at, found_column, named, named_of, has_name, has_full_name}
 use Rattle.cq_reading.specs.Rules as rule
 use Rattle.cq_reading.specs.Expressions.{named_in_group}
-use Rattle.cq_reading_laws.proofs.Onwards.{append_empty}
 use Rattle.cq_reading_laws.proofs.Standing.{no_truth}
 use Rattle.cq_reading_laws.proofs.Places.{aggregates_go_on}
 use Rattle.cq_reading_laws.proofs.FineNames.{not_true}
@@ -66,7 +66,7 @@ module _ (z : Setting) (cx : Context) (found : Found) where
       → Fits (type_of_aggregate z.columns a) t → Run z cx (Later (Fine z cx)) found (rule.aggregated cx a t width found)
   aggregated_fine a t width may grouped typed fits good =
       let next : Found = record found { aggs = rule.with_aggregate found.aggs a } in
-      let goes : Onward found next = record { aggs = aggregates_go_on found.aggs a; subs = ([], sym (append_empty found.subs)) } in (
+      let goes : Onward found next = record { aggs = aggregates_go_on found.aggs a; subs = ([], sym (append_nil found.subs)) } in (
         record {
           typed = record { numbered = good.typed.numbered; subs = good.typed.subs; aggs = λ g. all_aggregates (IsTypedAggregate z.columns z.types.results) found.aggs a (good.typed.aggs g) (typed g) };
           steady = good.steady;

@@ -1,6 +1,7 @@
 -- What is bound at the nodes of expressions and conditions is well typed where its parts are.
 use Rattle.std.proofs.Common.{◌≡◌, ℕ, zero, suc, ℤ, ◌-◌, ◌/◌, Bool, true, false, ◌&&◌, List, [], ◌∷◌, ◌++◌, map, length, take, drop, refl, sym, subst, Some}
 use Rattle.std.specs.List.{AllByRecursion, list_all}
+use Rattle.cq_value.proofs.Truths.{and_left, and_right}
 use denote.Hole.Carrier.{hidden}
 use Rattle.cq_tree.specs.declared.expression.Arm.{Arm}
 use Rattle.cq_tree.specs.declared.expression.Op.{Op}
@@ -15,7 +16,7 @@ use Rattle.cq_reading.specs.declared.bound.Type.TheVariants as type
 use Rattle.cq_reading.specs.Widths.{ValueType, null_expr, expr_of, type_of, cond_of, is_number, common_of, agree, are_alike}
 use Rattle.cq_reading.specs.Rules as rule
 use Rattle.cq_meaning_laws.proofs.WithinLaws.{all_drop, all_take}
-use Rattle.cq_reading_laws.proofs.Standing.{no_truth, left_true, right_true}
+use Rattle.cq_reading_laws.proofs.Standing.{no_truth}
 use Rattle.cq_reading_laws.specs.Typing.{IsNumber, Fits, either, type_over, type_of_arms, type_of_all, IsTyped, AreTyped, AreTypedArms, IsTypedCondition}
 use Rattle.cq_reading_laws.proofs.TypedForms.{OfType, fits_then, fits_either, number_of, alike_of, alike_both, BoundsFit, whole_of, agree_fit}
 
@@ -38,15 +39,15 @@ module _ (G : Type 0) (ts : List ValueType) (rs : List (List ValueType)) where
 
   pub sound_add : (a b : Bound) (w : ℕ) → S a → S b → (is_number a && is_number b) ≡ true → S (Value (Add (expr_of a) (expr_of b)) type.Number w)
   unfolding hidden-the_row-Expr-1 hidden
-  sound_add a b w h k t = record { of = refl; expression = λ g. (h.expression g, k.expression g, number_of ts a h.of (left_true _ _ t), number_of ts b k.of (right_true _ _ t)); condition = λ g. tt }
+  sound_add a b w h k t = record { of = refl; expression = λ g. (h.expression g, k.expression g, number_of ts a h.of (and_left _ _ t), number_of ts b k.of (and_right _ _ t)); condition = λ g. tt }
 
   pub sound_sub : (a b : Bound) (w : ℕ) → S a → S b → (is_number a && is_number b) ≡ true → S (Value (Sub (expr_of a) (expr_of b)) type.Number w)
   unfolding hidden-the_row-Expr-1 hidden
-  sound_sub a b w h k t = record { of = refl; expression = λ g. (h.expression g, k.expression g, number_of ts a h.of (left_true _ _ t), number_of ts b k.of (right_true _ _ t)); condition = λ g. tt }
+  sound_sub a b w h k t = record { of = refl; expression = λ g. (h.expression g, k.expression g, number_of ts a h.of (and_left _ _ t), number_of ts b k.of (and_right _ _ t)); condition = λ g. tt }
 
   pub sound_mul : (a b : Bound) (w : ℕ) → S a → S b → (is_number a && is_number b) ≡ true → S (Value (Mul (expr_of a) (expr_of b)) type.Number w)
   unfolding hidden-the_row-Expr-1 hidden
-  sound_mul a b w h k t = record { of = refl; expression = λ g. (h.expression g, k.expression g, number_of ts a h.of (left_true _ _ t), number_of ts b k.of (right_true _ _ t)); condition = λ g. tt }
+  sound_mul a b w h k t = record { of = refl; expression = λ g. (h.expression g, k.expression g, number_of ts a h.of (and_left _ _ t), number_of ts b k.of (and_right _ _ t)); condition = λ g. tt }
 
   pub sound_div : (a : Bound) (c : ℤ) (w : ℕ) → S a → is_number a ≡ true → S (Value (Div (expr_of a) c) type.Number w)
   unfolding hidden-the_row-Expr-1 hidden

@@ -1,6 +1,7 @@
 -- The numbers of IN subqueries are those by which they are computed.
 use Rattle.std.proofs.Common.{◌≡◌, ℕ, ◌+◌, List, [], ◌∷◌, ◌++◌, length, refl, subst, arith}
 use Rattle.std.specs.List.{AllByRecursion}
+use Rattle.cq_value.proofs.Lists.{all_append}
 use Rattle.cq_tree.specs.declared.query.FromTree.{FromTree, Table, Sub', Result, Cross', Inner', Left', more_of-FromTree, end_of-FromTree}
 use Rattle.cq_tree.specs.declared.query.Query.{Query, Query', Row_of-Query, end_of-Query, more_of-Query}
 use Rattle.cq_meaning.specs.Results.{ins_in, ins_in_from, ins_in_all}
@@ -9,10 +10,6 @@ use Rattle.cq_reading.specs.Widths.{ValueType}
 use Rattle.cq_reading_laws.specs.TypedQueries.{Types, results_in, results_in_from, results_in_row, HaveResults}
 use Rattle.cq_reading_laws.specs.TypingLaws.{HasResult, ResultsNumbered}
 use Rattle.cq_reading_laws.proofs.TypedKeeping.{append_length, have_first, have_rest}
-
-all_append : {A : Type 0} (P : A → Type 0) (xs ys : List A) → AllByRecursion P xs → AllByRecursion P ys → AllByRecursion P (xs ++ ys)
-all_append P [] ys h k = k
-all_append P (x ∷ xs) ys h k = (h.0, all_append P xs ys h.1 k)
 
 module _ (cs : Types) where
   added : (xs ys : List (List ValueType)) (m n : ℕ) → length xs ≡ m → length ys ≡ n → length (xs ++ ys) ≡ m + n

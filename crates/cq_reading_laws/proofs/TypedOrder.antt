@@ -2,6 +2,7 @@
 use Rattle.std.proofs.Common.{◌≡◌, ℕ, ◌+◌, ◌-◌, Bool, ◌&&◌, not, List, [], ◌∷◌, ◌++◌, map, length, ap, ◌∙◌, Option, None, Some}
 use Rattle.std.specs.Prelude.{slice_get, position, nat_lt}
 use Rattle.std.specs.List.{AllByRecursion}
+use Rattle.cq_value.proofs.Lists.{all_more}
 use Rattle.cq_tree.specs.declared.expression.Expr.{Expr}
 use Rattle.cq_reading.specs.declared.bound.Found.{Found}
 use Rattle.cq_reading.specs.declared.bound.Shown.{Shown}
@@ -20,7 +21,7 @@ use Rattle.cq_reading.specs.Selects as s
 use Rattle.cq_reading_laws.specs.Bounds.{MayStand}
 use Rattle.cq_reading_laws.proofs.Onwards.{append_all}
 use Rattle.cq_reading_laws.specs.Reach.{Onward}
-use Rattle.cq_reading_laws.proofs.TypedKeeping.{all_more, Setting, Later, Run, Fine, lasts, gives, where_fit, onwards, through_all}
+use Rattle.cq_reading_laws.proofs.TypedKeeping.{Setting, Later, Run, Fine, lasts, gives, where_fit, onwards, through_all}
 use Rattle.cq_reading_laws.proofs.TypedParts.{Reached, PartTyped}
 use Rattle.cq_reading_laws.proofs.TypedLists.{ExprFine, value_fine}
 

@@ -1,6 +1,7 @@
 -- The nodes of expressions over parts that are well typed.
 use Rattle.std.proofs.Common.{◌≡◌, ℕ, if◌then◌else◌, Bool, true, false, ◌&&◌, ◌||◌, not, List, [], ◌∷◌, map, length, refl, sym, subst}
 use Rattle.std.specs.List.{AllByRecursion}
+use Rattle.cq_value.proofs.Truths.{and_left}
 use Rattle.cq_grammar.specs.declared.expr.NullTest.{NullTest}
 use Rattle.cq_grammar.specs.declared.expr.Comparison.{Comparison}
 use Rattle.cq_reading.specs.declared.bound.Found.{Found}
@@ -16,7 +17,7 @@ use Rattle.cq_reading_laws.specs.Bounds.{MayStand}
 use Rattle.cq_reading_laws.proofs.FromLeft.{from_left_keeps, from_left_aggregates}
 use Rattle.cq_reading_laws.proofs.FineParts.{AnyOf, first_may, second_may}
 use Rattle.cq_reading_laws.specs.Reach.{HaveKinds, WorldTyped, Onward}
-use Rattle.cq_reading_laws.proofs.Standing.{no_truth, left_true}
+use Rattle.cq_reading_laws.proofs.Standing.{no_truth}
 use Rattle.cq_reading_laws.proofs.TypedKeeping.{Setting, Later, Run, Fine, on, lasts, gives, onwards, through_all, next_one, each_one}
 use Rattle.cq_reading_laws.proofs.TypedRules.{coalesced_fine, added_fine, multiplied_fine, compared_fine, negated_fine, null_tested_fine, between_fine, listed_fine, chain_fine, PartsFine}
 use Rattle.cq_reading_laws.proofs.TypedNames.{Plain, keyed_fine, alone}
@@ -49,7 +50,7 @@ alone_reached z cx found h = record { world = h.world; reach = h.reach; columns 
 -- a node that is well typed is so as a whole key too
 pub behind_typed : (selects aggregates : Bool) (r : Context → Reading Bound) → Reads aggregates r → Reads aggregates (behind_keys selects r)
 behind_typed selects aggregates r h z cx have may found =
-    by_case (cx.grouped && not selects) r z cx found (left_true cx.grouped (not selects)) (h (alone z cx found) (plain cx) (alone_reached z cx found have) (λ a b. absurd (no_truth b)) rule.nothing) (h z cx have may found)
+    by_case (cx.grouped && not selects) r z cx found (and_left cx.grouped (not selects)) (h (alone z cx found) (plain cx) (alone_reached z cx found have) (λ a b. absurd (no_truth b)) rule.nothing) (h z cx have may found)
 
 -- a chain from left to right
 from_left_typed : {A : Type 0} (part : A → Part) (step : Context → Bound → A → Reading Bound)

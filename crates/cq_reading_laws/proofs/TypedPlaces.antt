@@ -3,6 +3,7 @@ use Rattle.std.proofs.Common.{◌≡◌, ℕ, zero, suc, ◌+◌, ◌<◌, if◌
 use Rattle.std.specs.Prelude.{position, slice_index_or, unwrap_or}
 use Rattle.std.specs.List.{AllByRecursion}
 use Rattle.std.proofs.lemmas.List.Quantifiers.{position-Some}
+use Rattle.cq_value.proofs.Lists.{append_nil}
 use Rattle.cq_tree.specs.declared.expression.Expr.{Expr}
 use Rattle.cq_tree.specs.declared.query.Agg.{Agg}
 use Rattle.cq_reading.specs.declared.bound.Type.TheVariants as type
@@ -10,7 +11,6 @@ use Rattle.cq_reading.specs.Widths.{ValueType, is_some}
 use Rattle.cq_reading.specs.Equal.{equal_aggs}
 use Rattle.cq_same.specs.Equal.{equal_exprs}
 use Rattle.cq_reading.specs.Rules.{place_among, with_aggregate}
-use Rattle.cq_reading_laws.proofs.Onwards.{append_empty}
 use Rattle.cq_reading_laws.specs.Typing.{type_over, type_of_aggregate, group_types}
 use Rattle.cq_same.proofs.Equals.{exprs_same}
 use Rattle.cq_reading_laws.proofs.Equals.{aggs_same}
@@ -65,7 +65,7 @@ aggregate_has_type ts keys aggs later more a is =
     let i = place_among aggs a in
     let q : (i < length later) × (get_or later i a ≡ a) = subst (λ l. (i < length l) × (get_or l i a ≡ a)) (sym is) p in
     let m = mapped (type_of_aggregate ts) later i a [] q.0 in
-    let e = append_empty (map (type_of_aggregate ts) later) in
+    let e = append_nil (map (type_of_aggregate ts) later) in
     let b = behind (type_over ts) keys i (map (type_of_aggregate ts) later) (subst (λ l. i < length l) e m.0) in
     (b.0, b.1 ∙ (ap (λ l. at l i) (sym e) ∙ (m.1 ∙ ap (type_of_aggregate ts) q.1)))
 

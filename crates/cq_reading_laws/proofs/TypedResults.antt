@@ -2,6 +2,8 @@
 use Rattle.std.proofs.Common.{◌≡◌, ℕ, zero, suc, ◌+◌, ◌<◌, Bool, true, false, not, List, [], ◌∷◌, ◌++◌, length, refl, sym, ap, ◌∙◌, subst, arith, Some, Result, Ok, Err}
 use Rattle.std.specs.Prelude.{⊤, slice_get, slice_index_or}
 use Rattle.std.specs.List.{AllByRecursion}
+use Rattle.cq_value.proofs.Lists.{all_more}
+use Rattle.cq_value.proofs.Truths.{and_left, and_right}
 use Rattle.cq_catalog.specs.declared.info.TableInfo.{TableInfo}
 use Rattle.cq_grammar.specs.declared.query.Query as written
 use Rattle.cq_grammar.specs.declared.query.CommonTable.{CommonTable}
@@ -18,13 +20,12 @@ use Rattle.cq_reading.specs.Walk.{select_of}
 use Rattle.cq_reading.specs.Statements as st
 use Rattle.cq_reading_laws.specs.Written.{written_select}
 use Rattle.cq_reading_laws.specs.QueryLaws.{written_tables}
-use Rattle.cq_reading_laws.proofs.Standing.{left_true, right_true}
 use Rattle.cq_reading_laws.proofs.Onwards.{append_all}
 use Rattle.cq_reading_laws.specs.Typing.{AllFit}
 use Rattle.cq_reading_laws.specs.TypedQueries.{Types, over, result_types, output_types, results_in, results_in_all, HaveResults}
 use Rattle.cq_reading_laws.specs.Reach.{kinds_of, TablesTyped, WorldTyped, BlockTyped}
 use Rattle.cq_reading_laws.specs.TypingLaws.{HaveCtes, ResultsThere}
-use Rattle.cq_reading_laws.proofs.TypedKeeping.{SameBefore, Steady, all_more}
+use Rattle.cq_reading_laws.proofs.TypedKeeping.{SameBefore, Steady}
 use Rattle.cq_reading_laws.proofs.TypedFurtherParts.{BlockIf}
 use Rattle.cq_reading_laws.proofs.TypedFrom.{is_below}
 use Rattle.cq_reading_laws.proofs.TypedTree.{select_typed}
@@ -139,8 +140,8 @@ module _ (kinds : List (List ValueType)) where
 
     all_sized : (ctes : List CommonTable) (p : st.Ctes) (f : Found) (rs : List (List ValueType)) (n : ℕ) → written_tables ctes ≡ true → Sized p rs → length rs + length ctes ≡ n → SizedIf n (through (st.with_cte tables) ctes p f)
     all_sized [] p f rs n w h e = (rs, h, omega (arith, e))
-    all_sized (c ∷ more) p f rs n w h e = after_step (length rs + 1) n (st.with_cte tables p c f) (through (st.with_cte tables) more) (step p c f rs (left_true _ _ w) h)
-        (λ q g ss k is. all_sized more q g ss n (right_true _ _ w) k (omega (arith, e, is)))
+    all_sized (c ∷ more) p f rs n w h e = after_step (length rs + 1) n (st.with_cte tables p c f) (through (st.with_cte tables) more) (step p c f rs (and_left _ _ w) h)
+        (λ q g ss k is. all_sized more q g ss n (and_right _ _ w) k (omega (arith, e, is)))
 
     -- ---- the query over them
 

@@ -2,6 +2,7 @@
 use Rattle.std.proofs.Common.{◌≡◌, ℕ, zero, suc, ℤ, pos, ◌+◌, ◌-◌, ◌/◌, Bool, true, ◌&&◌, not, List, [], ◌∷◌, ◌++◌, map, length, take, drop, refl, Option, None, Some, Result}
 use Rattle.std.specs.List.{AllByRecursion, list_all}
 use Rattle.std.specs.Ordering.{int_eq}
+use Rattle.cq_value.proofs.Truths.{and_left, and_right}
 use Rattle.cq_tree.specs.declared.expression.Op.TheVariants as op
 use Rattle.cq_tree.specs.declared.expression.Expr.{Expr, Div, Rem, Case}
 use Rattle.cq_tree.specs.declared.expression.Cond.{Cond, Compare, IsNull, And}
@@ -23,7 +24,6 @@ use Rattle.cq_reading.specs.Rules as rule
 use Rattle.cq_meaning_laws.proofs.WithinLaws.{all_drop, all_take}
 use Rattle.cq_reading_laws.specs.Typing.{IsTypedCondition}
 use Rattle.cq_reading_laws.specs.Reach.{types_in, Onward}
-use Rattle.cq_reading_laws.proofs.Standing.{left_true, right_true}
 use Rattle.cq_reading_laws.proofs.TypedNodes.{sound_truth, sound_neg, sound_add, sound_sub, sound_mul, sound_div, sound_rem, sound_same, typed_negated, typed_joined, typed_and, typed_compare, typed_common, typed_listed, sound_coalesce, sound_case}
 use Rattle.cq_reading_laws.proofs.TypedForms.{agree_fit}
 use Rattle.cq_reading_laws.proofs.TypedKeeping.{Setting, Given, Later, Run, Fine, on, lasts, gives, where_fit, onwards}
@@ -61,10 +61,10 @@ module _ (z : Setting) (cx : Context) (found : Found) where
   multiplied_fine multiply.Times a b c at h k = numbers_fine _ _ (is_number a && is_number b) at (λ t later l. sound_mul _ _ _ a b _ (h later l) (k later l) t)
   multiplied_fine multiply.Divide a b c at h k =
       where_fit z cx (Later (Fine z cx)) found (is_number a && is_number b) (error.Type at) (rule.divided_by Div (width_of a + 1) a at c) (λ t.
-      divided_fine Div (width_of a + 1) a at c (λ c later l. sound_div _ _ _ a c _ (h later l) (left_true _ _ t)))
+      divided_fine Div (width_of a + 1) a at c (λ c later l. sound_div _ _ _ a c _ (h later l) (and_left _ _ t)))
   multiplied_fine multiply.Remainder a b c at h k =
       where_fit z cx (Later (Fine z cx)) found (is_number a && is_number b) (error.Type at) (rule.divided_by Rem (width_of a) a at c) (λ t.
-      divided_fine Rem (width_of a) a at c (λ c later l. sound_rem _ _ _ a c _ (h later l) (left_true _ _ t)))
+      divided_fine Rem (width_of a) a at c (λ c later l. sound_rem _ _ _ a c _ (h later l) (and_left _ _ t)))
 
   -- ---- conditions
 

@@ -2,6 +2,8 @@
 use Rattle.std.proofs.Common.{◌≡◌, ℕ, zero, suc, ◌+◌, Bool, true, false, not, List, [], ◌∷◌, ◌++◌, length, refl, sym, ap, ◌∙◌, subst, arith, Option, None, Some, Result, Ok, Err}
 use Rattle.std.specs.Prelude.{⊤, slice_get}
 use Rattle.std.specs.List.{AllByRecursion}
+use Rattle.cq_value.proofs.Truths.{and_left, and_right}
+use Rattle.cq_value.proofs.Lists.{append_nil, all_more}
 use Rattle.cq_catalog.specs.declared.info.TableInfo.{TableInfo}
 use Rattle.cq_grammar.specs.declared.query.Query as written
 use Rattle.cq_grammar.specs.declared.query.CommonTable.{CommonTable}
@@ -15,15 +17,14 @@ use Rattle.cq_reading.specs.declared.error.BindError.TheVariants as error
 use Rattle.cq_reading.specs.Steps.{Reading, give, provided, follow, ◌then◌, through}
 use Rattle.cq_reading.specs.Walk.{select_of}
 use Rattle.cq_reading.specs.Statements as st
-use Rattle.cq_reading_laws.proofs.Onwards.{append_empty, append_all}
+use Rattle.cq_reading_laws.proofs.Onwards.{append_all}
 use Rattle.cq_reading_laws.specs.Typing.{AllFit}
 use Rattle.cq_reading_laws.specs.TypedQueries.{Types, result_types, output_types, results_in, results_in_all, HaveResults, IsTypedQuery}
 use Rattle.cq_reading_laws.specs.Reach.{kinds_of, WorldTyped, BlockTyped}
 use Rattle.cq_reading_laws.specs.Written.{written_select}
 use Rattle.cq_reading_laws.specs.QueryLaws.{written_tables}
 use Rattle.cq_reading_laws.specs.TypingLaws.{HaveCtes, QueriesTyped}
-use Rattle.cq_reading_laws.proofs.Standing.{left_true, right_true}
-use Rattle.cq_reading_laws.proofs.TypedKeeping.{all_more, append_length, have_first, have_rest}
+use Rattle.cq_reading_laws.proofs.TypedKeeping.{append_length, have_first, have_rest}
 use Rattle.cq_reading_laws.proofs.TypedFurtherParts.{BlockIf}
 use Rattle.cq_reading_laws.proofs.TypedTree.{select_typed}
 use Rattle.cq_reading_laws.proofs.TypedTrees.{opened, typed_query, results_in_of, results_in_out}
@@ -58,7 +59,7 @@ length_more (x ∷ xs) y = let e = length_more xs y in omega (arith, e)
 
 module _ (cs : Types) (tables : List TableInfo) (start : ℕ) where
   all_in_more : (qs : List Query) (q : Query) → results_in_all cs (qs ++ q ∷ []) ≡ results_in_all cs qs ++ results_in cs q
-  all_in_more [] q = append_empty (results_in cs q)
+  all_in_more [] q = append_nil (results_in cs q)
   all_in_more (p ∷ qs) q = ap (λ rs. results_in cs p ++ rs) (all_in_more qs q) ∙ sym (append_all (results_in cs p) (results_in_all cs qs) (results_in cs q))
 
   -- over the results of the CTEs so far
@@ -117,7 +118,7 @@ module _ (cs : Types) (tables : List TableInfo) (start : ℕ) where
 
   all_commons : (ctes : List CommonTable) (p : st.Ctes) (f : Found) → written_tables ctes ≡ true → Commons p f → CommonsIf (through (st.with_cte tables) ctes p f)
   all_commons [] p f w h = h
-  all_commons (c ∷ more) p f w h = after_step (st.with_cte tables p c f) (through (st.with_cte tables) more) (step p c f (left_true _ _ w) h) (λ q g k. all_commons more q g (right_true _ _ w) k)
+  all_commons (c ∷ more) p f w h = after_step (st.with_cte tables p c f) (through (st.with_cte tables) more) (step p c f (and_left _ _ w) h) (λ q g k. all_commons more q g (and_right _ _ w) k)
 
   -- ---- the query over them
 

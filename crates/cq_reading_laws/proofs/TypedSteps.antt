@@ -1,5 +1,6 @@
 -- What an expression is read as is well typed: the steps of the induction.
 use Rattle.std.proofs.Common.{◌≡◌, Bool, true, false, [], ◌∷◌, map, None, Some, refl}
+use Rattle.cq_value.proofs.Truths.{and_left, and_right}
 use Rattle.cq_grammar.specs.declared.expr.Expr.TheOpen.{Expr-F, Test-F}
 use Rattle.cq_reading.specs.declared.bound.Found.{Found}
 use Rattle.cq_reading.specs.declared.bound.Bound.{Bound}
@@ -12,7 +13,7 @@ use Rattle.cq_reading.specs.Walk.{part_of, test_part, added_part, arm_part, late
 use Rattle.cq_reading_laws.specs.Bounds.{MayStand}
 use Rattle.cq_reading_laws.specs.Written.{all, written_expr, written_added, written_arm, written_chained, written_multiplied}
 use Rattle.cq_reading_laws.proofs.Induction as tree
-use Rattle.cq_reading_laws.proofs.Standing.{no_truth, left_true, right_true}
+use Rattle.cq_reading_laws.proofs.Standing.{no_truth}
 use Rattle.cq_reading_laws.proofs.FineParts.{first_may, second_may}
 use Rattle.cq_reading_laws.proofs.FineSteps.{all_stand}
 use Rattle.cq_reading_laws.proofs.TypedNodes.{sound_null}
@@ -54,28 +55,28 @@ module _ (Q3 : Bool → ItemPart → Type 0) (Q4 : Bool → JoinPart → Type 0)
     (Q13 : Bool → OrderPart → Type 0) where
   pub expressions : tree.KeepsExpr Q1 Q2 Q3 Q4 Q5 Q6 Q7 Q8 Q9 Q10 Q11 Q12 Q13 Q14
   expressions (Expr-F.Or first rest) h =
-      whole (e.chain true (part_of first.0) (map later_part (map (λ e. e.0) rest))) (λ z cx have may found. chain_typed z cx have true (part_of first.0) (map later_part (map (λ e. e.0) rest)) (first.1 (left_true _ _ h))
-      (all_stand written_chained later_part (λ l. PartTyped l.part) rest (right_true _ _ h)) may found)
+      whole (e.chain true (part_of first.0) (map later_part (map (λ e. e.0) rest))) (λ z cx have may found. chain_typed z cx have true (part_of first.0) (map later_part (map (λ e. e.0) rest)) (first.1 (and_left _ _ h))
+      (all_stand written_chained later_part (λ l. PartTyped l.part) rest (and_right _ _ h)) may found)
   expressions (Expr-F.And first rest) h =
-      whole (e.chain false (part_of first.0) (map later_part (map (λ e. e.0) rest))) (λ z cx have may found. chain_typed z cx have false (part_of first.0) (map later_part (map (λ e. e.0) rest)) (first.1 (left_true _ _ h))
-      (all_stand written_chained later_part (λ l. PartTyped l.part) rest (right_true _ _ h)) may found)
+      whole (e.chain false (part_of first.0) (map later_part (map (λ e. e.0) rest))) (λ z cx have may found. chain_typed z cx have false (part_of first.0) (map later_part (map (λ e. e.0) rest)) (first.1 (and_left _ _ h))
+      (all_stand written_chained later_part (λ l. PartTyped l.part) rest (and_right _ _ h)) may found)
   expressions (Expr-F.Not inner at) h = whole (e.expr_step (Expr-F.Not (part_of inner.0) at)) (λ z cx have may found. not_typed z cx have (part_of inner.0) at (inner.1 h) may found)
   expressions (Expr-F.Is first rest) h = whole (e.expr_step (Expr-F.Is (part_of first.0) rest)) (λ z cx have may found. is_typed z cx have (part_of first.0) rest (first.1 h) may found)
   expressions (Expr-F.Compare left operator right at) h =
-      whole (e.expr_step (Expr-F.Compare (part_of left.0) operator (part_of right.0) at)) (λ z cx have may found. compare_typed z cx have (part_of left.0) operator (part_of right.0) at (left.1 (left_true _ _ h))
-      (right.1 (right_true _ _ h)) may found)
+      whole (e.expr_step (Expr-F.Compare (part_of left.0) operator (part_of right.0) at)) (λ z cx have may found. compare_typed z cx have (part_of left.0) operator (part_of right.0) at (left.1 (and_left _ _ h))
+      (right.1 (and_right _ _ h)) may found)
   expressions (Expr-F.Tested operand negated test at) h =
       whole (e.expr_step (Expr-F.Tested (part_of operand.0) negated (test_part test.0) at))
-      (λ z cx have may found. tested_typed z cx have (part_of operand.0) negated (test_part test.0) at (operand.1 (left_true _ _ h))
-      (λ x mid g. test.1 (right_true _ _ h) z cx have (second_may cx (part_of operand.0).aggregates _ may) x negated at mid g) (first_may cx (part_of operand.0).aggregates _ may) found)
+      (λ z cx have may found. tested_typed z cx have (part_of operand.0) negated (test_part test.0) at (operand.1 (and_left _ _ h))
+      (λ x mid g. test.1 (and_right _ _ h) z cx have (second_may cx (part_of operand.0).aggregates _ may) x negated at mid g) (first_may cx (part_of operand.0).aggregates _ may) found)
   expressions (Expr-F.Sum first rest) h =
       whole (e.expr_step (Expr-F.Sum (part_of first.0) (map added_part (map (λ e. e.0) rest))))
-      (λ z cx have may found. sum_typed z cx have (part_of first.0) (map added_part (map (λ e. e.0) rest)) (first.1 (left_true _ _ h))
-      (all_stand written_added added_part (λ a. PartTyped a.part) rest (right_true _ _ h)) may found)
+      (λ z cx have may found. sum_typed z cx have (part_of first.0) (map added_part (map (λ e. e.0) rest)) (first.1 (and_left _ _ h))
+      (all_stand written_added added_part (λ a. PartTyped a.part) rest (and_right _ _ h)) may found)
   expressions (Expr-F.Product first rest) h =
       whole (e.expr_step (Expr-F.Product (part_of first.0) (map multiplied_part (map (λ e. e.0) rest))))
-      (λ z cx have may found. product_typed z cx have (part_of first.0) (map multiplied_part (map (λ e. e.0) rest)) (first.1 (left_true _ _ h))
-      (all_stand written_multiplied multiplied_part (λ m. PartTyped m.part) rest (right_true _ _ h)) may found)
+      (λ z cx have may found. product_typed z cx have (part_of first.0) (map multiplied_part (map (λ e. e.0) rest)) (first.1 (and_left _ _ h))
+      (all_stand written_multiplied multiplied_part (λ m. PartTyped m.part) rest (and_right _ _ h)) may found)
   expressions (Expr-F.Signed sign inner at) h = whole (e.expr_step (Expr-F.Signed sign (part_of inner.0) at)) (λ z cx have may found. signed_typed z cx have sign (part_of inner.0) (part_of inner.0).form at (inner.1 h) may found)
   expressions (Expr-F.Number value at) h =
       whole (e.expr_step (Expr-F.Number value at)) (λ z cx have may found. gives z cx (Later (Fine z cx)) found (rule.number value) (λ later l. record { of = refl; expression = λ g. tt; condition = λ g. tt }))
@@ -87,17 +88,17 @@ module _ (Q3 : Bool → ItemPart → Type 0) (Q4 : Bool → JoinPart → Type 0)
   expressions (Expr-F.Group inner at) h = whole (e.expr_step (Expr-F.Group (part_of inner.0) at)) (λ z cx have may found. inner.1 h z cx have (first_may cx (part_of inner.0).aggregates false may) found)
   expressions (Expr-F.Case arms None at) h =
       whole (e.expr_step (Expr-F.Case (map arm_part (map (λ e. e.0) arms)) None at)) (λ z cx have may found. case_typed z cx have (map arm_part (map (λ e. e.0) arms)) None at
-      (all_stand written_arm arm_part ArmTyped arms (left_true _ _ h)) tt may found)
+      (all_stand written_arm arm_part ArmTyped arms (and_left _ _ h)) tt may found)
   expressions (Expr-F.Case arms (Some other) at) h =
       whole (e.expr_step (Expr-F.Case (map arm_part (map (λ e. e.0) arms)) (Some (part_of other.0)) at))
-      (λ z cx have may found. case_typed z cx have (map arm_part (map (λ e. e.0) arms)) (Some (part_of other.0)) at (all_stand written_arm arm_part ArmTyped arms (left_true _ _ h)) (other.1 (right_true _ _ h)) may found)
+      (λ z cx have may found. case_typed z cx have (map arm_part (map (λ e. e.0) arms)) (Some (part_of other.0)) at (all_stand written_arm arm_part ArmTyped arms (and_left _ _ h)) (other.1 (and_right _ _ h)) may found)
   expressions (Expr-F.Coalesce [] at) h = absurd (no_truth h)
   expressions (Expr-F.Coalesce (i ∷ items) at) h =
       whole (e.expr_step (Expr-F.Coalesce ((part_of i.0) ∷ (map part_of (map (λ e. e.0) items))) at))
       (λ z cx have may found. coalesce_typed z cx have ((part_of i.0) ∷ (map part_of (map (λ e. e.0) items))) at (
-        i.1 (left_true (written_expr i.0) (all (map written_expr (map (λ e. e.0) items))) h),
+        i.1 (and_left (written_expr i.0) (all (map written_expr (map (λ e. e.0) items))) h),
         all_stand written_expr part_of PartTyped items
-            (right_true (written_expr i.0) (all (map written_expr (map (λ e. e.0) items))) h),
+            (and_right (written_expr i.0) (all (map written_expr (map (λ e. e.0) items))) h),
       ) may found)
   expressions (Expr-F.CountAll at) h = whole (e.expr_step (Expr-F.CountAll at)) (λ z cx have may found. counted_fine z cx found at (may refl))
   expressions (Expr-F.Aggregate function argument at) h =
@@ -106,13 +107,13 @@ module _ (Q3 : Bool → ItemPart → Type 0) (Q4 : Bool → JoinPart → Type 0)
   pub tests : tree.KeepsTest Q1 Q2 Q3 Q4 Q5 Q6 Q7 Q8 Q9 Q10 Q11 Q12 Q13 Q14
   tests (Test-F.InSelect select) h = λ z cx have may x negate at found g. in_select_typed z cx have (select_of select.0) (select.1 h) x negate at found g
   tests (Test-F.InList items) h = λ z cx have may x negate at found g. list_typed z cx have (map part_of (map (λ e. e.0) items)) (all_stand written_expr part_of PartTyped items h) may x negate at found g
-  tests (Test-F.Between low high) h = λ z cx have may x negate at found g. between_typed z cx have (part_of low.0) (part_of high.0) (low.1 (left_true _ _ h)) (high.1 (right_true _ _ h)) may x negate at found g
+  tests (Test-F.Between low high) h = λ z cx have may x negate at found g. between_typed z cx have (part_of low.0) (part_of high.0) (low.1 (and_left _ _ h)) (high.1 (and_right _ _ h)) may x negate at found g
 
   pub addeds : tree.KeepsAdded Q1 Q2 Q3 Q4 Q5 Q6 Q7 Q8 Q9 Q10 Q11 Q12 Q13 Q14
   addeds a h = a.term.1 h
 
   pub arms : tree.KeepsArm Q1 Q2 Q3 Q4 Q5 Q6 Q7 Q8 Q9 Q10 Q11 Q12 Q13 Q14
-  arms a h = (a.condition.1 (left_true _ _ h), a.result.1 (right_true _ _ h))
+  arms a h = (a.condition.1 (and_left _ _ h), a.result.1 (and_right _ _ h))
 
   pub chaineds : tree.KeepsChained Q1 Q2 Q3 Q4 Q5 Q6 Q7 Q8 Q9 Q10 Q11 Q12 Q13 Q14
   chaineds c h = c.part.1 h

@@ -1,6 +1,7 @@
 -- What the walk gives is well typed: the induction over the tree.
 use Rattle.std.proofs.Common.{◌≡◌, Bool, true, ◌&&◌, List, [], ◌∷◌, map, Option, None, Some}
 use Rattle.std.specs.List.{AllByRecursion}
+use Rattle.cq_value.proofs.Truths.{and_left, and_right}
 use Rattle.cq_grammar.specs.declared.expr.Expr.{Expr}
 use Rattle.cq_grammar.specs.declared.query.Select.{Select}
 use Rattle.cq_grammar.specs.declared.query.From.{From}
@@ -24,7 +25,7 @@ use Rattle.cq_reading.specs.Walk.{part_of, test_part, item_part, join_part, rela
 use Rattle.cq_reading_laws.specs.Written.{Answers, all, if_any, is_some, written_expr, written_test, written_item, written_join, written_relation}
 use Rattle.cq_reading_laws.specs.Written.{written_added, written_arm, written_chained, written_multiplied, written_from, written_group_by, written_having, written_order_key, written_select}
 use Rattle.cq_reading_laws.proofs.Induction as tree
-use Rattle.cq_reading_laws.proofs.Standing.{left_true, right_true, no_truth}
+use Rattle.cq_reading_laws.proofs.Standing.{no_truth}
 use Rattle.cq_reading_laws.proofs.CarryingParts.{IfPart}
 use Rattle.cq_reading_laws.proofs.FineSteps.{all_stand}
 use Rattle.cq_reading_laws.proofs.TypedParts.{PartTyped}
@@ -62,7 +63,7 @@ Q13 w o = w ≡ true → PartTyped o.key
 froms_typed : (xs : List ((x : From) × (written_from x ≡ true → FromTyped (from_part x)))) → (is_some (map written_from (map (λ e. e.0) xs)) && all (map written_from (map (λ e. e.0) xs))) ≡ true → FromsTyped
     (map from_part (map (λ e. e.0) xs))
 froms_typed [] h = absurd (no_truth h)
-froms_typed (x ∷ xs) h = (x.1 (left_true _ _ h), all_stand written_from from_part FromTyped xs (right_true _ _ h))
+froms_typed (x ∷ xs) h = (x.1 (and_left _ _ h), all_stand written_from from_part FromTyped xs (and_right _ _ h))
 
 items : tree.KeepsItem Q1 Q2 Q3 Q4 Q5 Q6 Q7 Q8 Q9 Q10 Q11 Q12 Q13 Q14
 items (Item-F.All at) h = tt
@@ -71,8 +72,8 @@ items (Item-F.Value value None) h = value.1 h
 items (Item-F.Value value (Some name)) h = value.1 h
 
 joins : tree.KeepsJoin Q1 Q2 Q3 Q4 Q5 Q6 Q7 Q8 Q9 Q10 Q11 Q12 Q13 Q14
-joins (Join-F.Inner spelled relation on at) h = on_join Inner (relation_part relation.0) (part_of on.0) types_inner results_inner typed_inner (relation.1 (left_true _ _ h)) (on.1 (right_true _ _ h))
-joins (Join-F.Left spelled relation on at) h = on_join Left (relation_part relation.0) (part_of on.0) types_left results_left typed_left (relation.1 (left_true _ _ h)) (on.1 (right_true _ _ h))
+joins (Join-F.Inner spelled relation on at) h = on_join Inner (relation_part relation.0) (part_of on.0) types_inner results_inner typed_inner (relation.1 (and_left _ _ h)) (on.1 (and_right _ _ h))
+joins (Join-F.Left spelled relation on at) h = on_join Left (relation_part relation.0) (part_of on.0) types_left results_left typed_left (relation.1 (and_left _ _ h)) (on.1 (and_right _ _ h))
 joins (Join-F.Cross relation at) h = cross_join (relation_part relation.0) (relation.1 h)
 
 relations : tree.KeepsRelation Q1 Q2 Q3 Q4 Q5 Q6 Q7 Q8 Q9 Q10 Q11 Q12 Q13 Q14
@@ -81,7 +82,7 @@ relations (Relation-F.TableAs name spelled alias) h = λ cs w fit names ahead fo
 relations (Relation-F.Subquery select spelled alias at) h = subquery_typed (select_of select.0) alias (select.1 h)
 
 froms : tree.KeepsFrom Q1 Q2 Q3 Q4 Q5 Q6 Q7 Q8 Q9 Q10 Q11 Q12 Q13 Q14
-froms f h = from_typed (relation_part f.first.0) (map join_part (map (λ e. e.0) f.joins)) (f.first.1 (left_true _ _ h)) (all_stand written_join join_part JoinTyped f.joins (right_true _ _ h))
+froms f h = from_typed (relation_part f.first.0) (map join_part (map (λ e. e.0) f.joins)) (f.first.1 (and_left _ _ h)) (all_stand written_join join_part JoinTyped f.joins (and_right _ _ h))
 
 groups : tree.KeepsGroupBy Q1 Q2 Q3 Q4 Q5 Q6 Q7 Q8 Q9 Q10 Q11 Q12 Q13 Q14
 groups g h = all_stand written_expr part_of PartTyped g.keys h
@@ -127,16 +128,16 @@ having_part_typed q (Some p) h = p.1 h
 
 selects : tree.KeepsSelect Q1 Q2 Q3 Q4 Q5 Q6 Q7 Q8 Q9 Q10 Q11 Q12 Q13 Q14
 selects q h = λ cs w fit found.
-    let e = left_true _ _ h in let d = left_true _ _ e in let c = left_true _ _ d in let b = left_true _ _ c in
+    let e = and_left _ _ h in let d = and_left _ _ e in let c = and_left _ _ d in let b = and_left _ _ c in
     select_step_typed cs w fit (walked q)
     (record {
-      items = all_stand written_item item_part ItemTyped q.items (left_true _ _ b);
-      filter = filter_part q q.filter (right_true _ _ c);
-      keys = groups_part q q.groups (right_true _ _ d);
-      having = having_part_typed q q.having (right_true _ _ e);
-      order = all_stand written_order_key order_part (λ o. PartTyped o.key) q.order (right_true _ _ h);
+      items = all_stand written_item item_part ItemTyped q.items (and_left _ _ b);
+      filter = filter_part q q.filter (and_right _ _ c);
+      keys = groups_part q q.groups (and_right _ _ d);
+      having = having_part_typed q q.having (and_right _ _ e);
+      order = all_stand written_order_key order_part (λ o. PartTyped o.key) q.order (and_right _ _ h);
     })
-    (froms_typed q.from (right_true _ _ b)) found
+    (froms_typed q.from (and_right _ _ b)) found
 
 pub select_typed : (x : Select) → written_select x ≡ true → SelectTyped (select_of x)
 select_typed = tree.of_select Q1 Q2 Q3 Q4 Q5 Q6 Q7 Q8 Q9 Q10 Q11 Q12 Q13 Q14 (step.expressions Q3 Q4 Q5 Q10 Q11 Q12 Q13) (step.tests Q3 Q4 Q5 Q10 Q11 Q12 Q13) items joins relations

@@ -3,6 +3,8 @@ use Rattle.std.proofs.Common.{◌≡◌, ℕ, zero, suc, ◌+◌, ◌<◌, Bool,
 use Rattle.std.specs.Prelude.{⊤, slice_get, slice_index_or, position, bytes_eq, nat_eq}
 use Rattle.std.specs.List.{AllByRecursion, list_any}
 use Rattle.std.proofs.lemmas.List.Quantifiers.{position-Some}
+use Rattle.cq_value.proofs.Lists.{all_more}
+use Rattle.cq_value.proofs.Truths.{and_left, and_right}
 use Rattle.cq_value.specs.declared.schema.Column as schema
 use Rattle.cq_value.specs.declared.schema.Kind.{Kind}
 use Rattle.cq_value.specs.declared.schema.Kind.TheVariants as kind
@@ -37,9 +39,9 @@ use Rattle.cq_reading_laws.specs.Reach.{HasKind, TablesTyped, Onward}
 use Rattle.cq_reading_laws.specs.Written.{written_expr}
 use Rattle.cq_reading_laws.specs.WriteLaws.{table_of, written_filter, written_sets}
 use Rattle.cq_reading_laws.specs.TypingLaws.{UpdatesTyped, DeletionsTyped}
-use Rattle.cq_reading_laws.proofs.Standing.{no_truth, left_true, right_true}
+use Rattle.cq_reading_laws.proofs.Standing.{no_truth}
 use Rattle.cq_reading_laws.proofs.TypedForms.{OfType, fits_same, alike_below}
-use Rattle.cq_reading_laws.proofs.TypedKeeping.{all_more, Setting, Given, Good, Later, AllLater, Run, RunIf, Fine, now, on, gives, where_fit, onwards, through_all}
+use Rattle.cq_reading_laws.proofs.TypedKeeping.{Setting, Given, Good, Later, AllLater, Run, RunIf, Fine, now, on, gives, where_fit, onwards, through_all}
 use Rattle.cq_reading_laws.proofs.TypedParts.{Reached}
 use Rattle.cq_reading_laws.proofs.TypedFrom.{columns_fit, sources_at, source_kinds}
 use Rattle.cq_reading_laws.proofs.TypedLists.{CondFine, condition_typed}
@@ -156,7 +158,7 @@ module _ (cs : Types) (tables : List TableInfo) (fit : TablesTyped cs tables) (i
 
   set_steps : (sets : List SetClause) (found : Found) → written_sets sets ≡ true → AllByRecursion (λ s. (before : List Set) (f : Found) → Onward found f → SS f before → Run z cx SS f (st.with_set cx t before s f)) sets
   set_steps [] found w = tt
-  set_steps (s ∷ more) found w = ((λ before f l h. set_fine before s f (left_true _ _ w) h), set_steps more found (right_true _ _ w))
+  set_steps (s ∷ more) found w = ((λ before f l h. set_fine before s f (and_left _ _ w) h), set_steps more found (and_right _ _ w))
 
   sets_fine : (sets : List SetClause) (found : Found) → written_sets sets ≡ true → Run z cx SS found (through (st.with_set cx t) sets [] found)
   sets_fine sets found w = through_all z cx SS (st.with_set cx t) sets [] found (set_steps sets found w) (λ later l. tt)

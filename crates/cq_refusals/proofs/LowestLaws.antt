@@ -1,6 +1,7 @@
 -- The lowest refusal of a query by the flaws of its blocks.
 use Rattle.std.proofs.Common.{◌≡◌, Bool, List, [], ◌∷◌, map, Option, None, Some, refl, ap, ◌||◌, if◌then◌else◌}
 use Rattle.std.specs.List.{list_any}
+use Rattle.cq_value.proofs.Lists.{any_map}
 use Rattle.cq_tree.specs.declared.query.Query.{Query}
 use Rattle.cq_tree.specs.declared.unsupported.Unsupported.{Unsupported}
 use Rattle.cq_tree.specs.declared.unsupported.Unsupported.TheVariants.{NeedsRepartition, NoEquality, OuterJoin, LimitWithoutOrder}
@@ -9,10 +10,6 @@ use Rattle.cq_planning.specs.Blocks.{blocks_in, subqueries_in}
 use Rattle.cq_planning.specs.Refusals.{refusal_of_query, is_cut_loosely}
 use Rattle.cq_refusals.specs.declared.flaws.Flaws.{Flaws}
 use Rattle.cq_refusals.specs.Flaws.{flaws_of, flaws_within, lowest}
-
-any_map : {X Y : Type 0} (p : Y → Bool) (f : X → Y) (xs : List X) → list_any p (map f xs) ≡ list_any (λ x. p (f x)) xs
-any_map p f [] = refl
-any_map p f (x ∷ xs) = ap (λ (b : Bool). p (f x) || b) (any_map p f xs)
 
 -- by the tests of three lists and one more
 abbrev by_tests : Bool → Bool → Bool → Bool → Option Unsupported

@@ -3,13 +3,12 @@ use Rattle.std.proofs.Common.{◌≡◌, ℕ, ◌+◌, ◌<◌, inl, inr, Bool, 
 use Rattle.std.specs.Prelude.{◌||◌, nat_eq, position}
 use Rattle.std.proofs.lemmas.Bool.{eq-eqb}
 use Rattle.std.proofs.lemmas.Bool.Decides.{eqb_tells}
+use Rattle.cq_value.proofs.Truths.{two_ways, same_number}
 use Rattle.cq_meaning.specs.Lists.{Has}
 use Rattle.cq_meaning.proofs.RowLaws.{has_filtered}
 use Rattle.cq_demands.specs.declared.joins.Leaf.{Leaf}
 use Rattle.cq_planning.specs.Components.{is_one_class}
 use Rattle.cq_planning.specs.Touched.{numbers}
-use Rattle.cq_planning_laws.proofs.Lists.{two_ways}
-use Rattle.cq_planning_laws.proofs.Rows.{same_number}
 use Rattle.cq_repart.specs.Splits.{key_of}
 use Rattle.cq_repart.specs.declared.tables.Key.{Key}
 use Rattle.cq_repartition_laws.specs.Keys.{is_number, place_of, key_at, is_of_each, keys_among}

@@ -4,16 +4,15 @@ use Rattle.std.specs.Prelude.{position}
 use Rattle.std.specs.List.{list_any, list_all, cons_option, range_with_len, AllByRecursion}
 use Rattle.std.proofs.lemmas.Bool.Decides.{eqb_tells}
 use Rattle.std.proofs.lemmas.List.Quantifiers.{position-Some}
+use Rattle.cq_value.proofs.Truths.{two_ways, and_both}
 use Rattle.cq_meaning.specs.Lists.{Has}
 use Rattle.cq_planning.specs.Touched.{numbers}
-use Rattle.cq_planning_laws.proofs.Lists.{two_ways}
-use Rattle.cq_planning_laws.proofs.Rows.{and_true}
 use Rattle.cq_task_laws.specs.Cutting.{AreDistinct}
 
 pub all_at : {X : Type 0} (p : X → Bool) (xs : List X) → list_all p xs ≡ true → (x : X) → Has xs x → p x ≡ true
 all_at p [] all x h = absurd h
-all_at p (y ∷ xs) all x (inl e) = subst (λ z. p z ≡ true) e (and_true (p y) (list_all p xs) all).0
-all_at p (y ∷ xs) all x (inr h) = all_at p xs (and_true (p y) (list_all p xs) all).1 x h
+all_at p (y ∷ xs) all x (inl e) = subst (λ z. p z ≡ true) e (and_both (p y) (list_all p xs) all).0
+all_at p (y ∷ xs) all x (inr h) = all_at p xs (and_both (p y) (list_all p xs) all).1 x h
 
 pub any_at : {X : Type 0} (p : X → Bool) (xs : List X) → list_any p xs ≡ true → (x : X) × Has xs x × (p x ≡ true)
 any_at p [] h = cc

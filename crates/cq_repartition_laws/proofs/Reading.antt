@@ -5,6 +5,8 @@ use Rattle.std.specs.List.{cons_option, range_with_len, AllByRecursion}
 use Rattle.std.specs.List.Sorted.{IsPermutation}
 use Rattle.std.proofs.lemmas.List.Sorted.{IsPermutation-refl}
 use Rattle.std.proofs.lemmas.Bool.Decides.{eqb_tells}
+use Rattle.cq_value.proofs.Lists.{all_left, all_right, all_append, all_filtered}
+use Rattle.cq_value.proofs.Truths.{two_ways, and_both}
 use Rattle.cq_tree.specs.declared.query.FromTree.{FromTree, Table, Sub', Result, Cross', Inner', Left', end_of-FromTree, more_of-FromTree}
 use Rattle.cq_meaning.specs.Lists.{Has}
 use Rattle.cq_meaning.specs.Values.{Row, Tables, table_rows}
@@ -18,8 +20,6 @@ use Rattle.cq_task_laws.proofs.SafeMerge.{at_has}
 use Rattle.cq_demands.specs.declared.joins.Leaf.{Leaf}
 use Rattle.cq_demands.specs.JoinDemands.{is_plain, leaves_from, AreWide}
 use Rattle.cq_demands.proofs.Joined.{Facts, from_facts}
-use Rattle.cq_planning_laws.proofs.Lists.{two_ways, all_left, all_right, all_append, all_filtered}
-use Rattle.cq_planning_laws.proofs.Rows.{and_true}
 use Rattle.cq_repart.specs.Buckets.{bucket, key_token, is_in_range}
 use Rattle.cq_repart.specs.Splits.{key_of, beside_in, own_in}
 use Rattle.cq_repart.specs.declared.tables.Key.{Key}
@@ -139,21 +139,21 @@ module _ (keys : List Key) (ends : List ℤ) where
     right_read (Sub' p q) start i plain none = cc
     right_read (Result k n) start i plain none = cc
     right_read (Cross' p (more_of-FromTree a end_of-FromTree) q (more_of-FromTree b end_of-FromTree)) start i plain none =
-        let both = and_true (is_plain a) (is_plain b) plain in
+        let both = and_both (is_plain a) (is_plain b) plain in
         let ls : List Leaf = leaves_from a start true in
         let rs : List Leaf = leaves_from b (start + columns_in a) true in
         let left_is = right_read a start i both.0 (all_left _ ls rs none) in
         let right_is = right_read b (start + columns_in a) i both.1 (all_right _ ls rs none) in
         λ j. product (left_is j) (right_is j)
     right_read (Inner' p (more_of-FromTree a end_of-FromTree) q (more_of-FromTree b end_of-FromTree) on) start i plain none =
-        let both = and_true (is_plain a) (is_plain b) plain in
+        let both = and_both (is_plain a) (is_plain b) plain in
         let ls : List Leaf = leaves_from a start true in
         let rs : List Leaf = leaves_from b (start + columns_in a) true in
         let left_is = right_read a start i both.0 (all_left _ ls rs none) in
         let right_is = right_read b (start + columns_in a) i both.1 (all_right _ ls rs none) in
         λ j. filter (joins on [] start) (product (left_is j) (right_is j))
     right_read (Left' p (more_of-FromTree a end_of-FromTree) q (more_of-FromTree b end_of-FromTree) on) start i plain none =
-        let both = and_true (is_plain a) (is_plain b) plain in
+        let both = and_both (is_plain a) (is_plain b) plain in
         let ls : List Leaf = leaves_from a start true in
         let rs : List Leaf = leaves_from b (start + columns_in a) true in
         let left_is = right_read a start i both.0 (all_left _ ls rs none) in
@@ -186,17 +186,17 @@ module _ (keys : List Key) (ends : List ℤ) where
       right_unsplit (Sub' p q) start plain alike = tt
       right_unsplit (Result k n) start plain alike = tt
       right_unsplit (Cross' p (more_of-FromTree a end_of-FromTree) q (more_of-FromTree b end_of-FromTree)) start plain alike =
-          let both = and_true (is_plain a) (is_plain b) plain in
+          let both = and_both (is_plain a) (is_plain b) plain in
           let ls : List Leaf = leaves_from a start true in
           let rs : List Leaf = leaves_from b (start + columns_in a) true in
           all_append _ ls rs (right_unsplit a start both.0 (all_left _ ls rs alike)) (right_unsplit b (start + columns_in a) both.1 (all_right _ ls rs alike))
       right_unsplit (Inner' p (more_of-FromTree a end_of-FromTree) q (more_of-FromTree b end_of-FromTree) on) start plain alike =
-          let both = and_true (is_plain a) (is_plain b) plain in
+          let both = and_both (is_plain a) (is_plain b) plain in
           let ls : List Leaf = leaves_from a start true in
           let rs : List Leaf = leaves_from b (start + columns_in a) true in
           all_append _ ls rs (right_unsplit a start both.0 (all_left _ ls rs alike)) (right_unsplit b (start + columns_in a) both.1 (all_right _ ls rs alike))
       right_unsplit (Left' p (more_of-FromTree a end_of-FromTree) q (more_of-FromTree b end_of-FromTree) on) start plain alike =
-          let both = and_true (is_plain a) (is_plain b) plain in
+          let both = and_both (is_plain a) (is_plain b) plain in
           let ls : List Leaf = leaves_from a start true in
           let rs : List Leaf = leaves_from b (start + columns_in a) true in
           all_append _ ls rs (right_unsplit a start both.0 (all_left _ ls rs alike)) (right_unsplit b (start + columns_in a) both.1 (all_right _ ls rs alike))
@@ -206,17 +206,17 @@ module _ (keys : List Key) (ends : List ℤ) where
       all_fit (Sub' p q) start plain wide alike = cc
       all_fit (Result k n) start plain wide alike = cc
       all_fit (Cross' p (more_of-FromTree a end_of-FromTree) q (more_of-FromTree b end_of-FromTree)) start plain wide alike =
-          let both = and_true (is_plain a) (is_plain b) plain in
+          let both = and_both (is_plain a) (is_plain b) plain in
           let ls : List Leaf = leaves_from a start false in
           let rs : List Leaf = leaves_from b (start + columns_in a) false in
           (all_fit a start both.0 wide.0 (all_left _ ls rs alike), all_fit b (start + columns_in a) both.1 wide.1 (all_right _ ls rs alike))
       all_fit (Inner' p (more_of-FromTree a end_of-FromTree) q (more_of-FromTree b end_of-FromTree) on) start plain wide alike =
-          let both = and_true (is_plain a) (is_plain b) plain in
+          let both = and_both (is_plain a) (is_plain b) plain in
           let ls : List Leaf = leaves_from a start false in
           let rs : List Leaf = leaves_from b (start + columns_in a) false in
           (all_fit a start both.0 wide.0 (all_left _ ls rs alike), all_fit b (start + columns_in a) both.1 wide.1 (all_right _ ls rs alike))
       all_fit (Left' p (more_of-FromTree a end_of-FromTree) q (more_of-FromTree b end_of-FromTree) on) start plain wide alike =
-          let both = and_true (is_plain a) (is_plain b) plain in
+          let both = and_both (is_plain a) (is_plain b) plain in
           let ls : List Leaf = leaves_from a start false in
           let rs : List Leaf = leaves_from b (start + columns_in a) true in
           (all_fit a start both.0 wide.0 (all_left _ ls rs alike), right_fits b (start + columns_in a) both.1 wide.1 (right_unsplit b (start + columns_in a) both.1 (all_right _ ls rs alike)))

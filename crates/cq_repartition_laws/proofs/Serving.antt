@@ -2,6 +2,8 @@
 use Rattle.std.proofs.Common.{◌≡◌, ℕ, zero, suc, ℤ, ◌<◌, ◌≤◌, inl, inr, true, false, List, [], ◌∷◌, length, map, Some, refl, sym, ◌∙◌, ap, subst, arith, eq-eqb}
 use Rattle.std.specs.Prelude.{◌&&◌, nat_lt}
 use Rattle.std.specs.List.{range_with_len, list_any, AllByRecursion}
+use Rattle.cq_value.proofs.Lists.{all_append}
+use Rattle.cq_value.proofs.Truths.{two_ways, and_both, same_number}
 use Rattle.cq_value.specs.Placement.{token_of}
 use Rattle.cq_tree.specs.declared.expression.Cond.{Cond}
 use Rattle.cq_tree.specs.declared.query.FromTree.{FromTree}
@@ -25,8 +27,7 @@ use Rattle.cq_planning.specs.Classes.{first_of_class}
 use Rattle.cq_planning.specs.Components.{is_one_class}
 use Rattle.cq_planning.specs.Conjuncts.{conjuncts, inner_conjuncts, conjuncts_of, equalities}
 use Rattle.cq_planning_laws.proofs.GroupLists.{token_fits}
-use Rattle.cq_planning_laws.proofs.Lists.{two_ways, all_append}
-use Rattle.cq_planning_laws.proofs.Rows.{Says, Agrees, kept_says, pairs_agree, class_agrees, and_true, same_number}
+use Rattle.cq_planning_laws.proofs.Rows.{Says, Agrees, kept_says, pairs_agree, class_agrees}
 use Rattle.cq_outline.specs.Tasking.{shares_rows}
 use Rattle.cq_pushdown_laws.proofs.Choices.{choice_says}
 use Rattle.cq_pushdown_laws.proofs.Sharing.{apart_serve, shares_serve}
@@ -135,8 +136,8 @@ unfolding out-Query denote.Hole.Carrier.out
 repartition_serves class (Query' cs ctes ss subs from filter_ grouped keys aggs having items shown distinct order limit offset names) ends db tests part wide =
     let q : Query = Query' cs ctes ss subs from filter_ grouped keys aggs having items shown distinct order limit offset names in
     let split : List Key = keys_of class q in
-    let plain = and_true (is_plain from) (has_equality class q && has_some split) tests in
-    let both = and_true (has_equality class q) (has_some split) plain.1 in
+    let plain = and_both (is_plain from) (has_equality class q && has_some split) tests in
+    let both = and_both (has_equality class q) (has_some split) plain.1 in
     let rows : ℕ → List Row = λ i. from_rows from 0 (bucket_tables split ends db i) [] in
     let parts : List (List Row) = map rows (range_with_len 0 (length ends)) in (
       range_distinct 0 (length ends),

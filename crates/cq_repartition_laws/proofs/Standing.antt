@@ -1,6 +1,8 @@
 -- In which bucket a joined row stands: that of the value of the class.
 use Rattle.std.proofs.Common.{◌≡◌, ℕ, ℤ, ◌+◌, ◌<◌, inl, inr, Bool, true, false, List, [], ◌++◌, take, drop, length, Option, None, Some, refl, sym, ◌∙◌, ap, subst, arith, eq-eqb}
 use Rattle.std.specs.Prelude.{not, ◌&&◌, ◌||◌, nat_eq}
+use Rattle.cq_value.proofs.Lists.{all_left, all_right}
+use Rattle.cq_value.proofs.Truths.{or_right, both_true, and_both}
 use Rattle.cq_value.specs.Placement.{token_of}
 use Rattle.cq_tree.specs.declared.query.FromTree.{FromTree, Table, Sub', Result, Cross', Inner', Left', end_of-FromTree, more_of-FromTree}
 use Rattle.cq_meaning.specs.Lists.{Has}
@@ -10,12 +12,10 @@ use Rattle.cq_meaning.specs.Queries.{columns_in}
 use Rattle.cq_meaning.proofs.RowLaws.{has_either}
 use Rattle.cq_task_laws.specs.Cutting.{Joins, width_of, IsChoice, AllFit, stands, RightsStand}
 use Rattle.cq_task_laws.specs.Tasks.{has_cut}
-use Rattle.cq_task_laws.proofs.CutLaws.{choice_width, take_left, drop_left, both_true}
+use Rattle.cq_task_laws.proofs.CutLaws.{choice_width, take_left, drop_left}
 use Rattle.cq_catalog.specs.Ranges.{index_in}
 use Rattle.cq_demands.specs.declared.joins.Leaf.{Leaf}
 use Rattle.cq_demands.specs.JoinDemands.{is_plain, leaves_from}
-use Rattle.cq_planning_laws.proofs.Lists.{all_left, all_right}
-use Rattle.cq_planning_laws.proofs.Rows.{and_true}
 use Rattle.cq_planning_laws.proofs.Columns.{column_pad}
 use Rattle.cq_pushdown_laws.proofs.Choices.{IsPart, part_left, part_right, choice_long}
 use Rattle.cq_repart.specs.Buckets.{key_token}
@@ -69,7 +69,7 @@ module _ (first : ℕ → ℕ) (class : ℕ) (keys : List Key) (ends : List ℤ)
   row_stands (Sub' p q) start part plain fit alike h is_part = cc
   row_stands (Result k n) start part plain fit alike h is_part = cc
   row_stands (Cross' p (more_of-FromTree a end_of-FromTree) q (more_of-FromTree b end_of-FromTree)) start part plain fit alike (l, y, ca, cb, m, e) is_part =
-      let both = and_true (is_plain a) (is_plain b) plain in
+      let both = and_both (is_plain a) (is_plain b) plain in
       let wa : ℕ = columns_in a in
       let ls : List Leaf = leaves_from a start false in
       let rs : List Leaf = leaves_from b (start + wa) false in
@@ -79,7 +79,7 @@ module _ (first : ℕ → ℕ) (class : ℕ) (keys : List Key) (ends : List ℤ)
       (row_stands a start l both.0 fit.0 (all_left _ ls rs alike) ca (part_left row start l y wa (columns_in b) long here))
       (row_stands b (start + wa) y both.1 fit.1 (all_right _ ls rs alike) cb (part_right row start l y wa (columns_in b) long here))
   row_stands (Inner' p (more_of-FromTree a end_of-FromTree) q (more_of-FromTree b end_of-FromTree) on) start part plain fit alike (l, y, ca, cb, m, e) is_part =
-      let both = and_true (is_plain a) (is_plain b) plain in
+      let both = and_both (is_plain a) (is_plain b) plain in
       let wa : ℕ = columns_in a in
       let ls : List Leaf = leaves_from a start false in
       let rs : List Leaf = leaves_from b (start + wa) false in
@@ -89,7 +89,7 @@ module _ (first : ℕ → ℕ) (class : ℕ) (keys : List Key) (ends : List ℤ)
       (row_stands a start l both.0 fit.0 (all_left _ ls rs alike) ca (part_left row start l y wa (columns_in b) long here))
       (row_stands b (start + wa) y both.1 fit.1 (all_right _ ls rs alike) cb (part_right row start l y wa (columns_in b) long here))
   row_stands (Left' p (more_of-FromTree a end_of-FromTree) q (more_of-FromTree b end_of-FromTree) on) start part plain fit alike (l, y, ca, cb, e) is_part =
-      let both = and_true (is_plain a) (is_plain b) plain in
+      let both = and_both (is_plain a) (is_plain b) plain in
       let wa : ℕ = columns_in a in
       let ls : List Leaf = leaves_from a start false in
       let rs : List Leaf = leaves_from b (start + wa) true in
@@ -114,10 +114,6 @@ padded_right (Inner' p (more_of-FromTree a end_of-FromTree) q (more_of-FromTree 
 padded_right (Left' p (more_of-FromTree a end_of-FromTree) q (more_of-FromTree b end_of-FromTree) on) start l h =
     elim (has_either (leaves_from a start true) (leaves_from b (start + columns_in a) true) l h) [ inl u ↦ padded_right a start l u | inr u ↦ padded_right b (start + columns_in a) l u ]
 
-either_one : (a b : Bool) → b ≡ true → (a || b) ≡ true
-either_one true b h = refl
-either_one false b h = h
-
 module _ (keys : List Key) (ends : List ℤ) (db : Tables) (l : Leaf) (plainly : l.padded ≡ false) (k : ℕ) (key : key_of keys l.table ≡ Some k) where
   pub cut_there : (f : FromTree) (start : ℕ) → Has (leaves_from f start false) l → has_cut (parted keys ends db f start) ≡ true
   cut_there (Table t n) start (inl e) = ap (λ (o : Option ℕ). (side_by ends o).cut) (ap (λ (u : Leaf). key_of keys u.table) e ∙ key)
@@ -127,12 +123,12 @@ module _ (keys : List Key) (ends : List ℤ) (db : Tables) (l : Leaf) (plainly :
   cut_there (Cross' p (more_of-FromTree a end_of-FromTree) q (more_of-FromTree b end_of-FromTree)) start h =
       elim (has_either (leaves_from a start false) (leaves_from b (start + columns_in a) false) l h) [
         | inl u ↦ (let c = cut_there a start u in rw c refl)
-        | inr u ↦ either_one (has_cut (parted keys ends db a start)) (has_cut (parted keys ends db b (start + columns_in a))) (cut_there b (start + columns_in a) u)
+        | inr u ↦ or_right (has_cut (parted keys ends db a start)) (has_cut (parted keys ends db b (start + columns_in a))) (cut_there b (start + columns_in a) u)
       ]
   cut_there (Inner' p (more_of-FromTree a end_of-FromTree) q (more_of-FromTree b end_of-FromTree) on) start h =
       elim (has_either (leaves_from a start false) (leaves_from b (start + columns_in a) false) l h) [
         | inl u ↦ (let c = cut_there a start u in rw c refl)
-        | inr u ↦ either_one (has_cut (parted keys ends db a start)) (has_cut (parted keys ends db b (start + columns_in a))) (cut_there b (start + columns_in a) u)
+        | inr u ↦ or_right (has_cut (parted keys ends db a start)) (has_cut (parted keys ends db b (start + columns_in a))) (cut_there b (start + columns_in a) u)
       ]
   cut_there (Left' p (more_of-FromTree a end_of-FromTree) q (more_of-FromTree b end_of-FromTree) on) start h =
       elim (has_either (leaves_from a start false) (leaves_from b (start + columns_in a) true) l h) [

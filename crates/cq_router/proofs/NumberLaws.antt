@@ -1,13 +1,7 @@
 -- Groups in ascending order.
 use Rattle.std.proofs.Common.{◌≡◌, ◌⊎◌, inl, inr, ℕ, zero, suc, ◌+◌, ◌<◌, ◌≤◌, Bool, true, false, cond, List, [], ◌∷◌, filter, refl, sym, ◌∙◌, arith, nat_eq, eq-eqb}
+use Rattle.cq_value.proofs.Truths.{two_ways, same_number}
 use Rattle.cq_planning.specs.Touched.{numbers}
-
-pub two_ways : (b : Bool) → (b ≡ true) ⊎ (b ≡ false)
-two_ways true = inl refl
-two_ways false = inr refl
-
-pub same_number : (a b : ℕ) → nat_eq a b ≡ true → a ≡ b
-same_number a b h = grind (arith, h)
 
 pub other_number : (a b : ℕ) → ((a ≡ b) → ⊥) → nat_eq a b ≡ false
 other_number a b h = elim (two_ways (nat_eq a b)) [ inl y ↦ absurd (h (same_number a b y)) | inr n ↦ n ]

@@ -1,6 +1,8 @@
 -- The parts of a write, by the place of its table.
 use Rattle.std.proofs.Common.{◌≡◌, ℕ, ◌+◌, ◌<◌, Bool, true, false, List, [], ◌∷◌, map, filter, length, Option, None, Some, inl, inr, refl, sym, ap, ◌∙◌, arith, subst, nat_eq, ◌||◌}
 use Rattle.std.specs.Prelude.{slice_get}
+use Rattle.cq_value.proofs.Truths.{two_ways}
+use Rattle.cq_value.proofs.Lists.{map_map}
 use Rattle.cq_tree.specs.declared.write.Set.{Set}
 use Rattle.cq_tree.specs.declared.expression.Cond.{Cond}
 use Rattle.cq_tree.specs.declared.write.ShardOp.{ShardOp}
@@ -15,12 +17,8 @@ use Rattle.cq_catalog.specs.declared.info.TableInfo.{TableInfo}
 use Rattle.cq_planning.specs.Touched.{numbers, among, in_order, row_groups, touched_by_where}
 use Rattle.cq_planning.specs.Parts.{parts, rows_in}
 use Rattle.cq_router.specs.Piles.{home, piles, as_part, part_by, parts_of}
-use Rattle.cq_router.proofs.NumberLaws.{filter_none, filter_one, filter_same, two_ways}
+use Rattle.cq_router.proofs.NumberLaws.{filter_none, filter_one, filter_same}
 use Rattle.cq_router.proofs.PileLaws.{parts_are}
-
-map_map : {X Y Z : Type 0} (f : Y → Z) (g : X → Y) (xs : List X) → map f (map g xs) ≡ map (λ x. f (g x)) xs
-map_map f g [] = refl
-map_map f g (x ∷ xs) = ap (λ ys. f (g x) ∷ ys) (map_map f g xs)
 
 -- the parts of an INSERT into a table at this place
 abbrev parts_at : Contents → ℕ → Place → List Row → List (ℕ × ShardOp)

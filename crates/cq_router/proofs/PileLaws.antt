@@ -3,12 +3,13 @@ use Rattle.std.proofs.Common.{◌≡◌, ℕ, zero, suc, ◌+◌, ◌<◌, Bool,
 use Rattle.std.proofs.Common.{eq-eqb}
 use Rattle.std.proofs.lemmas.List.{append-nil}
 use Rattle.std.proofs.lemmas.List.Elements.{filter-append}
+use Rattle.cq_value.proofs.Truths.{two_ways, same_number}
 use Rattle.cq_tree.specs.declared.write.ShardOp.TheVariants.{Insert}
 use Rattle.cq_meaning.specs.Values.{Row}
 use Rattle.cq_planning.specs.Touched.{numbers, among}
 use Rattle.cq_router.specs.declared.insertion.Part.{Part}
 use Rattle.cq_router.specs.declared.insertion.Pile.{Pile}
-use Rattle.cq_router.proofs.NumberLaws.{two_ways, turned, same_number}
+use Rattle.cq_router.proofs.NumberLaws.{turned}
 use Rattle.cq_router.specs.Piles.{pile_of, piles, higher, added, as_part, part_by, parts_of}
 
 -- ---- numbers

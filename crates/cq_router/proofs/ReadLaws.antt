@@ -1,6 +1,7 @@
 -- What code holds of a query's occurrences says what the definitions say of them.
 use Rattle.std.proofs.Common.{◌≡◌, inl, inr, ℕ, zero, suc, ◌+◌, ◌<◌, ◌≤◌, Bool, true, false, cond, List, [], ◌∷◌, ◌++◌, map, filter, length, refl, sym, ap, ◌∙◌, arith, nat_eq, nat_lt, eq-eqb, ◌||◌, ◌&&◌}
 use Rattle.std.specs.List.{flat_map, list_any, list_all}
+use Rattle.cq_value.proofs.Truths.{or_apart, two_ways, same_number}
 use Rattle.cq_catalog.specs.Contents.{Contents}
 use Rattle.cq_catalog.specs.Placement.{place_at}
 use Rattle.cq_planning.specs.Occurrences.{Occurrence}
@@ -8,13 +9,9 @@ use Rattle.cq_planning.specs.Touched.{numbers, among, in_order, groups_of}
 use Rattle.cq_planning.specs.Routing.{is_distributed_place, is_reference_place, distributed_of, are_of_one_colocation, groups_of_all, are_routed, first_group_of, tasks_over, tasks_in}
 use Rattle.cq_plan.specs.Touches.{touches}
 use Rattle.cq_router.specs.Reads.{is_of_reference, distributed_among, groups_in_each, groups_among, colocation_number, agrees, are_of_one, first_group_among, tasks_among, are_routed_among}
-use Rattle.cq_router.proofs.NumberLaws.{two_ways, same_number, other_number, filter_same}
+use Rattle.cq_router.proofs.NumberLaws.{other_number, filter_same}
 
 -- ---- groups of lists, each in ascending order
-
-or_apart : (a b d : Bool) → ((a || b) || d) ≡ (a || (b || d))
-or_apart true b d = refl
-or_apart false b d = refl
 
 among_append : (g : ℕ) (xs ys : List ℕ) → among g (xs ++ ys) ≡ (among g xs || among g ys)
 among_append g [] ys = refl

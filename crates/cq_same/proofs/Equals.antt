@@ -7,13 +7,14 @@ use Rattle.cq_value.specs.declared.value.Value.TheVariants.{Null, Int, Text}
 use Rattle.cq_tree.specs.declared.expression.Op.{Op}
 use Rattle.cq_tree.specs.declared.expression.Op.TheVariants as op
 use Rattle.std.specs.Prelude.{ℕ, nat_eq}
+use Rattle.cq_value.proofs.Truths.{and_left, and_right}
 use Rattle.cq_tree.specs.declared.expression.Expr.{Expr, out-Expr, roll-Expr, roll-out-Expr}
 use Rattle.cq_tree.specs.declared.expression.Arm.{Arm, out-Arm, roll-Arm, roll-out-Arm}
 use Rattle.cq_tree.specs.declared.expression.Cond.{Cond, out-Cond, roll-Cond, roll-out-Cond}
 use Rattle.cq_tree.specs.declared.expression.Cond.TheOpen.{Expr-F, Cond-F, Arm-F}
 use Rattle.cq_tree.specs.declared.expression.Cond.TheFolds.{map-Expr, map-Cond, map-Arm, fold-roll-Expr, fold-roll-Cond, fold-roll-Arm, ind-Cond, ind-Expr}
 use Rattle.cq_same.specs.Equal.{equal_values, equal_ops, equal_each, expr_layer, arm_layer, cond_layer, equal_exprs, equal_conds, equal_arms}
-use Rattle.cq_same.proofs.Truths.{no_truth, left_true, right_true}
+use Rattle.cq_same.proofs.Truths.{no_truth}
 
 pub values_same : (v w : Value) → equal_values v w ≡ true → v ≡ w
 values_same Null Null h = refl
@@ -84,7 +85,7 @@ each_same : {A : Type 0} (eq : A → A → Bool) (xs : List ((a : A) × Tells eq
 each_same eq [] [] h = refl
 each_same eq [] (y ∷ ys) h = absurd (no_truth h)
 each_same eq (x ∷ xs) [] h = absurd (no_truth h)
-each_same eq (x ∷ xs) (y ∷ ys) h = two ◌∷◌ (x.1 y (left_true _ _ h)) (each_same eq xs ys (right_true _ _ h))
+each_same eq (x ∷ xs) (y ∷ ys) h = two ◌∷◌ (x.1 y (and_left _ _ h)) (each_same eq xs ys (and_right _ _ h))
 
 expr_same : (y : Told Expr-F) (z : Expr-F Cond Expr Arm) → expr_layer (map-Expr _ _ _ _ _ _ equal_conds equal_exprs equal_arms (map-Expr _ _ _ _ _ _ (λ e. e.0) (λ e. e.0) (λ e. e.0) y)) z ≡ true → map-Expr _ _ _ _ _ _ (λ e. e.0) (λ e. e.0) (λ e. e.0) y ≡ z
 expr_same (Expr-F.Literal v) (Expr-F.Literal v') h = ap Expr-F.Literal (values_same v v' h)
@@ -120,7 +121,7 @@ expr_same (Expr-F.Neg a) (Expr-F.Coalesce xs') h = absurd (no_truth h)
 expr_same (Expr-F.Add a b) (Expr-F.Literal v') h = absurd (no_truth h)
 expr_same (Expr-F.Add a b) (Expr-F.Column i') h = absurd (no_truth h)
 expr_same (Expr-F.Add a b) (Expr-F.Neg a') h = absurd (no_truth h)
-expr_same (Expr-F.Add a b) (Expr-F.Add a' b') h = two Expr-F.Add (a.1 a' (left_true _ _ h)) (b.1 b' (right_true _ _ h))
+expr_same (Expr-F.Add a b) (Expr-F.Add a' b') h = two Expr-F.Add (a.1 a' (and_left _ _ h)) (b.1 b' (and_right _ _ h))
 expr_same (Expr-F.Add a b) (Expr-F.Sub a' b') h = absurd (no_truth h)
 expr_same (Expr-F.Add a b) (Expr-F.Mul a' b') h = absurd (no_truth h)
 expr_same (Expr-F.Add a b) (Expr-F.Div a' c') h = absurd (no_truth h)
@@ -131,7 +132,7 @@ expr_same (Expr-F.Sub a b) (Expr-F.Literal v') h = absurd (no_truth h)
 expr_same (Expr-F.Sub a b) (Expr-F.Column i') h = absurd (no_truth h)
 expr_same (Expr-F.Sub a b) (Expr-F.Neg a') h = absurd (no_truth h)
 expr_same (Expr-F.Sub a b) (Expr-F.Add a' b') h = absurd (no_truth h)
-expr_same (Expr-F.Sub a b) (Expr-F.Sub a' b') h = two Expr-F.Sub (a.1 a' (left_true _ _ h)) (b.1 b' (right_true _ _ h))
+expr_same (Expr-F.Sub a b) (Expr-F.Sub a' b') h = two Expr-F.Sub (a.1 a' (and_left _ _ h)) (b.1 b' (and_right _ _ h))
 expr_same (Expr-F.Sub a b) (Expr-F.Mul a' b') h = absurd (no_truth h)
 expr_same (Expr-F.Sub a b) (Expr-F.Div a' c') h = absurd (no_truth h)
 expr_same (Expr-F.Sub a b) (Expr-F.Rem a' c') h = absurd (no_truth h)
@@ -142,7 +143,7 @@ expr_same (Expr-F.Mul a b) (Expr-F.Column i') h = absurd (no_truth h)
 expr_same (Expr-F.Mul a b) (Expr-F.Neg a') h = absurd (no_truth h)
 expr_same (Expr-F.Mul a b) (Expr-F.Add a' b') h = absurd (no_truth h)
 expr_same (Expr-F.Mul a b) (Expr-F.Sub a' b') h = absurd (no_truth h)
-expr_same (Expr-F.Mul a b) (Expr-F.Mul a' b') h = two Expr-F.Mul (a.1 a' (left_true _ _ h)) (b.1 b' (right_true _ _ h))
+expr_same (Expr-F.Mul a b) (Expr-F.Mul a' b') h = two Expr-F.Mul (a.1 a' (and_left _ _ h)) (b.1 b' (and_right _ _ h))
 expr_same (Expr-F.Mul a b) (Expr-F.Div a' c') h = absurd (no_truth h)
 expr_same (Expr-F.Mul a b) (Expr-F.Rem a' c') h = absurd (no_truth h)
 expr_same (Expr-F.Mul a b) (Expr-F.Case xs' a') h = absurd (no_truth h)
@@ -153,7 +154,7 @@ expr_same (Expr-F.Div a c) (Expr-F.Neg a') h = absurd (no_truth h)
 expr_same (Expr-F.Div a c) (Expr-F.Add a' b') h = absurd (no_truth h)
 expr_same (Expr-F.Div a c) (Expr-F.Sub a' b') h = absurd (no_truth h)
 expr_same (Expr-F.Div a c) (Expr-F.Mul a' b') h = absurd (no_truth h)
-expr_same (Expr-F.Div a c) (Expr-F.Div a' c') h = two Expr-F.Div (a.1 a' (left_true _ _ h)) ((Decides-int_eq c c').0 (right_true _ _ h))
+expr_same (Expr-F.Div a c) (Expr-F.Div a' c') h = two Expr-F.Div (a.1 a' (and_left _ _ h)) ((Decides-int_eq c c').0 (and_right _ _ h))
 expr_same (Expr-F.Div a c) (Expr-F.Rem a' c') h = absurd (no_truth h)
 expr_same (Expr-F.Div a c) (Expr-F.Case xs' a') h = absurd (no_truth h)
 expr_same (Expr-F.Div a c) (Expr-F.Coalesce xs') h = absurd (no_truth h)
@@ -164,7 +165,7 @@ expr_same (Expr-F.Rem a c) (Expr-F.Add a' b') h = absurd (no_truth h)
 expr_same (Expr-F.Rem a c) (Expr-F.Sub a' b') h = absurd (no_truth h)
 expr_same (Expr-F.Rem a c) (Expr-F.Mul a' b') h = absurd (no_truth h)
 expr_same (Expr-F.Rem a c) (Expr-F.Div a' c') h = absurd (no_truth h)
-expr_same (Expr-F.Rem a c) (Expr-F.Rem a' c') h = two Expr-F.Rem (a.1 a' (left_true _ _ h)) ((Decides-int_eq c c').0 (right_true _ _ h))
+expr_same (Expr-F.Rem a c) (Expr-F.Rem a' c') h = two Expr-F.Rem (a.1 a' (and_left _ _ h)) ((Decides-int_eq c c').0 (and_right _ _ h))
 expr_same (Expr-F.Rem a c) (Expr-F.Case xs' a') h = absurd (no_truth h)
 expr_same (Expr-F.Rem a c) (Expr-F.Coalesce xs') h = absurd (no_truth h)
 expr_same (Expr-F.Case xs a) (Expr-F.Literal v') h = absurd (no_truth h)
@@ -175,7 +176,7 @@ expr_same (Expr-F.Case xs a) (Expr-F.Sub a' b') h = absurd (no_truth h)
 expr_same (Expr-F.Case xs a) (Expr-F.Mul a' b') h = absurd (no_truth h)
 expr_same (Expr-F.Case xs a) (Expr-F.Div a' c') h = absurd (no_truth h)
 expr_same (Expr-F.Case xs a) (Expr-F.Rem a' c') h = absurd (no_truth h)
-expr_same (Expr-F.Case xs a) (Expr-F.Case xs' a') h = two Expr-F.Case (each_same equal_arms xs xs' (left_true _ _ h)) (a.1 a' (right_true _ _ h))
+expr_same (Expr-F.Case xs a) (Expr-F.Case xs' a') h = two Expr-F.Case (each_same equal_arms xs xs' (and_left _ _ h)) (a.1 a' (and_right _ _ h))
 expr_same (Expr-F.Case xs a) (Expr-F.Coalesce xs') h = absurd (no_truth h)
 expr_same (Expr-F.Coalesce xs) (Expr-F.Literal v') h = absurd (no_truth h)
 expr_same (Expr-F.Coalesce xs) (Expr-F.Column i') h = absurd (no_truth h)
@@ -189,7 +190,7 @@ expr_same (Expr-F.Coalesce xs) (Expr-F.Case xs' a') h = absurd (no_truth h)
 expr_same (Expr-F.Coalesce xs) (Expr-F.Coalesce xs') h = ap Expr-F.Coalesce (each_same equal_exprs xs xs' h)
 
 cond_same : (y : Told Cond-F) (z : Cond-F Cond Expr Arm) → cond_layer (map-Cond _ _ _ _ _ _ equal_conds equal_exprs equal_arms (map-Cond _ _ _ _ _ _ (λ e. e.0) (λ e. e.0) (λ e. e.0) y)) z ≡ true → map-Cond _ _ _ _ _ _ (λ e. e.0) (λ e. e.0) (λ e. e.0) y ≡ z
-cond_same (Cond-F.Compare o a b) (Cond-F.Compare o' a' b') h = three Cond-F.Compare (ops_same o o' (left_true _ _ (left_true _ _ h))) (a.1 a' (right_true _ _ (left_true _ _ h))) (b.1 b' (right_true _ _ h))
+cond_same (Cond-F.Compare o a b) (Cond-F.Compare o' a' b') h = three Cond-F.Compare (ops_same o o' (and_left _ _ (and_left _ _ h))) (a.1 a' (and_right _ _ (and_left _ _ h))) (b.1 b' (and_right _ _ h))
 cond_same (Cond-F.Compare o a b) (Cond-F.IsNull a') h = absurd (no_truth h)
 cond_same (Cond-F.Compare o a b) (Cond-F.InResult a' i') h = absurd (no_truth h)
 cond_same (Cond-F.Compare o a b) (Cond-F.And a' b') h = absurd (no_truth h)
@@ -205,7 +206,7 @@ cond_same (Cond-F.IsNull a) (Cond-F.Not a') h = absurd (no_truth h)
 cond_same (Cond-F.IsNull a) Cond-F.Always h = absurd (no_truth h)
 cond_same (Cond-F.InResult a i) (Cond-F.Compare o' a' b') h = absurd (no_truth h)
 cond_same (Cond-F.InResult a i) (Cond-F.IsNull a') h = absurd (no_truth h)
-cond_same (Cond-F.InResult a i) (Cond-F.InResult a' i') h = two Cond-F.InResult (a.1 a' (left_true _ _ h)) (leb_eq i i' (right_true _ _ h))
+cond_same (Cond-F.InResult a i) (Cond-F.InResult a' i') h = two Cond-F.InResult (a.1 a' (and_left _ _ h)) (leb_eq i i' (and_right _ _ h))
 cond_same (Cond-F.InResult a i) (Cond-F.And a' b') h = absurd (no_truth h)
 cond_same (Cond-F.InResult a i) (Cond-F.Or a' b') h = absurd (no_truth h)
 cond_same (Cond-F.InResult a i) (Cond-F.Not a') h = absurd (no_truth h)
@@ -213,7 +214,7 @@ cond_same (Cond-F.InResult a i) Cond-F.Always h = absurd (no_truth h)
 cond_same (Cond-F.And a b) (Cond-F.Compare o' a' b') h = absurd (no_truth h)
 cond_same (Cond-F.And a b) (Cond-F.IsNull a') h = absurd (no_truth h)
 cond_same (Cond-F.And a b) (Cond-F.InResult a' i') h = absurd (no_truth h)
-cond_same (Cond-F.And a b) (Cond-F.And a' b') h = two Cond-F.And (a.1 a' (left_true _ _ h)) (b.1 b' (right_true _ _ h))
+cond_same (Cond-F.And a b) (Cond-F.And a' b') h = two Cond-F.And (a.1 a' (and_left _ _ h)) (b.1 b' (and_right _ _ h))
 cond_same (Cond-F.And a b) (Cond-F.Or a' b') h = absurd (no_truth h)
 cond_same (Cond-F.And a b) (Cond-F.Not a') h = absurd (no_truth h)
 cond_same (Cond-F.And a b) Cond-F.Always h = absurd (no_truth h)
@@ -221,7 +222,7 @@ cond_same (Cond-F.Or a b) (Cond-F.Compare o' a' b') h = absurd (no_truth h)
 cond_same (Cond-F.Or a b) (Cond-F.IsNull a') h = absurd (no_truth h)
 cond_same (Cond-F.Or a b) (Cond-F.InResult a' i') h = absurd (no_truth h)
 cond_same (Cond-F.Or a b) (Cond-F.And a' b') h = absurd (no_truth h)
-cond_same (Cond-F.Or a b) (Cond-F.Or a' b') h = two Cond-F.Or (a.1 a' (left_true _ _ h)) (b.1 b' (right_true _ _ h))
+cond_same (Cond-F.Or a b) (Cond-F.Or a' b') h = two Cond-F.Or (a.1 a' (and_left _ _ h)) (b.1 b' (and_right _ _ h))
 cond_same (Cond-F.Or a b) (Cond-F.Not a') h = absurd (no_truth h)
 cond_same (Cond-F.Or a b) Cond-F.Always h = absurd (no_truth h)
 cond_same (Cond-F.Not a) (Cond-F.Compare o' a' b') h = absurd (no_truth h)
@@ -240,7 +241,7 @@ cond_same Cond-F.Always (Cond-F.Not a') h = absurd (no_truth h)
 cond_same Cond-F.Always Cond-F.Always h = refl
 
 arm_same : (y : Told Arm-F) (z : Arm-F Cond Expr Arm) → arm_layer (map-Arm _ _ _ _ _ _ equal_conds equal_exprs equal_arms (map-Arm _ _ _ _ _ _ (λ e. e.0) (λ e. e.0) (λ e. e.0) y)) z ≡ true → map-Arm _ _ _ _ _ _ (λ e. e.0) (λ e. e.0) (λ e. e.0) y ≡ z
-arm_same y z h = λ i. record { when = y.when.1 z.when (left_true _ _ h) i; then = y.then.1 z.then (right_true _ _ h) i }
+arm_same y z h = λ i. record { when = y.when.1 z.when (and_left _ _ h) i; then = y.then.1 z.then (and_right _ _ h) i }
 
 made_cond : (x : Cond-F Cond Expr Arm) (y : Told Cond-F) → map-Cond _ _ _ _ _ _ (λ e. e.0) (λ e. e.0) (λ e. e.0) y ≡ x → Tells equal_conds (roll-Cond x)
 made_cond x y is b h =

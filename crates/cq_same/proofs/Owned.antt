@@ -3,6 +3,7 @@ use Rattle.std.proofs.Common.{◌≡◌, Bool, true, List, [], ◌∷◌, map, r
 use Rattle.std.specs.Prelude.{ℕ, nat_eq}
 use Rattle.std.proofs.lemmas.Bool.Decides.{Decides-int_eq}
 use Rattle.std.proofs.lemmas.Slice.Eq.{bytes_eq-Decides}
+use Rattle.cq_value.proofs.Truths.{both_true}
 use Rattle.cq_value.specs.declared.value.Value.{Value}
 use Rattle.cq_value.specs.declared.value.Value.TheVariants.{Null, Int, Text}
 use Rattle.cq_tree.specs.declared.expression.Op.{Op}
@@ -13,7 +14,6 @@ use Rattle.cq_tree.specs.declared.expression.Cond.{Cond, out-Cond, roll-Cond, ou
 use Rattle.cq_tree.specs.declared.expression.Cond.TheOpen.{Expr-F, Cond-F, Arm-F}
 use Rattle.cq_tree.specs.declared.expression.Cond.TheFolds.{map-Expr, map-Cond, map-Arm, fold-roll-Expr, fold-roll-Cond, fold-roll-Arm, ind-Cond, ind-Expr}
 use Rattle.cq_same.specs.Equal.{equal_values, equal_ops, equal_each, expr_layer, arm_layer, cond_layer, equal_exprs, equal_conds, equal_arms}
-use Rattle.cq_same.proofs.Truths.{and_true}
 
 value_own : (v : Value) → equal_values v v ≡ true
 value_own Null = refl
@@ -39,31 +39,31 @@ place_own i = grind arith
 
 each_own : {A : Type 0} (eq : A → A → Bool) (xs : List ((a : A) × Own eq a)) → equal_each (map eq (map (λ e. e.0) xs)) (map (λ e. e.0) xs) ≡ true
 each_own eq [] = refl
-each_own eq (x ∷ xs) = and_true _ _ x.1 (each_own eq xs)
+each_own eq (x ∷ xs) = both_true _ _ x.1 (each_own eq xs)
 
 expr_own : (y : Owned Expr-F) → expr_layer (map-Expr _ _ _ _ _ _ equal_conds equal_exprs equal_arms (map-Expr _ _ _ _ _ _ (λ e. e.0) (λ e. e.0) (λ e. e.0) y)) (map-Expr _ _ _ _ _ _ (λ e. e.0) (λ e. e.0) (λ e. e.0) y) ≡ true
 expr_own (Expr-F.Literal v) = value_own v
 expr_own (Expr-F.Column i) = place_own i
 expr_own (Expr-F.Neg a) = a.1
-expr_own (Expr-F.Add a b) = and_true _ _ a.1 b.1
-expr_own (Expr-F.Sub a b) = and_true _ _ a.1 b.1
-expr_own (Expr-F.Mul a b) = and_true _ _ a.1 b.1
-expr_own (Expr-F.Div a c) = and_true _ _ a.1 ((Decides-int_eq c c).1 refl)
-expr_own (Expr-F.Rem a c) = and_true _ _ a.1 ((Decides-int_eq c c).1 refl)
-expr_own (Expr-F.Case xs a) = and_true _ _ (each_own equal_arms xs) a.1
+expr_own (Expr-F.Add a b) = both_true _ _ a.1 b.1
+expr_own (Expr-F.Sub a b) = both_true _ _ a.1 b.1
+expr_own (Expr-F.Mul a b) = both_true _ _ a.1 b.1
+expr_own (Expr-F.Div a c) = both_true _ _ a.1 ((Decides-int_eq c c).1 refl)
+expr_own (Expr-F.Rem a c) = both_true _ _ a.1 ((Decides-int_eq c c).1 refl)
+expr_own (Expr-F.Case xs a) = both_true _ _ (each_own equal_arms xs) a.1
 expr_own (Expr-F.Coalesce xs) = each_own equal_exprs xs
 
 cond_own : (y : Owned Cond-F) → cond_layer (map-Cond _ _ _ _ _ _ equal_conds equal_exprs equal_arms (map-Cond _ _ _ _ _ _ (λ e. e.0) (λ e. e.0) (λ e. e.0) y)) (map-Cond _ _ _ _ _ _ (λ e. e.0) (λ e. e.0) (λ e. e.0) y) ≡ true
-cond_own (Cond-F.Compare o a b) = and_true _ _ (and_true _ _ (op_own o) a.1) b.1
+cond_own (Cond-F.Compare o a b) = both_true _ _ (both_true _ _ (op_own o) a.1) b.1
 cond_own (Cond-F.IsNull a) = a.1
-cond_own (Cond-F.InResult a i) = and_true _ _ a.1 (place_own i)
-cond_own (Cond-F.And a b) = and_true _ _ a.1 b.1
-cond_own (Cond-F.Or a b) = and_true _ _ a.1 b.1
+cond_own (Cond-F.InResult a i) = both_true _ _ a.1 (place_own i)
+cond_own (Cond-F.And a b) = both_true _ _ a.1 b.1
+cond_own (Cond-F.Or a b) = both_true _ _ a.1 b.1
 cond_own (Cond-F.Not a) = a.1
 cond_own Cond-F.Always = refl
 
 arm_own : (y : Owned Arm-F) → arm_layer (map-Arm _ _ _ _ _ _ equal_conds equal_exprs equal_arms (map-Arm _ _ _ _ _ _ (λ e. e.0) (λ e. e.0) (λ e. e.0) y)) (map-Arm _ _ _ _ _ _ (λ e. e.0) (λ e. e.0) (λ e. e.0) y) ≡ true
-arm_own y = and_true _ _ y.when.1 y.then.1
+arm_own y = both_true _ _ y.when.1 y.then.1
 
 made_cond : (x : Cond-F Cond Expr Arm) (y : Owned Cond-F) → map-Cond _ _ _ _ _ _ (λ e. e.0) (λ e. e.0) (λ e. e.0) y ≡ x → Own equal_conds (roll-Cond x)
 made_cond x y is =

@@ -3,12 +3,12 @@ use Rattle.std.proofs.Common.{◌≡◌, ◌+◌, ◌<◌, ◌≤◌, inl, inr, 
 use Rattle.std.specs.Prelude.{nat_lt, nat_eq, ◌&&◌, ⊤}
 use Rattle.std.specs.List.{AllByRecursion}
 use Rattle.std.proofs.lemmas.Bool.{cases_order, cases_lt, lt-ltb, le-ltb, or_parts, both_ways}
+use Rattle.cq_value.proofs.Lists.{all_weaker, filter_none}
 use Rattle.cq_tree.specs.declared.journal.Who.{Who}
 use Rattle.cq_tree.specs.declared.journal.Entry.{Entry}
 use Rattle.cq_history.specs.Run.{Run, precedes, IsSerial}
 use Rattle.cq_history.specs.Journals.{made_by, kinds_of, has_some, before}
 use Rattle.cq_history.specs.Log.{IsInOrder, IsOfFirst}
-use Rattle.cq_history.proofs.Lists.{all_weaker, filter_none}
 
 -- the statement of this number
 abbrev pub numbered_who : ℕ → Who

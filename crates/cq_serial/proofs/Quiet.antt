@@ -4,6 +4,8 @@ use Rattle.std.specs.Prelude.{⊤, nat_eq}
 use Rattle.std.specs.List.{AllByRecursion}
 use Rattle.std.proofs.lemmas.Bool.{eqb-true}
 use Rattle.std.proofs.lemmas.List.{map-append}
+use Rattle.cq_value.proofs.Lists.{all_append}
+use Rattle.cq_value.proofs.Truths.{two_ways}
 use Rattle.cq_tree.specs.declared.journal.EntryKind.{EntryKind}
 use Rattle.cq_tree.specs.declared.journal.EntryKind.TheVariants.{Read, Write, MoveStart, CatchUp, Cutover, MoveStop}
 use Rattle.cq_tree.specs.declared.statement.Statement.{Statement}
@@ -22,7 +24,6 @@ use Rattle.cq_history.specs.Journals.{Step, none, kinds_in}
 use Rattle.cq_history.specs.Moves.{Report, IsMove, IsStopped, move_fault}
 use Rattle.cq_history.specs.Rebalances.{Made, Either, BeginsWith, AreMovesOf, read_for}
 use Rattle.cq_history.specs.Standing.{View, Enters, reads, EntersIn, Moves, MovesUnless, IsMovedIn, Plans, AreStepsOf, EntersMoves, NoStep, StopsIn, FailsMove, Rebalances, Runs}
-use Rattle.cq_history.proofs.Lists.{two_ways, all_append}
 
 abbrev pub IsQuiet : EntryKind → Type 0
 IsQuiet Read = ⊤

@@ -2,6 +2,7 @@
 use Rattle.std.proofs.Common.{zero, suc, ◌≡◌, ◌+◌, ◌<◌, length, ℕ, List, [], ◌∷◌, refl, sym, ◌∙◌, ap, subst, arith}
 use Rattle.std.specs.Prelude.{slice_index_or}
 use Rattle.std.specs.List.{AllByRecursion}
+use Rattle.cq_value.proofs.Lists.{all_weaker}
 use Rattle.cq_value.specs.Tables.{rows_of, empty_table}
 use Rattle.cq_tree.specs.declared.journal.Who.{Who}
 use Rattle.cq_tree.specs.declared.journal.Entry.{Entry}
@@ -19,7 +20,6 @@ use Rattle.cq_history.specs.Log.{who_of, IsOfFirst, NumberedFrom, AllStandFrom}
 use Rattle.cq_history.specs.Refusals.{rules}
 use Rattle.cq_history.specs.Standing.{in_journals, StandsIn}
 use Rattle.cq_history.proofs.Later.{continues_same, continues_on}
-use Rattle.cq_history.proofs.Lists.{all_weaker}
 use Rattle.cq_history.proofs.Joined.{whole_alike}
 use Rattle.cq_serial.specs.Serial.{Keeps, SerialFrom}
 use Rattle.cq_serial.specs.Laws.{BeginEmpty, database_of, AnswersAreSerial}

@@ -4,6 +4,7 @@ use Rattle.std.specs.Prelude.{⊤, nat_eq, option_map}
 use Rattle.std.specs.List.{AllByRecursion}
 use Rattle.std.specs.List.Sorted.{IsPermutation}
 use Rattle.std.proofs.lemmas.Bool.{eqb-true, ne_eqb}
+use Rattle.cq_value.proofs.Truths.{two_ways}
 use Rattle.cq_value.specs.declared.schema.Shape.{Shape}
 use Rattle.cq_value.specs.Tables.{rows_of}
 use Rattle.cq_tree.specs.declared.journal.Who.{Who}
@@ -43,7 +44,6 @@ use Rattle.cq_history.specs.Laws.{held_after}
 use Rattle.cq_history.proofs.Effects.{parts_have_effect, effect_of_counted}
 use Rattle.cq_history.proofs.Entries.{steps_kinds, with_list}
 use Rattle.cq_history.proofs.Later.{continues_same, can_hold_before}
-use Rattle.cq_history.proofs.Lists.{two_ways}
 use Rattle.cq_history.proofs.Replays.{can_hold}
 use Rattle.cq_history.proofs.Replies.{reply_by_rows, reply_counted}
 use Rattle.cq_serial.specs.Serial.{Keeps, IsWritten, IsSerialAnswer}

@@ -8,6 +8,7 @@ use Rattle.std.proofs.lemmas.List.{get_or_default, get_or-set_same, get_or-set_o
 use Rattle.std.proofs.lemmas.List.Elements.{All-from_recursion, recursion_from_All, All-map, All-filter, filter-append}
 use Rattle.std.proofs.lemmas.List.Folds.{list_any-append}
 use Rattle.std.proofs.Math.Nat.{mod-lt}
+use Rattle.cq_value.proofs.Truths.{and_both}
 use Rattle.cq_value.specs.declared.value.Value.{Value}
 use Rattle.cq_value.specs.declared.value.Value.TheVariants.{Null}
 use Rattle.cq_value.specs.declared.change.Change.{Change}
@@ -25,15 +26,11 @@ equal Less e = cc
 equal Equal e = refl
 equal Greater e = cc
 
-both : (a b : Bool) → (a && b) ≡ true → (a ≡ true) × (b ≡ true)
-both true b e = (refl, e)
-both false b e = cc
-
 number_from : (wanted : List (ℕ × Value)) (row : List Value) (n : ℕ) → list_all (λ (p : ℕ × Value). has_value p.0 p.1 row) wanted ≡ true →
     fold (λ number column. mixed number (get_or row column Null)) n (map (λ (p : ℕ × Value). p.0) wanted) ≡ fold (λ number (p : ℕ × Value). mixed number p.1) n wanted
 number_from [] row n e = refl
 number_from (p ∷ wanted) row n e =
-    let parts = both (has_value p.0 p.1 row) (list_all (λ (q : ℕ × Value). has_value q.0 q.1 row) wanted) e in
+    let parts = and_both (has_value p.0 p.1 row) (list_all (λ (q : ℕ × Value). has_value q.0 q.1 row) wanted) e in
     let same : get_or row p.0 Null ≡ p.1 = (value_cmp_same (get_or row p.0 Null) p.1).0 (equal _ parts.0) in
     ap (λ v. fold (λ number column. mixed number (get_or row column Null)) (mixed n v) (map (λ (q : ℕ × Value). q.0) wanted)) same ∙ number_from wanted row (mixed n p.1) parts.1
 

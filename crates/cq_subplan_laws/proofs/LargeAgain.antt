@@ -2,6 +2,7 @@
 use Rattle.std.proofs.Common.{◌≡◌, Bool, true, false, List, [], ◌∷◌, refl, sym, ap, subst, ◌∙◌, append-nil, inl, inr}
 use Rattle.std.specs.Prelude.{◌||◌, filter, slice_set}
 use Rattle.std.specs.List.{list_any}
+use Rattle.cq_value.proofs.Truths.{or_right}
 use Rattle.cq_tree.specs.declared.expression.Expr.{Expr}
 use Rattle.cq_tree.specs.declared.plan.Combine.TheVariants.{Nothing}
 use Rattle.cq_tree.specs.declared.query.FromTree.{FromTree, Table, Sub', Result, Cross', Inner', Left', more_of-FromTree, end_of-FromTree}
@@ -25,10 +26,6 @@ use Rattle.cq_subplan_laws.specs.Subplans.{HasLarge}
 use Rattle.cq_subplan_laws.specs.Laws.{SubplansLarge, StepsLarge}
 use Rattle.cq_subplan_laws.proofs.Settling.{AreSettled, settled_steps, settled_below, below}
 use Rattle.cq_subplan_laws.proofs.Orders.{alike_itself, one_more, results_alike}
-
-or_right : (a b : Bool) → b ≡ true → (a || b) ≡ true
-or_right true b e = refl
-or_right false b e = e
 
 or_both : (a b c d : Bool) → (a ≡ true → c ≡ true) → (b ≡ true → d ≡ true) → (a || b) ≡ true → (c || d) ≡ true
 or_both true b c d f g e = ap (λ x. x || d) (f refl)

@@ -2,6 +2,8 @@
 use Rattle.std.proofs.Common.{◌≡◌, ℕ, ◌≤◌, ◌^◌, ◌+◌, Bool, true, false, List, [], ◌∷◌, ◌++◌, map, length, take, refl, sym, ap, subst, ◌∙◌, inl, inr}
 use Rattle.std.specs.Prelude.{filter, ◌⊎◌, ◌||◌}
 use Rattle.std.specs.List.{flat_map, list_any, AllByRecursion}
+use Rattle.cq_value.proofs.Lists.{length_map}
+use Rattle.cq_value.proofs.Truths.{or_either}
 use Rattle.cq_tree.specs.declared.plan.Combine.{Combine}
 use Rattle.cq_tree.specs.declared.plan.Combine.TheVariants.{Nothing, RowsOnly, Groups}
 use Rattle.cq_tree.specs.declared.query.Agg.TheVariants as agg
@@ -29,7 +31,7 @@ use Rattle.cq_task_laws.proofs.PartLaws.{flat_map_of_map}
 use Rattle.cq_task_laws.proofs.TaskLaws.{from_cut}
 use Rattle.cq_task_laws.proofs.GatherRows.{whole_rows, shown_whole}
 use Rattle.cq_task_laws.proofs.GatherLaws.{part_width, length_push, gather, some_map}
-use Rattle.cq_task_laws.proofs.LargeLaws.{any_at, or_true, length_map, large_task, large_together}
+use Rattle.cq_task_laws.proofs.LargeLaws.{any_at, large_task, large_together}
 use Rattle.cq_task_laws.proofs.OneTable.{safe_task, safe_merge}
 
 -- ---- a query, from its WHERE on
@@ -152,7 +154,7 @@ module _ (q : Query) (rs : List (List Row)) (kind : Combine) where
         ((db : Tables) × Has dbs db × (is_large_from (from_of q) db rs ≡ true)) ⊎ (has_large_over q rs whole ≡ true)
     tasks_large some few (inl e) =
         let u : (db : Tables) × Has dbs db × (is_large_task db ≡ true) = any_at is_large_task dbs e in
-        elim (or_true (is_large_from (from_of q) u.0 rs) (has_large_over q rs (part_of u.0)) (sym (task_large u.0) ∙ u.2)) [
+        elim (or_either (is_large_from (from_of q) u.0 rs) (has_large_over q rs (part_of u.0)) (sym (task_large u.0) ∙ u.2)) [
           | inl below ↦ inl (u.0, u.1, below)
           | inr own ↦ inr (large_task kind q rs (map part_of dbs) whole (part_of u.0) cut (has_mapped part_of dbs u.0 u.1) (large_partial kind q rs (part_of u.0) ∙ own))
         ]

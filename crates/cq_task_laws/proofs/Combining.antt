@@ -2,6 +2,7 @@
 use Rattle.std.proofs.Common.{◌≡◌, ℕ, pos, suc, ◌+◌, false, List, [], ◌∷◌, ◌++◌, map, length, refl, sym, ap, subst, ◌∙◌, length-append, inl, inr, arith, add-zero}
 use Rattle.std.specs.Prelude.{filter, fold}
 use Rattle.std.specs.List.{flat_map}
+use Rattle.cq_value.proofs.Lists.{map_map}
 use Rattle.cq_value.specs.declared.value.Value.{Value}
 use Rattle.cq_value.specs.declared.value.Value.TheVariants.{Null, Int, Text}
 use Rattle.cq_tree.specs.declared.expression.Expr.{Expr, Column}
@@ -14,7 +15,7 @@ use Rattle.cq_meaning.specs.Lists.{Has}
 use Rattle.cq_task_laws.specs.Merging.{joined, combining, all_combining}
 use Rattle.cq_task_laws.specs.Gathering.{IsNonEmpty}
 use Rattle.cq_meaning.proofs.RowLaws.{NoTwins, filter_none, same_from, differ_back}
-use Rattle.cq_meaning.proofs.MapLaws.{map_map, map_same}
+use Rattle.cq_meaning.proofs.MapLaws.{map_same}
 use Rattle.cq_meaning_laws.proofs.AggregateLaws.{added_joined, lesser_joined, greater_joined}
 use Rattle.cq_task_laws.proofs.PartLaws.{fold_parts, map_of_flat_map, flat_map_filter}
 

@@ -5,6 +5,8 @@ use Rattle.std.specs.List.{flat_map}
 use Rattle.std.proofs.lemmas.List.{length-replicate}
 use Rattle.std.proofs.lemmas.Bool.{eqb-true, eq-eqb}
 use Rattle.std.proofs.lemmas.List.Concat.{flat_map-append}
+use Rattle.cq_value.proofs.Lists.{filter_map}
+use Rattle.cq_value.proofs.Truths.{both_true, left_false, right_false}
 use Rattle.cq_value.specs.declared.value.Value.TheVariants.{Null}
 use Rattle.cq_meaning.specs.Values.{Row}
 use Rattle.cq_meaning.specs.Joins.{product, left_join, or_else}
@@ -12,7 +14,7 @@ use Rattle.cq_meaning.proofs.Reorder.{Reordered, none, kept, turned, then, same,
 use Rattle.cq_meaning.specs.Lists.{Has}
 use Rattle.cq_task_laws.specs.Gathering.{IsNonEmpty}
 use Rattle.cq_task_laws.specs.Cutting.{Relation, Joins, only, inner, left, width_of, all_rows, rows_at, is_here, Fits, AllFit, IsChoice, stands, RightsStand, Located, AreDistinct}
-use Rattle.cq_meaning.proofs.RowLaws.{has_either, has_filtered, filtered_has, has_again, filter_map, not_true, true_not_false}
+use Rattle.cq_meaning.proofs.RowLaws.{has_either, has_filtered, filtered_has, has_again, not_true, true_not_false}
 use Rattle.cq_meaning_laws.proofs.SortLaws.{back}
 use Rattle.cq_task_laws.proofs.PartLaws.{flat_map_same, flat_map_again, mapped_has}
 use Rattle.cq_meaning.proofs.MapLaws.{has_mapped}
@@ -156,16 +158,6 @@ all_choice (inner on a b) x h =
 all_choice (left on a r) x h =
     let u : (l : Row) × Has (all_rows a) l × Has (extended on r.width r.rows l) x = left_has on r.width (all_rows a) r.rows x h in
     extended_choice on a r u.0 r.rows (all_choice a u.0 u.1) (λ y k. k) x u.2
-
-pub both_true : (a b : Bool) → a ≡ true → b ≡ true → (a && b) ≡ true
-both_true a b p q = rw (p, q)
-
-first_false : (a b : Bool) → a ≡ false → (a && b) ≡ false
-first_false a b p = rw p
-
-second_false : (a b : Bool) → b ≡ false → (a && b) ≡ false
-second_false true b p = p
-second_false false b p = refl
 
 -- where a joined row stands
 module _ (is : List ℕ) where
@@ -328,11 +320,11 @@ module _ (is : List ℕ) where
       (one_index a fit.0 i m (λ l. flat_map (λ y. K2 (l ++ y)) (rows_at b i)) (λ l. flat_map (λ y. L2 (l ++ y)) (all_rows b))
       (λ l c s. one_index b fit.1 i m (λ y. K2 (l ++ y)) (λ y. L2 (l ++ y))
       (λ y d t. cond_again (on (l ++ y)) (K (l ++ y)) (L (l ++ y)) (λ o. alike (l ++ y) (choice l y c d o) (there l y c s t)))
-      (λ y d t. cond_none (on (l ++ y)) (L (l ++ y)) (λ o. gone (l ++ y) (choice l y c d o) (inner_stands on a b fit.0 l y c i ∙ second_false (stands a i l) (stands b i y) t)))
+      (λ y d t. cond_none (on (l ++ y)) (L (l ++ y)) (λ o. gone (l ++ y) (choice l y c d o) (inner_stands on a b fit.0 l y c i ∙ right_false (stands a i l) (stands b i y) t)))
       (λ y d t some. let k : (on (l ++ y) ≡ true) × IsNonEmpty (K (l ++ y)) = if_true (on (l ++ y)) (K (l ++ y)) some in
       (inner_rights on a b fit.0 l y c i (rights (l ++ y) (choice l y c d k.0) (there l y c s t) k.1)).1))
       (λ l c s. flat_map_none (λ y. L2 (l ++ y)) (all_rows b) (λ y h.
-      cond_none (on (l ++ y)) (L (l ++ y)) (λ o. gone (l ++ y) (choice l y c (all_choice b y h) o) (inner_stands on a b fit.0 l y c i ∙ first_false (stands a i l) (stands b i y) s))))
+      cond_none (on (l ++ y)) (L (l ++ y)) (λ o. gone (l ++ y) (choice l y c (all_choice b y h) o) (inner_stands on a b fit.0 l y c i ∙ left_false (stands a i l) (stands b i y) s))))
       (λ l c s some.
       let u : (y : Row) × Has (rows_at b i) y × IsNonEmpty (K2 (l ++ y)) = flat_map_some (λ y. K2 (l ++ y)) (rows_at b i) some in
       let d : IsChoice b u.0 × (stands b i u.0 ≡ true) = rows_stand b fit.1 i m u.0 u.1 in
@@ -363,7 +355,7 @@ module _ (is : List ℕ) where
       on_both (sym (kept_is keep (rows_at f i))) (sym (kept_is (λ x. keep x && stands f i x) (all_rows f)))
       (one_index f fit i m (λ x. cond (keep x) (x ∷ []) []) (λ x. cond (keep x && stands f i x) (x ∷ []) [])
       (λ x c s. subst (λ b. Reordered (cond (keep x) (x ∷ []) []) (cond (keep x && b) (x ∷ []) [])) (sym s) (both_kept x (keep x)))
-      (λ x c s. ap (λ b. cond b (x ∷ []) []) (second_false (keep x) (stands f i x) s))
+      (λ x c s. ap (λ b. cond b (x ∷ []) []) (right_false (keep x) (stands f i x) s))
       (λ x c s some.
       let k : (keep x ≡ true) × IsNonEmpty (x ∷ []) = if_true (keep x) (x ∷ []) some in
       let p : (j : ℕ) × Has is j × ((n : ℕ) → Has is n → stands f n x ≡ nat_eq n j) × RightsStand f j x = located x c k.0 in

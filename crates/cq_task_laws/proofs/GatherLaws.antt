@@ -2,6 +2,7 @@
 use Rattle.std.proofs.Common.{◌≡◌, ℕ, suc, ◌+◌, true, false, List, [], ◌∷◌, ◌++◌, map, length, refl, sym, ap, subst, ◌∙◌, append-nil, length-append, inl, inr, zero-add}
 use Rattle.std.specs.Prelude.{filter}
 use Rattle.std.specs.List.{flat_map}
+use Rattle.cq_value.proofs.Lists.{length_map}
 use Rattle.cq_tree.specs.declared.expression.Expr.{Expr}
 use Rattle.cq_tree.specs.declared.expression.Cond.{Always}
 use Rattle.cq_tree.specs.declared.query.Agg.{Agg}
@@ -25,10 +26,6 @@ use Rattle.cq_task_laws.proofs.Opened.{distinct_merged, groups_merged, distinct_
 use Rattle.cq_task_laws.proofs.GatherRows.{whole_rows, all_given, answers_joined, moved_cut, has_rows, wide_parts, gather_rows}
 use Rattle.cq_task_laws.proofs.Combining.{all_combined}
 use Rattle.cq_task_laws.proofs.Regrouping.{regrouped}
-
-length_map : {X Y : Type 0} (f : X → Y) (xs : List X) → length (map f xs) ≡ length xs
-length_map f [] = refl
-length_map f (x ∷ xs) = ap suc (length_map f xs)
 
 -- DISTINCT once more
 gather_distinct : (q : Query) (rs : List (List Row)) (parts answers : List (List Row)) (full rows : List Row) (f : List Row → List Row) (w : ℕ) →

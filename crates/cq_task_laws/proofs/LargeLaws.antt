@@ -5,6 +5,8 @@ use Rattle.std.specs.List.{flat_map, list_any}
 use Rattle.std.proofs.lemmas.Bool.{ltb-true, lt-ltb}
 use Rattle.std.proofs.lemmas.List.{get_or-append-add}
 use Rattle.std.proofs.lemmas.List.Elements.{filter-append}
+use Rattle.cq_value.proofs.Truths.{or_either}
+use Rattle.cq_value.proofs.Lists.{length_map}
 use Rattle.cq_value.specs.declared.value.Value.{Value}
 use Rattle.cq_value.specs.declared.value.Value.TheVariants.{Null, Int}
 use Rattle.cq_tree.specs.declared.plan.Combine.{Combine}
@@ -164,10 +166,6 @@ sum_counts (v ∷ vs) h e =
     above : (n : ℕ) → 2 ^ 31 < n → is_above_limit (Int (pos n)) ≡ true
     above n h = lt-ltb (2 ^ 31) n h
 
-pub length_map : {X Y : Type 0} (f : X → Y) (xs : List X) → length (map f xs) ≡ length xs
-length_map f [] = refl
-length_map f (x ∷ xs) = ap suc (length_map f xs)
-
 length_some : (us : List Row) (x : Row) → Has us x → (c : ℕ) × (length us ≡ suc c)
 length_some [] x h = absurd h
 length_some (u ∷ us) x h = (length us, refl)
@@ -247,17 +245,13 @@ one_each : (f : List Row → Row) (parts : List (List Row)) → length (flat_map
 one_each f [] = refl
 one_each f (p ∷ parts) = ap suc (one_each f parts)
 
-pub or_true : (a b : Bool) → (a || b) ≡ true → (a ≡ true) ⊎ (b ≡ true)
-or_true true b e = inl refl
-or_true false b e = inr e
-
 -- a group of tasks' rows that is too large, by the rows or by what they count, counts too many
 above_by : (rs : List (List Row)) (keys : List Expr) (aggs : List Agg) (keep : List Row → List Row) (parts : List (List Row)) (rows : List Row) → length parts ≤ 2 ^ 31 →
     Reordered (flat_map (λ p. map (group_row (aggs ++ agg.CountAll ∷ []) rs) (groups_of keys rs (keep p))) parts) rows →
     (g : Group) → Has (groups_of (columns_from 0 (length keys)) rs rows) g → is_large_together (length keys + length aggs) rs g ≡ true →
     is_above_limit (aggregate rs g.rows (agg.Sum (Column (length keys + length aggs)))) ≡ true
 above_by rs [] aggs keep parts rows few again g (inr m) t = absurd m
-above_by rs [] aggs keep parts rows few again g (inl e) t = elim (or_true (is_large_group g) (is_above_limit (aggregate rs g.rows (agg.Sum (Column (0 + length aggs))))) t) [
+above_by rs [] aggs keep parts rows few again g (inl e) t = elim (or_either (is_large_group g) (is_above_limit (aggregate rs g.rows (agg.Sum (Column (0 + length aggs))))) t) [
   | inl a ↦ absurd (too_few (ltb-true (2 ^ 31) (length rows) (subst (λ (x : Group). is_large_group x ≡ true) (sym e) a)))
   | inr b ↦ b
 ]
@@ -267,7 +261,7 @@ above_by rs [] aggs keep parts rows few again g (inl e) t = elim (or_true (is_la
 
     too_few : 2 ^ 31 < length rows → ⊥
     too_few d = let s : length parts ≡ length rows = same_length in omega arith
-above_by rs (k ∷ ks) aggs keep parts rows few again g m t = elim (or_true (is_large_group g) (is_above_limit (aggregate rs g.rows (agg.Sum (Column (length (k ∷ ks) + length aggs))))) t) [
+above_by rs (k ∷ ks) aggs keep parts rows few again g m t = elim (or_either (is_large_group g) (is_above_limit (aggregate rs g.rows (agg.Sum (Column (length (k ∷ ks) + length aggs))))) t) [
   | inl a ↦ by_rows rs (k ∷ ks) aggs rows counts g (group_within (columns_from 0 (length (k ∷ ks))) rs rows g m) a
   | inr b ↦ b
 ]

@@ -3,6 +3,7 @@ use Rattle.std.proofs.Common.{◌≡◌, ℕ, ◌≤◌, ◌^◌, ◌+◌, true,
 use Rattle.std.specs.Prelude.{filter}
 use Rattle.std.specs.List.{list_any, AllByRecursion}
 use Rattle.std.proofs.lemmas.List.Elements.{recursion_from_All}
+use Rattle.cq_value.proofs.Lists.{length_map}
 use Rattle.cq_tree.specs.declared.plan.Combine.{Combine}
 use Rattle.cq_tree.specs.declared.plan.Combine.TheVariants.{Nothing, RowsOnly, Groups}
 use Rattle.cq_tree.specs.declared.expression.Expr.{Expr, Column}
@@ -28,7 +29,6 @@ use Rattle.cq_task_laws.proofs.Opened.{safe_partial, task_items, task_distinct, 
 use Rattle.cq_task_laws.proofs.PartLaws.{mapped_has, flat_map_of_map, flat_map_filter, flat_map_same}
 use Rattle.cq_task_laws.proofs.GatherRows.{whole_rows, wide_parts}
 use Rattle.cq_task_laws.proofs.GatherLaws.{part_width, length_push, some_map}
-use Rattle.cq_task_laws.proofs.LargeLaws.{length_map}
 use Rattle.cq_task_laws.proofs.SafeMerge.{of_has, at_has, columns_safe, rows_safe, partial_rows, counts_safe, groups_safe}
 
 -- a task that groups

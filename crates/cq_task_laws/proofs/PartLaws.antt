@@ -4,6 +4,7 @@ use Rattle.std.specs.Prelude.{filter, fold, not}
 use Rattle.std.specs.List.{flat_map, list_any}
 use Rattle.std.proofs.lemmas.List.Elements.{filter-append}
 use Rattle.std.proofs.lemmas.List.Sums.{fold-append}
+use Rattle.cq_value.proofs.Lists.{map_map}
 use Rattle.cq_value.specs.declared.value.Value.{Value}
 use Rattle.cq_value.specs.declared.value.Value.TheVariants.{Null}
 use Rattle.cq_tree.specs.declared.query.Agg.{Agg}
@@ -14,7 +15,7 @@ use Rattle.cq_meaning.specs.Lists.{Has}
 use Rattle.cq_task_laws.specs.Merging.{joined}
 use Rattle.cq_task_laws.specs.Gathering.{ShareNo}
 use Rattle.cq_meaning.proofs.RowLaws.{with_new, first_rows_are, new_to, distinct_from, filter_all, filter_none, distinct_differ, distinct_has, any_has, not_true, same_is, NoTwins}
-use Rattle.cq_meaning.proofs.MapLaws.{map_append, map_same, map_map}
+use Rattle.cq_meaning.proofs.MapLaws.{map_append, map_same}
 
 -- lists of parts
 

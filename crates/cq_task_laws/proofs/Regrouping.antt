@@ -8,19 +8,16 @@ use Rattle.cq_meaning.specs.Values.{Row, column, same_row}
 use Rattle.cq_meaning.specs.Expressions.{value_of, items_of}
 use Rattle.cq_meaning.specs.Groups.{distinct, aggregate, group_row, groups_by, group_with}
 use Rattle.std.proofs.lemmas.List.{get_or-append-add}
+use Rattle.cq_value.proofs.Lists.{length_map, filter_map, map_map}
 use Rattle.cq_meaning.specs.Lists.{Has}
 use Rattle.cq_task_laws.specs.Partial.{columns_from}
 use Rattle.cq_task_laws.specs.Merging.{joined, all_combining}
 use Rattle.cq_task_laws.specs.Gathering.{IsNonEmpty}
-use Rattle.cq_meaning.proofs.RowLaws.{distinct_differ, has_distinct, distinct_has, filter_none, filter_same, filter_map, filtered_has, has_filtered, same_is, same_from, not_true}
-use Rattle.cq_meaning.proofs.MapLaws.{map_map, map_same, has_mapped}
+use Rattle.cq_meaning.proofs.RowLaws.{distinct_differ, has_distinct, distinct_has, filter_none, filter_same, filtered_has, has_filtered, same_is, same_from, not_true}
+use Rattle.cq_meaning.proofs.MapLaws.{map_same, has_mapped}
 use Rattle.cq_task_laws.proofs.PartLaws.{group_rows_are, map_of_flat_map, flat_map_filter, flat_map_same, distinct_of_parts, mapped_has}
 use Rattle.cq_task_laws.proofs.GatherRows.{columns_are}
 use Rattle.cq_task_laws.proofs.Combining.{all_combined, one_left}
-
-length_map : {X Y : Type 0} (f : X → Y) (xs : List X) → length (map f xs) ≡ length xs
-length_map f [] = refl
-length_map f (x ∷ xs) = ap suc (length_map f xs)
 
 past : (k row : Row) (j : ℕ) → column (k ++ row) (length k + j) ≡ column row j
 past k row j = get_or-append-add k row j _

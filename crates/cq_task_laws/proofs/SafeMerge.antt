@@ -4,6 +4,7 @@ use Rattle.std.specs.Prelude.{filter, ◌||◌}
 use Rattle.std.specs.List.{flat_map, list_any, AllByRecursion}
 use Rattle.std.proofs.lemmas.Bool.{lt-ltb}
 use Rattle.std.proofs.lemmas.List.Elements.{All-from_recursion, recursion_from_All}
+use Rattle.cq_value.proofs.Lists.{length_map}
 use native.Mathlib.Decide.{dec_lt}
 use Rattle.cq_value.specs.declared.value.Value.TheVariants.{Int}
 use Rattle.cq_tree.specs.declared.expression.Expr.{Expr, Column}
@@ -26,7 +27,7 @@ use Rattle.cq_task_laws.proofs.PartLaws.{mapped_has}
 use Rattle.cq_task_laws.proofs.Combining.{one}
 use Rattle.cq_task_laws.proofs.Regrouping.{if_some, some_of, some_whole, some_rows, part_columns, same_keys, width_in}
 use Rattle.cq_task_laws.proofs.GatherLaws.{part_width, groups_join}
-use Rattle.cq_task_laws.proofs.LargeLaws.{any_at, any_from, groups_wide, length_columns, length_map, last_one, count_of, sum_in}
+use Rattle.cq_task_laws.proofs.LargeLaws.{any_at, any_from, groups_wide, length_columns, last_one, count_of, sum_in}
 
 -- elements
 

@@ -3,6 +3,7 @@ use Rattle.std.proofs.Common.{◌≡◌, ℕ, Bool, true, false, List, [], ◌�
 use Rattle.std.specs.Prelude.{filter, not, ◌+◌, ◌⊎◌, ◌&&◌, ◌||◌, nat_eq}
 use Rattle.std.specs.List.{flat_map}
 use Rattle.std.proofs.lemmas.Bool.{eqb-true, eq-eqb}
+use Rattle.cq_value.proofs.Truths.{and_both}
 use Rattle.cq_tree.specs.declared.query.FromTree.{FromTree, Table, Sub', Result, Cross', Inner', Left', more_of-FromTree, end_of-FromTree, more_of-Query, end_of-Query}
 use Rattle.cq_tree.specs.declared.query.Query.{Query, Query', out-Query}
 use Rattle.cq_meaning.specs.Values.{Row, Tables, table_rows}
@@ -25,18 +26,14 @@ use Rattle.cq_task_laws.proofs.GatherLaws.{gather}
 
 -- one place of a row whose relations stand there
 
-both_parts : (a b : Bool) → (a && b) ≡ true → (a ≡ true) × (b ≡ true)
-both_parts true b e = (refl, e)
-both_parts false b e = cc
-
 one_here : (r : Relation) (x : Row) → r.cut ≡ true → (i : ℕ) → is_here r i x ≡ true → r.home x ≡ i
 one_here r x c i e = eqb-true (r.home x) i (subst (λ b. (not b || nat_eq (r.home x) i) ≡ true) c e)
 
 one_place : (f : Joins) (x : Row) → has_cut f ≡ true → (i j : ℕ) → stands f i x ≡ true → stands f j x ≡ true → i ≡ j
 one_place (only r) x c i j p q = sym (one_here r x c i p) ∙ one_here r x c j q
 one_place (inner on a b) x c i j p q = go (has_cut a) refl
-    (λ h. one_place a (take (width_of a) x) h i j (both_parts (stands a i (take (width_of a) x)) (stands b i (drop (width_of a) x)) p).0 (both_parts (stands a j (take (width_of a) x)) (stands b j (drop (width_of a) x)) q).0)
-    (λ h. one_place b (drop (width_of a) x) h i j (both_parts (stands a i (take (width_of a) x)) (stands b i (drop (width_of a) x)) p).1 (both_parts (stands a j (take (width_of a) x)) (stands b j (drop (width_of a) x)) q).1)
+    (λ h. one_place a (take (width_of a) x) h i j (and_both (stands a i (take (width_of a) x)) (stands b i (drop (width_of a) x)) p).0 (and_both (stands a j (take (width_of a) x)) (stands b j (drop (width_of a) x)) q).0)
+    (λ h. one_place b (drop (width_of a) x) h i j (and_both (stands a i (take (width_of a) x)) (stands b i (drop (width_of a) x)) p).1 (and_both (stands a j (take (width_of a) x)) (stands b j (drop (width_of a) x)) q).1)
   where
     go : (t : Bool) → has_cut a ≡ t → (has_cut a ≡ true → i ≡ j) → (has_cut b ≡ true → i ≡ j) → i ≡ j
     go true e left_side right_side = left_side e

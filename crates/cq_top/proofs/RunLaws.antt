@@ -5,6 +5,7 @@ use Rattle.std.proofs.lemmas.Bool.{eqb-true}
 use Rattle.std.proofs.lemmas.Bool.Decides.{nat_tests}
 use Rattle.std.specs.List.{AllByRecursion}
 use Rattle.std.proofs.lemmas.List.Elements.{All-head, All-tail}
+use Rattle.cq_value.proofs.Truths.{two_ways}
 use Rattle.cq_answer.specs.declared.answered.Answered.{Answered}
 use Rattle.cq_answer.specs.declared.answered.Settings.{Settings}
 use Rattle.cq_catalog.specs.Contents.{Contents, nothing}
@@ -13,7 +14,6 @@ use Rattle.cq_journal.specs.declared.journal.Journal as kept
 use Rattle.cq_history.specs.Run.{Environment, first}
 use Rattle.cq_history.specs.Log.{AllStand, IsConsistent, IsWhole as IsWholeHistory}
 use Rattle.cq_history.specs.Refusals.{rules}
-use Rattle.cq_history.proofs.Lists.{two_ways}
 use Rattle.cq_history.proofs.Script.{log_begins, log_stands}
 use Rattle.cq_store.specs.Stores.{StoreState, IsSpare}
 use Rattle.cq_store.specs.declared.worker.Worker.{Worker}

@@ -34,6 +34,16 @@ impl<T> Items<T> {
         }
     }
 
+    /// The empty list, with room for so many items.
+    pub fn with_room(alloc: Global, count: u64) -> Result<Items<T>, NoMemory>
+        ensures { IfOk result (λ items. items ≡ []) }
+    {
+        match Vec::with_capacity(alloc, count as usize) {
+            Ok(items) => Ok(Items { items }),
+            Err(_) => Err(NoMemory),
+        }
+    }
+
     /// Puts an item last, or hands it back for want of memory.
     pub fn push(&mut self, item: T) -> Result<(), T>
         ensures ok { OnOk result (self.new ≡ self.old ++ item ∷ []) }

@@ -3,6 +3,7 @@ use Rattle.std.proofs.Common.{◌≡◌, ℕ, suc, ◌∷◌, true, ◌≤◌, L
 use Rattle.std.specs.Prelude.{All}
 use Rattle.std.specs.List.{AllByRecursion}
 use Rattle.std.proofs.lemmas.List.Elements.{recursion_from_All}
+use Rattle.cq_value.proofs.Lists.{length_map}
 use denote.Hole.Carrier.{hidden}
 use Rattle.cq_tree.specs.declared.expression.Expr.{Expr}
 use Rattle.cq_tree.specs.declared.expression.Cond.{Cond}
@@ -33,10 +34,6 @@ module _ (cs : Columns) (ahead : List ℕ) where
   pub made_left : (a b : FromTree) (on : Cond) (ks js : List ℕ) → MadeFrom a ks → (js ≡ from_bits cs b) × IsBoundFrom cs (ahead ++ ks) b → IsBoundCondition (ahead ++ (ks ++ js)) (length cs.results) on → MadeFrom (Left a b on) (ks ++ js)
   unfolding hidden-the_row-FromTree-1 hidden
   made_left a b on ks js h g c = ((λ i. h.0 i ++ g.0 i), (h.1, subst (λ us. IsBoundFrom cs (ahead ++ us) b) h.0 g.1, subst (λ us. IsBoundCondition (ahead ++ us) (length cs.results) on) (λ i. h.0 i ++ g.0 i) c))
-
-length_map : {X Y : Type 0} (f : X → Y) (xs : List X) → length (map f xs) ≡ length xs
-length_map f [] = refl
-length_map f (x ∷ xs) = λ i. suc (length_map f xs i)
 
 -- the outputs of a query
 pub made_query : (cs : Columns) (q : Query) (ks items : List ℕ) →

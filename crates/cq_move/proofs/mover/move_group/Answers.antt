@@ -1,5 +1,6 @@
 use Rattle.std.proofs.Common.{◌≡◌, true, ap}
 use Rattle.std.specs.List.{AllZip}
+use Rattle.cq_value.proofs.Lists.{if_ok}
 use Rattle.cq_group.specs.Groups.{outlines, entries_of, stores_of}
 use Rattle.cq_group.specs.Calls.{GoesOn, Lifted, GroupGoesOn}
 use Rattle.cq_group.specs.Incoming.{arriving}
@@ -8,7 +9,7 @@ use Rattle.cq_group.proofs.Zips.{on_err}
 use Rattle.cq_group.proofs.WriteLaws.{goes_on_twice}
 use Rattle.cq_move.specs.Outcomes.{IsTried, IsStopped}
 use Rattle.cq_move.specs.Steps.{MayCatchUpAndStops, IsToldBy}
-use Rattle.cq_move.proofs.StoreLaws.{if_ok, if_err, if_err_three, go_on_twice, given_back, given_same, ends_told}
+use Rattle.cq_move.proofs.StoreLaws.{if_err, if_err_three, go_on_twice, given_back, given_same, ends_told}
 use Rattle.cq_move.proofs.StepLaws.{moving_began, enters_stop}
 use Rattle.cq_move.proofs.mover.move_group.Goals as goal
 
