@@ -14,7 +14,12 @@ fn type_word(kind: Kind) -> &'static str {
 }
 
 /// `CREATE TABLE`.
-pub(crate) fn create(out: &mut Writer, name: &Text, columns: &Columns, key: &Positions) -> Result<(), NoMemory> {
+pub(crate) fn create(
+    out: &mut Writer,
+    name: &Text,
+    columns: &Columns,
+    key: &Positions,
+) -> Result<(), NoMemory> {
     out.word("create")?;
     out.word("table")?;
     out.word(name.as_str())?;

@@ -23,7 +23,11 @@ impl Scope<'_> {
     /// Writes an IN subquery.
     fn subquery(&self, out: &mut Writer, number: u32) -> Result<(), NoMemory> {
         let number = u64::from(number);
-        match self.subqueries.iter().find(|subquery| subquery.number == number) {
+        match self
+            .subqueries
+            .iter()
+            .find(|subquery| subquery.number == number)
+        {
             Some(subquery) => out.append(&subquery.select),
             None => Ok(()),
         }

@@ -39,7 +39,12 @@ impl Scope<'_> {
 
     /// Writes an expression that isn't digits alone.
     #[cycle(write)]
-    pub(crate) fn no_number(&self, out: &mut Writer, e: &Expr, least: Level) -> Result<(), NoMemory> {
+    pub(crate) fn no_number(
+        &self,
+        out: &mut Writer,
+        e: &Expr,
+        least: Level,
+    ) -> Result<(), NoMemory> {
         let level = self.level(e);
         self.in_brackets(out, e, level < least || level == Level::Number)
     }

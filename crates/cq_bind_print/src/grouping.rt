@@ -17,7 +17,12 @@ fn key(alloc: Global, scope: &Scope<'_>, key: &Expr) -> Result<Phrase, NoMemory>
     Ok(Phrase { tokens, level })
 }
 
-fn aggregated(out: &mut Writer, scope: &Scope<'_>, function: &str, argument: &Expr) -> Result<(), NoMemory> {
+fn aggregated(
+    out: &mut Writer,
+    scope: &Scope<'_>,
+    function: &str,
+    argument: &Expr,
+) -> Result<(), NoMemory> {
     out.word(function)?;
     out.sign(Sign::Open)?;
     scope.expr(out, argument, Level::Sum)?;
@@ -46,7 +51,12 @@ fn aggregate(alloc: Global, scope: &Scope<'_>, a: &Agg) -> Result<Phrase, NoMemo
     })
 }
 
-fn put_aggregates(alloc: Global, all: &mut Items<Phrase>, scope: &Scope<'_>, aggs: &[Agg]) -> Result<(), NoMemory> {
+fn put_aggregates(
+    alloc: Global,
+    all: &mut Items<Phrase>,
+    scope: &Scope<'_>,
+    aggs: &[Agg],
+) -> Result<(), NoMemory> {
     for a in aggs {
         all.put(aggregate(alloc, scope, a)?)?;
     }
@@ -54,7 +64,11 @@ fn put_aggregates(alloc: Global, all: &mut Items<Phrase>, scope: &Scope<'_>, agg
 }
 
 /// The columns behind a grouping: the keys, and then the aggregates.
-pub(crate) fn grouped(alloc: Global, scope: &Scope<'_>, q: &Query) -> Result<Items<Phrase>, NoMemory> {
+pub(crate) fn grouped(
+    alloc: Global,
+    scope: &Scope<'_>,
+    q: &Query,
+) -> Result<Items<Phrase>, NoMemory> {
     let mut all = Items::new(alloc);
     for k in q.keys.as_slice() {
         all.put(key(alloc, scope, k)?)?;
@@ -77,7 +91,12 @@ pub(crate) fn by_place(out: &mut Writer, place: u64) -> Result<(), NoMemory> {
     }
 }
 
-pub(crate) fn group_by(out: &mut Writer, scope: &Scope<'_>, keys: &[Expr], outputs: &[Expr]) -> Result<(), NoMemory> {
+pub(crate) fn group_by(
+    out: &mut Writer,
+    scope: &Scope<'_>,
+    keys: &[Expr],
+    outputs: &[Expr],
+) -> Result<(), NoMemory> {
     if keys.is_empty() {
         return Ok(());
     }

@@ -64,7 +64,11 @@ pub(crate) fn names_of(alloc: Global, columns: &[Column]) -> Result<Names, NoMem
 }
 
 /// Writes the name of the column in this place, where there is one.
-pub(crate) fn column_name(out: &mut Writer, columns: &[Column], place: u32) -> Result<(), NoMemory> {
+pub(crate) fn column_name(
+    out: &mut Writer,
+    columns: &[Column],
+    place: u32,
+) -> Result<(), NoMemory> {
     match columns.get(place as usize) {
         Some(column) => out.word(column.name.as_str()),
         None => Ok(()),
@@ -72,7 +76,11 @@ pub(crate) fn column_name(out: &mut Writer, columns: &[Column], place: u32) -> R
 }
 
 /// Writes the names of the columns in these places, in brackets.
-pub(crate) fn column_names(out: &mut Writer, columns: &[Column], places: &Positions) -> Result<(), NoMemory> {
+pub(crate) fn column_names(
+    out: &mut Writer,
+    columns: &[Column],
+    places: &Positions,
+) -> Result<(), NoMemory> {
     out.sign(Sign::Open)?;
     for (i, place) in places.as_slice().iter().enumerate() {
         out.sign_if(i > 0, Sign::Comma)?;

@@ -41,7 +41,10 @@ fn begin_with(q: &Query, items: &[Expr], names: &[Text], relation: &Relation) ->
         return false;
     }
     let mut all = true;
-    for ((place, column), (x, name)) in (relation.first..).zip(columns).zip(items.iter().zip(names)) {
+    for ((place, column), (x, name)) in (relation.first..)
+        .zip(columns)
+        .zip(items.iter().zip(names))
+    {
         all = all && is_from_column(q, place, x) && name.as_str() == column.as_str();
     }
     all
@@ -83,7 +86,12 @@ pub(crate) fn outputs(
             continue;
         }
         out.sign_if(place > 0, Sign::Comma)?;
-        let found = relations.iter().find(|relation| begin_with(q, &items[place..], &names[place..], relation));
+        let found = relations.iter().find(|relation| begin_with(
+            q,
+            &items[place..],
+            &names[place..],
+            relation,
+        ));
         match found {
             Some(relation) => {
                 star(out, relation)?;

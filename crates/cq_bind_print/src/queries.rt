@@ -77,7 +77,9 @@ impl World<'_> {
                 self.relation(source, b.get())?;
                 source.on(on)
             }
-            FromTree::Table(..) | FromTree::Result(..) | FromTree::Sub(_) => self.relation(source, f),
+            FromTree::Table(..) | FromTree::Result(..) | FromTree::Sub(_) => self.relation(
+                source, f,
+            ),
         }
     }
 
@@ -142,7 +144,12 @@ impl World<'_> {
 }
 
 /// Writes the query of a statement.
-pub(crate) fn statement_query(alloc: Global, out: &mut Writer, catalog: &Catalog, q: &Query) -> Result<(), NoMemory> {
+pub(crate) fn statement_query(
+    alloc: Global,
+    out: &mut Writer,
+    catalog: &Catalog,
+    q: &Query,
+) -> Result<(), NoMemory> {
     let world = World {
         alloc,
         catalog,

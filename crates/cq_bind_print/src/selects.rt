@@ -12,7 +12,12 @@ use cq_value::NoMemory;
 use std::alloc::Global;
 
 /// Writes WHERE or HAVING: that every row is kept is not written.
-pub(crate) fn filter(out: &mut Writer, front: &str, scope: &Scope<'_>, c: &Cond) -> Result<(), NoMemory> {
+pub(crate) fn filter(
+    out: &mut Writer,
+    front: &str,
+    scope: &Scope<'_>,
+    c: &Cond,
+) -> Result<(), NoMemory> {
     match c {
         Cond::Always => Ok(()),
         c => {

@@ -7,7 +7,12 @@ use cq_tree::Statement;
 use cq_value::{NoMemory, Text};
 use std::alloc::Global;
 
-fn written(alloc: Global, out: &mut Writer, catalog: &Catalog, statement: &Statement) -> Result<(), NoMemory> {
+fn written(
+    alloc: Global,
+    out: &mut Writer,
+    catalog: &Catalog,
+    statement: &Statement,
+) -> Result<(), NoMemory> {
     match statement {
         Statement::CreateTable { name, columns, key } => create(out, name, columns, key),
         Statement::Distribute {
@@ -32,7 +37,11 @@ fn written(alloc: Global, out: &mut Writer, catalog: &Catalog, statement: &State
         }
         Statement::Move { shard, from, to } => move_shard(out, *shard, *from, *to),
         Statement::Rebalance { by_size } => rebalance(out, "rebalance_table_shards", *by_size),
-        Statement::RebalancePlan { by_size } => rebalance(out, "get_rebalance_table_shards_plan", *by_size),
+        Statement::RebalancePlan { by_size } => rebalance(
+            out,
+            "get_rebalance_table_shards_plan",
+            *by_size,
+        ),
     }
 }
 
@@ -40,7 +49,11 @@ fn written(alloc: Global, out: &mut Writer, catalog: &Catalog, statement: &State
 /// whether it is read again.
 ///
 /// Errors: want of memory, which is answered also of a statement with a number of more than 64 bits. No text is read as such a statement.
-pub fn canonical(alloc: Global, statement: &Statement, catalog: &Catalog) -> Result<Text, NoMemory> {
+pub fn canonical(
+    alloc: Global,
+    statement: &Statement,
+    catalog: &Catalog,
+) -> Result<Text, NoMemory> {
     let mut out = Writer::new(alloc);
     written(alloc, &mut out, catalog, statement)?;
     out.into_text()

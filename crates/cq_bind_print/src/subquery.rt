@@ -7,7 +7,9 @@ pub(crate) fn in_expr(e: &Expr) -> Option<u32> {
     match e {
         Expr::Literal(_) | Expr::Column(_) => None,
         Expr::Neg(a) | Expr::Div(a, _) | Expr::Rem(a, _) => in_expr(a.get()),
-        Expr::Add(a, b) | Expr::Sub(a, b) | Expr::Mul(a, b) => in_expr(a.get()).or(in_expr(b.get())),
+        Expr::Add(a, b) | Expr::Sub(a, b) | Expr::Mul(a, b) => in_expr(a.get()).or(in_expr(
+            b.get(),
+        )),
         Expr::Case(arms, other) => in_arms(arms.as_slice()).or(in_expr(other.get())),
         Expr::Coalesce(items) => in_exprs(items.as_slice()),
     }

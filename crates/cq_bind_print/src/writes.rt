@@ -34,7 +34,12 @@ fn insert(out: &mut Writer, info: &TableInfo, rows: &[Row]) -> Result<(), NoMemo
     Ok(())
 }
 
-fn sets_of(out: &mut Writer, scope: &Scope<'_>, columns: &[Column], sets: &[Set]) -> Result<(), NoMemory> {
+fn sets_of(
+    out: &mut Writer,
+    scope: &Scope<'_>,
+    columns: &[Column],
+    sets: &[Set],
+) -> Result<(), NoMemory> {
     for (i, set) in sets.iter().enumerate() {
         out.sign_if(i > 0, Sign::Comma)?;
         column_name(out, columns, set.column)?;
@@ -64,7 +69,12 @@ fn changes(
 }
 
 /// Writes a write, where there is its table.
-pub(crate) fn write(alloc: Global, out: &mut Writer, catalog: &Catalog, op: &ShardOp) -> Result<(), NoMemory> {
+pub(crate) fn write(
+    alloc: Global,
+    out: &mut Writer,
+    catalog: &Catalog,
+    op: &ShardOp,
+) -> Result<(), NoMemory> {
     let (ShardOp::Insert { table: number, .. }
     | ShardOp::Update { table: number, .. }
     | ShardOp::Remove { table: number, .. }) = op;
