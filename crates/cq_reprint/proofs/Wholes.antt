@@ -3,7 +3,7 @@ use Rattle.std.proofs.Common.{◌≡◌, ◌↔◌, Bool, IsTrue, sym, ◌∙◌
 use Rattle.cq_tree.specs.declared.query.Query.{Query, out-Query, roll-Query, roll-out-Query}
 use Rattle.cq_tree.specs.declared.query.FromTree.{FromTree}
 use Rattle.cq_tree.specs.declared.query.FromTree.TheOpen.{Query-F}
-use Rattle.cq_same.specs.Equal.{IsReadAlike, IsGroupedAlike, IsShownAlike}
+use Rattle.cq_reprint.specs.Alike.{IsReadAlike, IsGroupedAlike, IsShownAlike}
 
 abbrev Layer : Type 0
 Layer = Query-F FromTree Query

@@ -2,7 +2,7 @@
 
 ghost use Rattle.std.specs.Prelude.{◌≡◌, ◌↔◌, IsTrue};
 ghost use Rattle.cq_tree.specs.declared.query.Query.{out-Query};
-ghost use Rattle.cq_same.specs.Equal.{IsReadAlike, IsGroupedAlike, IsShownAlike};
+ghost use Rattle.cq_reprint.specs.Alike.{IsReadAlike, IsGroupedAlike, IsShownAlike};
 
 use crate::parts::Same;
 use cq_tree::{FromTree, Query};

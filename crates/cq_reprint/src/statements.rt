@@ -40,7 +40,7 @@ fn same_write(a: &ShardOp, b: &ShardOp) -> bool
 }
 
 /// Whether two statements are one statement: the same kind with the same parts, names, places and numbers.
-pub fn same_statement(a: &Statement, b: &Statement) -> bool
+pub(crate) fn same_statement(a: &Statement, b: &Statement) -> bool
     ensures { IsTrue result ↔ (a.now ≡ b.now) }
 {
     match (a, b) {

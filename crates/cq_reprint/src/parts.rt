@@ -2,7 +2,7 @@
 
 ghost use Rattle.std.specs.Prelude.{◌≡◌, ◌↔◌, IsTrue};
 
-use crate::expressions::{same_cond, same_expr};
+use cq_same::{same_cond, same_expr};
 use cq_tree::{Agg, Cond, Expr, Key, Set};
 use cq_value::{Column, Items, Text, Value, With};
 
@@ -56,14 +56,14 @@ impl Same for Key {
     }
 }
 
-#[tactic(auto, using(crate::proofs::Decided::exprs_decided))]
+#[tactic(auto, using(cq_same::proofs::Decided::exprs_decided))]
 impl Same for Expr {
     fn same(&self, other: &Expr) -> bool {
         same_expr(self, other)
     }
 }
 
-#[tactic(auto, using(crate::proofs::Decided::conds_decided))]
+#[tactic(auto, using(cq_same::proofs::Decided::conds_decided))]
 impl Same for Cond {
     fn same(&self, other: &Cond) -> bool {
         same_cond(self, other)
