@@ -123,11 +123,7 @@ pub fn numeric(b: Bound, at: u64) -> Result<(Expr, u32), BindError>
 }
 
 /// Both, or the first error.
-pub fn both_numeric(
-    a: Bound,
-    b: Bound,
-    at: u64,
-) -> Result<((Expr, u32), (Expr, u32)), BindError>
+pub fn both_numeric(a: Bound, b: Bound, at: u64) -> Result<((Expr, u32), (Expr, u32)), BindError>
     ensures { BothNumbersOr a b at result }
 {
     let first = numeric(a, at);

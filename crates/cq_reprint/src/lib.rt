@@ -2,7 +2,10 @@
 #![tactic(auto)]
 
 mod error;
+mod parts;
 mod printing;
+mod queries;
+mod statements;
 
 pub use error::PrintError;
 pub use printing::print;

@@ -4,10 +4,10 @@ ghost use Rattle.cq_statement.specs.Reading.{reading_of};
 ghost use Rattle.cq_statement.specs.Meanings.{IsTree};
 
 use crate::error::PrintError;
+use crate::statements::same_statement;
 use cq_answer::Fault;
 use cq_bind_print::canonical;
 use cq_catalog::Catalog;
-use cq_same::same_statement;
 use cq_statement::read_statement;
 use cq_tree::Statement;
 use cq_value::{NoMemory, Text};

@@ -1,6 +1,5 @@
-mod Decided
+pub mod Decided
 mod EqualLaws
 pub mod Equals
 mod Owned
 mod Truths
-mod Wholes

@@ -1,5 +1,5 @@
 -- Whether two bound expressions, or two conditions, are one.
-use Rattle.std.specs.Prelude.{◌≡◌, Bool, true, false, ◌&&◌, nat_eq, bytes_eq, List, [], ◌∷◌}
+use Rattle.std.specs.Prelude.{Bool, true, false, ◌&&◌, nat_eq, bytes_eq, List, [], ◌∷◌}
 use Rattle.std.specs.Ordering.{int_eq}
 use Rattle.cq_value.specs.declared.value.Value.{Value}
 use Rattle.cq_value.specs.declared.value.Value.TheVariants.{Null, Int, Text}
@@ -10,7 +10,6 @@ use Rattle.cq_tree.specs.declared.expression.Arm.{Arm, out-Arm}
 use Rattle.cq_tree.specs.declared.expression.Cond.{Cond, out-Cond}
 use Rattle.cq_tree.specs.declared.expression.Cond.TheOpen.{Expr-F, Cond-F, Arm-F}
 use Rattle.cq_tree.specs.declared.expression.Cond.TheFolds.{fold-Cond, fold-Expr, fold-Arm}
-use Rattle.cq_tree.specs.declared.query.FromTree.TheOpen.{Query-F}
 
 abbrev pub equal_values : Value → Value → Bool
 equal_values Null Null = true
@@ -67,16 +66,3 @@ equal_conds = fold-Cond (Cond → Bool) (Expr → Bool) (Arm → Bool) (λ l c. 
 
 abbrev pub equal_arms : Arm → Arm → Bool
 equal_arms = fold-Arm (Cond → Bool) (Expr → Bool) (Arm → Bool) (λ l c. cond_layer l (out-Cond c)) (λ l e. expr_layer l (out-Expr e)) (λ l a. arm_layer l (out-Arm a))
-
--- the same is read
-abbrev pub IsReadAlike : {F Q : Type 0} → Query-F F Q → Query-F F Q → Type 0
-IsReadAlike p q = (p.ctes ≡ q.ctes) × (p.subs ≡ q.subs) × (p.from ≡ q.from)
-
--- its rows are kept and grouped alike
-abbrev pub IsGroupedAlike : {F Q : Type 0} → Query-F F Q → Query-F F Q → Type 0
-IsGroupedAlike p q = (p.filter ≡ q.filter) × (p.grouped ≡ q.grouped) × (p.keys ≡ q.keys) × (p.aggs ≡ q.aggs) × (p.having ≡ q.having)
-
--- and shown alike
-abbrev pub IsShownAlike : {F Q : Type 0} → Query-F F Q → Query-F F Q → Type 0
-IsShownAlike p q =
-    (p.items ≡ q.items) × (p.shown ≡ q.shown) × (p.distinct ≡ q.distinct) × (p.order ≡ q.order) × (p.limit ≡ q.limit) × (p.offset ≡ q.offset) × (p.names ≡ q.names)

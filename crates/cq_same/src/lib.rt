@@ -1,10 +1,6 @@
-//! Whether two bound statements are one statement, in every part.
+//! Whether two bound expressions, or two conditions, are one, in every part.
 #![tactic(auto)]
 
 mod expressions;
-mod parts;
-mod queries;
-mod statements;
 
 pub use expressions::{expr_laws, same_cond, same_expr};
-pub use statements::same_statement;

@@ -1,4 +1,0 @@
-use Rattle.cq_parse_select.proofs.digits.+digits.Given as goal
-
-abbrev pub decreases-digits : goal.decreases-digits
-decreases-digits l = l.n
