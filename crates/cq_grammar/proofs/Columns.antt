@@ -13,7 +13,7 @@ use Rattle.cq_grammar.specs.Statements as grammar
 use Rattle.cq_grammar.specs.Reading as reading
 use Rattle.cq_grammar.specs.Descent as descent
 use Rattle.cq_grammar.specs.Read.{Fault, Outcome, Reader, Test, and_then, both, made, nothing, many_by, many, behind, comma_item, sees, sees_two}
-use Rattle.cq_grammar.proofs.Laws.{Mode, Reads, unseen, within, Fills, Lawful, Read, Stops, Begins, Only, Clear, went_ok, went_err, ok_same, ok_err, true_false, nonempty, among_starts, both_read, both_fails_first, both_fails_second, made_only, made_fails, same_stops, same_lang, made_lawful, both_lawful, widen}
+use Rattle.cq_grammar.proofs.Laws.{Mode, Reads, unseen, within, Lawful, Read, Stops, Begins, Only, Clear, went_ok, went_err, ok_same, ok_err, true_false, nonempty, among_starts, both_read, both_fails_first, both_fails_second, made_only, made_fails, same_stops, same_lang, made_lawful, both_lawful, widen}
 use Rattle.cq_grammar.proofs.Sets.{of_apart, of_among}
 use Rattle.cq_grammar.proofs.Shapes.{Shape, Ruled, seen, ◌then◌, maybe, some_of_these, second, word, commas, comma, clear_by, stated, rule, option}
 use Rattle.cq_grammar.proofs.Ahead.{OpensBy, ClearBy, Settles, two_grows, two_settles, only_p, only_q, stops_p, stops_q}

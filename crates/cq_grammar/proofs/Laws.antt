@@ -6,7 +6,7 @@ use Rattle.cq_token.specs.declared.token.Token.{Token}
 use Rattle.cq_grammar.specs.declared.kind.Kind.{Kind}
 use Rattle.cq_grammar.specs.contracts.kind.Kind.{the_type}
 use Rattle.cq_grammar.specs.Words.{kind, Kinds, of, starts, same_kind}
-use Rattle.cq_grammar.specs.Lang.{Lang, One, Both, Either, Made, Nothing, Many, Empty}
+use Rattle.cq_grammar.specs.Lang.{Lang, One, Both, Either, Made, Nothing, Many}
 use Rattle.cq_grammar.specs.Statements.{BeginsIn}
 use Rattle.cq_grammar.specs.Read.{Fault, bad, deep, Outcome, Reader, and_then, one, one_by, both, made, nothing, choice, many_by, many, used_up}
 use Rattle.cq_grammar.proofs.Tokens.{token_of, kind_spelled}

@@ -26,7 +26,7 @@ use Rattle.cq_grammar.specs.Grammar.{digits, Deeper, expr, or_, Tree}
 use Rattle.cq_grammar.specs.Read.{Reader, both, and_then, comma_item}
 use Rattle.cq_grammar.specs.Descent as descent
 use Rattle.cq_grammar.specs.Reading as reading
-use Rattle.cq_grammar.proofs.Laws.{went_ok, ok_same, nonempty, true_false}
+use Rattle.cq_grammar.proofs.Laws.{within, went_ok, ok_same, nonempty, true_false}
 use Rattle.cq_grammar.proofs.Shapes.{Shape, Ruled, word}
 use Rattle.cq_grammar.proofs.Expressions as expression
 use Rattle.cq_grammar.proofs.Expressions.{deeper}
@@ -37,7 +37,7 @@ use Rattle.cq_grammar.proofs.Depths.{below}
 
 -- a rule's law is known
 abbrev Read_by : {A : Type 0} → Reader A → Lang A → Lang A → Shape → Type 0
-Read_by p P W s = Ruled (Unit {0}) (Unit {0}) p P W s
+Read_by p P W s = Ruled (Unit {0}) within p P W s
 
 module _ {A : Type 0} {p : Reader A} {P W : Lang A} {s : Shape} (l : Read_by p P W s) (fine : s.fine ≡ true) where
   -- no step gives tokens back
@@ -63,7 +63,7 @@ comma_shorter p i l fine ts a r e =
     let pair = went_ok (both (descent.the k.Comma) (p i) ts) (λ c r. Ok (c.1, r)) (a, r) e in
     let sign = went_ok (descent.the k.Comma ts) (λ c r. and_then (p i r) (λ b s. Ok ((c, b), s))) (pair.value, pair.rest) pair.first in
     let item = went_ok (p i sign.rest) (λ b s. Ok ((sign.value, b), s)) (pair.value, pair.rest) sign.second in
-    let one : length sign.rest < length ts = shorter (word {S = Unit {0}} {H = Unit {0}} k.Comma) refl refl ts sign.value sign.rest sign.first in
+    let one : length sign.rest < length ts = shorter (word {S = Unit {0}} {H = within} k.Comma) refl refl ts sign.value sign.rest sign.first in
     let two : length item.rest ≤ length sign.rest = not_longer l fine sign.rest item.value item.rest item.first in
     omega (arith, one, two, ap (λ w. length w.1) (ok_same item.second), ap (λ w. length w.1) (ok_same pair.second))
 
@@ -97,25 +97,25 @@ module _ (left : ℕ) where
   lower = below left (left + 2) (omega arith)
 
   pub arm_shorter : (ts : List Token) (a : Arm) (r : List Token) → descent.arm R ts ≡ Ok (a, r) → length r < length ts
-  arm_shorter = shorter (expression.arm (Unit {0}) (Unit {0}) R P W lower) refl refl
+  arm_shorter = shorter (expression.arm (Unit {0}) within R P W lower) refl refl
 
   pub multiplied_shorter : (i : ℕ) (ts : List Token) (a : Multiplied) (r : List Token) → descent.multiplied R i ts ≡ Ok (a, r) → length r < length ts
-  multiplied_shorter i = shorter (expression.multiplied (Unit {0}) (Unit {0}) R P W lower i) refl refl
+  multiplied_shorter i = shorter (expression.multiplied (Unit {0}) within R P W lower i) refl refl
 
   pub added_shorter : (i : ℕ) (ts : List Token) (a : Added) (r : List Token) → descent.added R i ts ≡ Ok (a, r) → length r < length ts
-  added_shorter i = shorter (expression.added (Unit {0}) (Unit {0}) R P W lower i) refl refl
+  added_shorter i = shorter (expression.added (Unit {0}) within R P W lower i) refl refl
 
   pub null_test_shorter : (ts : List Token) (a : NullTest) (r : List Token) → descent.null_test R ts ≡ Ok (a, r) → length r < length ts
-  null_test_shorter = shorter (expression.null_test (Unit {0}) (Unit {0}) R P W lower) refl refl
+  null_test_shorter = shorter (expression.null_test (Unit {0}) within R P W lower) refl refl
 
   pub and_part_shorter : (i : ℕ) (ts : List Token) (a : Chained) (r : List Token) → descent.and_part R i ts ≡ Ok (a, r) → length r < length ts
-  and_part_shorter i = shorter (expression.and_part (Unit {0}) (Unit {0}) R P W lower i) refl refl
+  and_part_shorter i = shorter (expression.and_part (Unit {0}) within R P W lower i) refl refl
 
   pub or_part_shorter : (i : ℕ) (ts : List Token) (a : Chained) (r : List Token) → descent.or_part R i ts ≡ Ok (a, r) → length r < length ts
-  or_part_shorter i = shorter (expression.or_part (Unit {0}) (Unit {0}) R P W lower i) refl refl
+  or_part_shorter i = shorter (expression.or_part (Unit {0}) within R P W lower i) refl refl
 
   pub join_shorter : (ts : List Token) (a : Join) (r : List Token) → descent.join R ts ≡ Ok (a, r) → length r < length ts
-  join_shorter = shorter (selects.join (Unit {0}) (Unit {0}) R P W lower) refl refl
+  join_shorter = shorter (selects.join (Unit {0}) within R P W lower) refl refl
 
   -- ---- items behind a comma
 
@@ -126,23 +126,23 @@ module _ (left : ℕ) where
   in_item_shorter i = comma_shorter (λ before. R (1 + digits before) (expr or_)) i (lower (1 + digits i) (expr or_)) refl
 
   pub select_item_shorter : (i : ℕ) (ts : List Token) (a : Item) (r : List Token) → comma_item (descent.the k.Comma) (λ _. descent.select_item R) i ts ≡ Ok (a, r) → length r < length ts
-  select_item_shorter i = comma_shorter (λ _. descent.select_item R) i (selects.select_item (Unit {0}) (Unit {0}) R P W lower) refl
+  select_item_shorter i = comma_shorter (λ _. descent.select_item R) i (selects.select_item (Unit {0}) within R P W lower) refl
 
   pub from_item_shorter : (i : ℕ) (ts : List Token) (a : From) (r : List Token) → comma_item (descent.the k.Comma) (λ _. descent.from_item R) i ts ≡ Ok (a, r) → length r < length ts
-  from_item_shorter i = comma_shorter (λ _. descent.from_item R) i (selects.from_item (Unit {0}) (Unit {0}) R P W lower) refl
+  from_item_shorter i = comma_shorter (λ _. descent.from_item R) i (selects.from_item (Unit {0}) within R P W lower) refl
 
   -- a key of GROUP BY
   pub condition_shorter : (i : ℕ) (ts : List Token) (a : Expr) (r : List Token) → comma_item (descent.the k.Comma) (λ _. descent.or_chain R) i ts ≡ Ok (a, r) → length r < length ts
-  condition_shorter i = comma_shorter (λ _. descent.or_chain R) i (expression.or_chain (Unit {0}) (Unit {0}) R P W lower) refl
+  condition_shorter i = comma_shorter (λ _. descent.or_chain R) i (expression.or_chain (Unit {0}) within R P W lower) refl
 
   pub order_key_shorter : (i : ℕ) (ts : List Token) (a : OrderKey) (r : List Token) → comma_item (descent.the k.Comma) (λ _. descent.order_key R) i ts ≡ Ok (a, r) → length r < length ts
-  order_key_shorter i = comma_shorter (λ _. descent.order_key R) i (selects.order_key (Unit {0}) (Unit {0}) R P W lower) refl
+  order_key_shorter i = comma_shorter (λ _. descent.order_key R) i (selects.order_key (Unit {0}) within R P W lower) refl
 
   pub row_values_shorter : (i : ℕ) (ts : List Token) (a : RowValues) (r : List Token) → comma_item (descent.the k.Comma) (λ _. reading.row_values R) i ts ≡ Ok (a, r) → length r < length ts
-  row_values_shorter i = comma_shorter (λ _. reading.row_values R) i (command.row_values (Unit {0}) (Unit {0}) R P W lower) refl
+  row_values_shorter i = comma_shorter (λ _. reading.row_values R) i (command.row_values (Unit {0}) within R P W lower) refl
 
   pub set_clause_shorter : (i : ℕ) (ts : List Token) (a : SetClause) (r : List Token) → comma_item (descent.the k.Comma) (λ _. reading.set_clause R) i ts ≡ Ok (a, r) → length r < length ts
-  set_clause_shorter i = comma_shorter (λ _. reading.set_clause R) i (command.set_clause (Unit {0}) (Unit {0}) R P W lower) refl
+  set_clause_shorter i = comma_shorter (λ _. reading.set_clause R) i (command.set_clause (Unit {0}) within R P W lower) refl
 
   pub common_table_shorter : (i : ℕ) (ts : List Token) (a : CommonTable) (r : List Token) → comma_item (descent.the k.Comma) (λ _. reading.common_table R) i ts ≡ Ok (a, r) → length r < length ts
-  common_table_shorter i = comma_shorter (λ _. reading.common_table R) i (command.common_table (Unit {0}) (Unit {0}) R P W lower) refl
+  common_table_shorter i = comma_shorter (λ _. reading.common_table R) i (command.common_table (Unit {0}) within R P W lower) refl

@@ -1,12 +1,12 @@
 -- A whole text: what the reader accepts is a statement, each statement is accepted, and where the reader stops the text goes wrong.
-use Rattle.std.proofs.Common.{◌≡◌, ℕ, ◌+◌, ◌-◌, ◌<◌, ◌≤◌, List, [], ◌∷◌, ◌++◌, length, take, drop, true, false, ◌⊎◌, inl, inr, Option, Some, None, Result, Ok, Err, refl, sym, ◌∙◌, ap, subst, arith, length-append, append_assoc, take_all, take-take, Contains}
+use Rattle.std.proofs.Common.{◌≡◌, ℕ, ◌+◌, ◌-◌, ◌<◌, ◌≤◌, List, [], ◌∷◌, ◌++◌, length, take, drop, ◌⊎◌, inl, inr, Option, Some, None, Result, Ok, Err, refl, sym, ◌∙◌, ap, subst, arith, length-append, append_assoc, take_all, take-take, Contains}
 use Rattle.std.proofs.Math.Seq.{take-append_seam, take-append-add, drop-append_seam}
 use Rattle.std.proofs.lemmas.List.{append-nil, take-append-drop}
-use Rattle.std.proofs.lemmas.List.Elements.{Contains-append_left, Contains-append_right}
+use Rattle.std.proofs.lemmas.List.Elements.{Contains-append_right}
 use Rattle.std.proofs.Math.Nat.{eq-or-lt_of_le}
 use Rattle.cq_token.specs.declared.token.Token.{Token}
 use Rattle.cq_grammar.specs.declared.statement.Ast.{Ast}
-use Rattle.cq_grammar.specs.Words.{of, starts}
+use Rattle.cq_grammar.specs.Words.{of}
 use Rattle.cq_grammar.specs.Lang.{Lang}
 use Rattle.cq_grammar.specs.Grammar as grammar
 use Rattle.cq_grammar.specs.Grammar.{Deeper, Tree, upto}
@@ -18,7 +18,7 @@ use Rattle.cq_grammar.specs.Reading as reading
 use Rattle.cq_grammar.specs.Reading.{ended, ended_by, written}
 use Rattle.cq_grammar.specs.Conditions.{misplaced, miscalled}
 use Rattle.cq_grammar.specs.Verdicts.{Accepted, place, MisplacedAt, RefusedAt, Complaint, syntax, depth, left_of, called, unless_misplaced, judged, verdict}
-use Rattle.cq_grammar.proofs.Laws.{within, past, Lawful, Read, Stops, Begins, first, SameHead, left, pair_same}
+use Rattle.cq_grammar.proofs.Laws.{within, past, Lawful, Begins, first, SameHead, left, pair_same}
 use Rattle.cq_grammar.proofs.Depths.{below, below_apart}
 use Rattle.cq_grammar.proofs.Commands as command
 use Rattle.cq_grammar.proofs.Commands.{statement_goes}

@@ -151,11 +151,11 @@ apart used height d a ts = upto height d a ts × (BeginsIn used ts → ⊥)
 abbrev pub Apart : List Token → ℕ → Lang Ast
 Apart used height = statement (below_or (apart used height) max_depth)
 
--- some statement begins so, and none of these tokens is too deep: what is deeper than the greatest depth begins behind them
+-- some statement begins so, and none of these tokens is too deep: in it, whatever is too deep begins behind them
 abbrev pub BeginsShallow : List Token → Type 0
 BeginsShallow ts = (height : ℕ) × BeginsOne (Apart ts height) ts
 
--- the first n tokens begin a statement, and none of them is too deep; but no text of the language begins with these and the next, or ends where the tokens end
+-- the first n tokens begin a statement, and none of them is too deep; but no statement begins with these and the next, or ends where the tokens end
 pub record GoesWrong (ts : List Token) (n : ℕ) : Type 0 where
   pub inside : n ≤ length ts
   pub fits : BeginsOne Written (take n ts)
@@ -163,7 +163,7 @@ pub record GoesWrong (ts : List Token) (n : ℕ) : Type 0 where
   pub next : n < length ts → BeginsOne Written (take (n + 1) ts) → ⊥
   pub end : n ≡ length ts → (a : Ast) → Written a ts → ⊥
 
--- the first token that is too deep: with it, those before begin a statement
+-- the first token that is too deep; with it those before still begin a statement
 pub record GoesDeep (ts : List Token) (n : ℕ) : Type 0 where
   pub inside : n < length ts
   pub fits : BeginsOne Written (take (n + 1) ts)

@@ -18,7 +18,7 @@ abbrev pub place : List Token → ℕ → ℕ
 place [] end = end
 place (t ∷ ts) end = t.start
 
--- here stands the first token that, with those before it, begins no statement, or the text's end
+-- here stands the first token that, with those before it, begins no statement, or the text's end; none of those before is too deep
 pub record WrongAt (ts : List Token) (end at : ℕ) : Type 0 where
   pub before : ℕ
   pub wrong : GoesWrong ts before
