@@ -40,7 +40,7 @@ pub fewer_shallow : (ts : List Token) (n m : ℕ) → n ≤ m → BeginsShallow 
 fewer_shallow ts n m le b =
     let one = fewer_begin (Apart (take m ts) b.0) ts n m le b.1 in
     let among : (t : Token) → Contains (take n ts) t → Contains (take m ts) t =
-        λ t c. subst (λ (w : List Token). Contains w t) (sym (split ts n m le)) (Contains-append_left (take n ts) (drop n (take m ts)) t c) in
+    λ t c. subst (λ (w : List Token). Contains w t) (sym (split ts n m le)) (Contains-append_left (take n ts) (drop n (take m ts)) t c) in
     (b.0, (one.0, one.1, sub_apart (take m ts) (take n ts) among b.0 b.0 (omega arith) one.0 (take n ts ++ one.1) one.2))
 
 by_order : {X : Type 0} (n m : ℕ) → (n < m → X) → (m ≤ n → X) → X

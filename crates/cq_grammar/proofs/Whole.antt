@@ -156,7 +156,7 @@ deep_in ts r is =
       s.before,
       s.whole,
       deep_at ts s.before r s.begins.0 s.begins.1 s.whole s.begins.2 (begun enough (s.before ++ s.begins.0 ∷ []) s.begins.3) (shallow_before ts s.before (too_deep r) is s.whole)
-      (deeper_with ts s.before r s.begins.0 s.begins.1 is s.whole s.begins.2),
+          (deeper_with ts s.before r s.begins.0 s.begins.1 is s.whole s.begins.2),
     )
 
 -- more tokens than a statement

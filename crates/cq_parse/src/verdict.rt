@@ -108,7 +108,7 @@ fn judge(alloc: Global, tokens: &Tokens, text: &[u8]) -> Result<Ast, ParseError>
 ///
 /// Errors: `Syntax` where the tokens are no statement of the grammar, or a word or an argument has no place there; `Limit`
 /// where a token is deeper than 64; `Memory`. Each place counts bytes from the text's start.
-#[tactic(auto, using(crate::proofs::Promises::gives_ok, crate::proofs::Promises::gives_accepts, crate::proofs::Promises::gives_syntax, crate::proofs::Promises::gives_limit, crate::proofs::Promises::gives_refuses, crate::proofs::Promises::gives_deepens))]
+#[tactic(auto, using(crate::proofs::Promises::gives_ok, crate::proofs::Promises::gives_accepts, crate::proofs::Promises::gives_syntax, crate::proofs::Promises::gives_limit))]
 pub fn parse(alloc: Global, tokens: &Tokens, text: &[u8]) -> Result<Ast, ParseError>
     // What is accepted is a statement of the grammar, within the depth.
     ensures ok { IfOk result (λ a. Accepted a tokens.now) }

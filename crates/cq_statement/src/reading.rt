@@ -69,7 +69,7 @@ fn bind_all(alloc: Global, tree: &Ast, catalog: &Catalog) -> Result<Statement, F
 /// Errors: the fault of the text's tokens (`OpenQuote`, `BadCharacter`, `NumberTooLarge`); else that they spell no statement of the
 /// grammar (`Syntax`), or are nested too deep (`Limit` of the depth); else the first refusal of the walk over its tree (5, 6, 7, 10, 12 to
 /// 19, 28 and 33 of `Fault`); and want of memory.
-#[tactic(auto, using(crate::proofs::MeaningLaws::reading_means, crate::proofs::MeaningLaws::means_one))]
+#[tactic(auto, using(crate::proofs::MeaningLaws::reading_means))]
 pub fn read_statement(alloc: Global, text: &[u8], catalog: &Catalog) -> Result<Statement, Fault>
     // The answer is the definition's, unless memory fails.
     ensures reading { Reads (reading_of text.now catalog.now.tables) result }
