@@ -8,9 +8,13 @@ mod engine;
 #[cfg(test)]
 mod faults;
 #[cfg(test)]
+mod moves;
+#[cfg(test)]
 mod printing;
 #[cfg(test)]
 mod runs;
+#[cfg(test)]
+mod streams;
 #[cfg(test)]
 mod tables;
 #[cfg(test)]
