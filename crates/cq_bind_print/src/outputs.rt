@@ -34,20 +34,20 @@ fn is_from_column(q: &Query, place: u64, x: &Expr) -> bool {
     }
 }
 
-/// Whether the outputs begin with all columns of a relation, in order and with their names.
-fn begin_with(q: &Query, items: &[Expr], names: &[Text], relation: &Relation) -> bool {
+/// Whether from this place on the outputs are all columns of a relation, in order and with their names.
+fn is_star(q: &Query, items: &[Expr], names: &[Text], from: usize, relation: &Relation) -> bool {
     let columns = relation.columns.as_slice();
-    if columns.is_empty() || items.len() < columns.len() || names.len() < columns.len() {
+    if columns.is_empty() || items.len().min(names.len()).saturating_sub(from) < columns.len() {
         return false;
     }
-    let mut all = true;
-    for ((place, column), (x, name)) in (relation.first..)
-        .zip(columns)
-        .zip(items.iter().zip(names))
-    {
-        all = all && is_from_column(q, place, x) && name.as_str() == column.as_str();
+    let outputs = items.iter().zip(names).skip(from);
+    for (i, ((x, name), column)) in outputs.zip(columns).enumerate() {
+        let place = relation.first.saturating_add(i as u64);
+        if !is_from_column(q, place, x) || name.as_str() != column.as_str() {
+            return false;
+        }
     }
-    all
+    true
 }
 
 /// Whether a name can't stand behind AS. An output has it by its expression.
@@ -86,12 +86,9 @@ pub(crate) fn outputs(
             continue;
         }
         out.sign_if(place > 0, Sign::Comma)?;
-        let found = relations.iter().find(|relation| begin_with(
-            q,
-            &items[place..],
-            &names[place..],
-            relation,
-        ));
+        let found = relations
+            .iter()
+            .find(|relation| is_star(q, items, names, place, relation));
         match found {
             Some(relation) => {
                 star(out, relation)?;

@@ -67,7 +67,7 @@ impl Writer {
         print(alloc, words.as_slice())
     }
 
-    /// Writes a word of the grammar, or a name, in lower case.
+    /// Writes a word of the grammar, or a name: reserved words in lower case.
     pub fn word(&mut self, letters: &str) -> Result<(), NoMemory>
         ensures { OnOk result (self.new ≡ self.old ++ word letters.now) }
     {
