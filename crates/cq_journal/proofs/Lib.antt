@@ -1,4 +1,3 @@
-pub mod Lists
 pub mod Replays
 pub mod Replies
 pub mod Ids
