@@ -1,1 +1,1 @@
-pub mod Froms
+pub mod FromLaws

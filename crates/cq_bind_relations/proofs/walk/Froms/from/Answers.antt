@@ -1,7 +1,7 @@
 use Rattle.std.proofs.Common.{rules}
 use Rattle.cq_reading.specs.Relations.{with_join}
 use Rattle.cq_reading.specs.Walk.{join_part}
-use Rattle.cq_bind_relations.proofs.Froms.{with_joins, without_joins}
+use Rattle.cq_bind_relations.proofs.FromLaws.{with_joins, without_joins}
 use Rattle.cq_bind_relations.proofs.walk.Froms.from.Goals as goal
 
 pub returns-in_err-relation : goal.returns-in_err-relation

@@ -1,4 +1,4 @@
-use Rattle.cq_bind_relations.proofs.Froms.{by_table, by_alias, by_subquery}
+use Rattle.cq_bind_relations.proofs.FromLaws.{by_table, by_alias, by_subquery}
 use Rattle.cq_bind_relations.proofs.walk.Froms.relation.Goals as goal
 
 pub returns-in-Table : goal.returns-in-Table
