@@ -1,5 +1,5 @@
 ghost use Rattle.std.specs.Prelude.{◌≡◌, ◌&&◌, not, None, IfOk};
-ghost use Rattle.std.specs.List.{list_any};
+ghost use Rattle.std.specs.List.{list_any, list_all};
 ghost use Rattle.cq_tree.specs.declared.query.Query.{out-Query};
 ghost use Rattle.cq_planning.specs.Classes.{first_of_class};
 ghost use Rattle.cq_planning.specs.Conjuncts.{conjuncts_of, equalities};
@@ -8,9 +8,8 @@ ghost use Rattle.cq_planning.specs.Relations.{distributions, is_plain as is_plai
 ghost use Rattle.cq_shape.specs.Labels.{label};
 ghost use Rattle.cq_outline.specs.Tasking.{first_column as first_column_by_rule};
 ghost use Rattle.cq_pushdown_laws.specs.Pushed.{is_single as is_single_by_rule, joins_pushed as joins_pushed_by_rule, is_pushed as is_pushed_by_rule, strays as strays_by_rule, are_pushed as are_pushed_by_rule};
-ghost use Rattle.cq_groups.specs.Tasks.{are_several as are_several_by_rule, count_tasks as count_tasks_by_rule, pushed_by, pushed_way as pushed_way_by_rule};
+ghost use Rattle.cq_groups.specs.Tasks.{are_several as are_several_by_rule, count_tasks as count_tasks_by_rule, pushed_by, is_planned as is_planned_by_rule, are_planned as are_planned_by_rule, is_pushed_whole as is_pushed_whole_by_rule};
 
-use crate::alone::is_alone;
 use crate::captures::is_of_task;
 use crate::reads::Look;
 use crate::references::is_over_references;
@@ -20,9 +19,11 @@ use cq_relations::{
     Block, Distribution, Relation, are_one_component, colocated, has_loose, plain, pushable,
     put_relations, stays,
 };
+use cq_refusals::has_loose_cut;
 use cq_shape::labels_in;
 use cq_tree::{Combine, FromTree, Query};
 use cq_value::{Items, NoMemory};
+use cq_whole::{Step, steps_of};
 use std::alloc::Global;
 
 /// Whether these are at least two, and so few that tasks can be made of them.
@@ -128,21 +129,24 @@ fn relations_of(
     Ok(relations)
 }
 
-/// Whether this is a table or a subquery.
+/// Whether this is a table, a subquery or a result.
 fn is_single(from: &FromTree) -> bool
     ensures { result ≡ is_single_by_rule from.now }
 {
-    matches!(from, FromTree::Table(..) | FromTree::Sub(_))
+    matches!(
+        from,
+        FromTree::Table(..) | FromTree::Sub(_) | FromTree::Result(..)
+    )
 }
 
-/// Whether joins join tables and subqueries, with one of these on the right side of each LEFT JOIN. A subquery can be pushed down where it stands,
-/// and pushdown makes tasks of it, too, or it is over reference tables alone.
+/// Whether joins join tables, subqueries and results, with one of these on the right side of each LEFT JOIN. A subquery can be pushed down where it
+/// stands, and pushdown makes tasks of it, too, or it is over reference tables and results alone.
 #[cycle(pushing)]
 fn joins_pushed(alloc: Global, catalog: &Catalog, from: &FromTree) -> Result<bool, NoMemory>
     ensures { IfOk result (λ b. b ≡ joins_pushed_by_rule catalog.now from.now) }
 {
     match from {
-        FromTree::Table(..) => Ok(true),
+        FromTree::Table(..) | FromTree::Result(..) => Ok(true),
         FromTree::Sub(query) => {
             if pushable(alloc, catalog, query.get())?.is_some() {
                 is_pushed(alloc, catalog, query.get())
@@ -150,7 +154,6 @@ fn joins_pushed(alloc: Global, catalog: &Catalog, from: &FromTree) -> Result<boo
                 Ok(is_over_references(catalog, query.get()))
             }
         }
-        FromTree::Result(..) => Ok(false),
         FromTree::Cross(a, b) => {
             Ok(joins_pushed(alloc, catalog, a.get())? && joins_pushed(alloc, catalog, b.get())?)
         }
@@ -180,9 +183,13 @@ fn is_pushed(alloc: Global, catalog: &Catalog, query: &Query) -> Result<bool, No
     takes(alloc, query, relations.as_slice(), plain_ones.as_slice())
 }
 
-/// How the rows of several tasks become those of a query, where pushdown makes tasks of it.
+/// How the rows of several tasks become those of a block, where pushdown makes tasks of it.
 #[tactic(auto, using(crate::proofs::PushLaws::not_pushed, crate::proofs::PushLaws::kind_found))]
-fn pushed_kind(alloc: Global, catalog: &Catalog, query: &Query) -> Result<Option<Combine>, NoMemory>
+pub fn pushed_kind(
+    alloc: Global,
+    catalog: &Catalog,
+    query: &Query,
+) -> Result<Option<Combine>, NoMemory>
     ensures { IfOk result (λ kind. kind ≡ pushed_by catalog.now query.now) }
 {
     if !is_pushed(alloc, catalog, query)? {
@@ -194,22 +201,57 @@ fn pushed_kind(alloc: Global, catalog: &Catalog, query: &Query) -> Result<Option
     Ok(Some(combine_by(2, shares)))
 }
 
-/// How tasks' rows become those of a query, where tasks compute it by its looks: it has neither CTEs nor IN subqueries, distributed tables are
-/// read in several groups, and pushdown makes tasks of it.
-pub fn pushed_way(
+/// Whether a block reads reference tables and results alone, or pushdown makes tasks of it.
+fn is_planned(alloc: Global, catalog: &Catalog, query: &Query) -> Result<bool, NoMemory>
+    ensures { IfOk result (λ b. b ≡ is_planned_by_rule catalog.now query.now) }
+{
+    if is_over_references(catalog, query) {
+        Ok(true)
+    } else {
+        is_pushed(alloc, catalog, query)
+    }
+}
+
+/// Whether the blocks of CTEs and IN subqueries are such.
+fn are_steps_planned(
+    alloc: Global,
+    catalog: &Catalog,
+    steps: &[Step<'_>],
+) -> Result<bool, NoMemory>
+    ensures { IfOk result (λ b. b ≡ list_all (λ s. is_planned_by_rule catalog.now s.query) steps.now) }
+{
+    for step in steps {
+        if !is_planned(alloc, catalog, step.query())? {
+            return Ok(false);
+        }
+    }
+    Ok(true)
+}
+
+/// Whether all blocks of a statement are.
+fn are_planned(alloc: Global, catalog: &Catalog, query: &Query) -> Result<bool, NoMemory>
+    ensures { IfOk result (λ b. b ≡ are_planned_by_rule catalog.now query.now) }
+{
+    let schedule = steps_of(alloc, query)?;
+    if are_steps_planned(alloc, catalog, schedule.steps.as_slice())? {
+        is_planned(alloc, catalog, query)
+    } else {
+        Ok(false)
+    }
+}
+
+/// Whether a query is computed block by block over what its looks read: they are at distributed tables in several groups, none of its subqueries is
+/// cut without an order over all its outputs, and each block reads reference tables and results alone, or pushdown makes tasks of it.
+pub fn is_pushed_whole(
     alloc: Global,
     catalog: &Catalog,
     query: &Query,
     looks: &[Look],
-) -> Result<Option<Combine>, NoMemory>
-    ensures { IfOk result (λ way. way ≡ pushed_way_by_rule catalog.now query.now looks.now) }
+) -> Result<bool, NoMemory>
+    ensures { IfOk result (λ b. b ≡ is_pushed_whole_by_rule catalog.now query.now looks.now) }
 {
-    if !is_alone(query) {
-        return Ok(None);
+    if !are_several(count_tasks(catalog, looks)) || has_loose_cut(query) {
+        return Ok(false);
     }
-    if are_several(count_tasks(catalog, looks)) {
-        pushed_kind(alloc, catalog, query)
-    } else {
-        Ok(None)
-    }
+    are_planned(alloc, catalog, query)
 }
