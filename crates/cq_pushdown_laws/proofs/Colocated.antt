@@ -5,7 +5,7 @@ use Rattle.std.specs.List.{AllByRecursion, list_any, cons_option}
 use Rattle.std.proofs.lemmas.List.Folds.{list_any-append}
 use Rattle.cq_tree.specs.declared.query.FromTree.{FromTree, Table, Sub', Result, Cross', Inner', Left', end_of-FromTree, more_of-FromTree, end_of-Query, more_of-Query}
 use Rattle.cq_meaning.specs.Groups.{is_known}
-use Rattle.cq_meaning.specs.Values.{Row, column}
+use Rattle.cq_meaning.specs.Values.{Row, Results, column}
 use Rattle.cq_meaning.specs.Queries.{columns_in}
 use Rattle.cq_task_laws.proofs.CutLaws.{other}
 use Rattle.cq_catalog.specs.Contents.{Contents}
@@ -38,15 +38,15 @@ both_within a b start ra rb ha hb =
     all_append (IsWithin start (start + (a + b))) ra rb (wider start (start + a) start (start + (a + b)) (omega arith) (omega arith) ra ha)
     (wider (start + a) (start + a + b) start (start + (a + b)) (omega arith) (omega arith) rb hb)
 
-module _ (c : Contents) (held : Held) (groups : List ℕ) where
-  pub spread_within : (f : FromTree) (start : ℕ) (outer : Option OuterJoin) → IsSpread c held groups f start → AllByRecursion (IsWithin start (start + columns_in f)) (relations c f start outer)
+module _ (c : Contents) (held : Held) (results : Results) (groups : List ℕ) where
+  pub spread_within : (f : FromTree) (start : ℕ) (outer : Option OuterJoin) → IsSpread c held results groups f start → AllByRecursion (IsWithin start (start + columns_in f)) (relations c f start outer)
   spread_within f start outer spread =
       subst (AllByRecursion (IsWithin start (start + columns_in f))) (sym (single_is c f start outer spread.single)) (single_within (columns_in f) start outer (distribution_in c f 0) spread.column, tt)
 
-  pub all_within : (f : FromTree) (start : ℕ) → AreSpread c held groups f start → AllByRecursion (IsWithin start (start + columns_in f)) (relations c f start None)
+  pub all_within : (f : FromTree) (start : ℕ) → AreSpread c held results groups f start → AllByRecursion (IsWithin start (start + columns_in f)) (relations c f start None)
   all_within (Table t n) start spread = spread_within (Table t n) start None spread
   all_within (Sub' p (more_of-Query q end_of-Query)) start spread = spread_within (Sub' p (more_of-Query q end_of-Query)) start None spread
-  all_within (Result k n) start spread = absurd spread
+  all_within (Result k n) start spread = spread_within (Result k n) start None spread
   all_within (Cross' p (more_of-FromTree a end_of-FromTree) q (more_of-FromTree b end_of-FromTree)) start spread =
       both_within (columns_in a) (columns_in b) start (relations c a start None) (relations c b (start + columns_in a) None) (all_within a start spread.0) (all_within b (start + columns_in a) spread.1)
   all_within (Inner' p (more_of-FromTree a end_of-FromTree) q (more_of-FromTree b end_of-FromTree) on) start spread =

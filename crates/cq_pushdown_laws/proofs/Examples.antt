@@ -5,7 +5,7 @@ use Rattle.cq_value.specs.declared.schema.Kind.TheVariants.{Bigint}
 use Rattle.cq_tree.specs.declared.expression.Cond.{Cond, Always}
 use Rattle.cq_tree.specs.declared.expression.Expr.{Column}
 use Rattle.cq_tree.specs.declared.query.Agg.TheVariants as agg
-use Rattle.cq_tree.specs.declared.query.FromTree.{FromTree, Table, Sub', Cross', end_of-FromTree, more_of-FromTree, end_of-Query, more_of-Query}
+use Rattle.cq_tree.specs.declared.query.FromTree.{FromTree, Table, Sub', Result, Cross', end_of-FromTree, more_of-FromTree, end_of-Query, more_of-Query}
 use Rattle.cq_tree.specs.declared.query.FromTree.TheBlock.{shape-the_row-FromTree-1, shape-the_row-Query-0}
 use Rattle.cq_tree.specs.declared.query.Query.{Query, roll-Query}
 use Rattle.cq_catalog.specs.Contents.{Contents}
@@ -16,7 +16,7 @@ use Rattle.cq_planning.specs.Conjuncts.{conjuncts_of, equalities}
 use Rattle.cq_planning.specs.Pushable.{relations}
 use Rattle.cq_planning.specs.Relations.{Relation, distributions, is_plain}
 use Rattle.cq_planning_laws.proofs.Examples.{equal, both, inner, left}
-use Rattle.cq_pushdown_laws.specs.Pushed.{joins_pushed, are_pushed}
+use Rattle.cq_pushdown_laws.specs.Pushed.{reads_references, joins_pushed, are_pushed}
 
 abbrev five : Contents
 five = record {
@@ -42,6 +42,10 @@ v = Table 3 2
 
 abbrev r : FromTree
 r = Table 4 2
+
+-- a result of two columns
+abbrev e : FromTree
+e = Result 0 2
 
 abbrev cross : FromTree → FromTree → FromTree
 cross a b = Cross' (shape-the_row-FromTree-1 a) (more_of-FromTree a end_of-FromTree) (shape-the_row-FromTree-1 b) (more_of-FromTree b end_of-FromTree)
@@ -157,3 +161,25 @@ sub_of_sub = refl
 sub_of_reference : pushed (inner u (counts r 1) (equal 1 2)) Always ≡ true
 unfolding roll-Query denote.Hole.Carrier.roll
 sub_of_reference = refl
+
+-- ---- results
+
+with_result : pushed (inner t e (equal 0 2)) Always ≡ true
+with_result = refl
+
+right_result : pushed (left t e (equal 0 2)) Always ≡ true
+right_result = refl
+
+-- a distributed table at the right of a result is planned by itself
+left_result : pushed (left e t (equal 0 2)) Always ≡ false
+left_result = refl
+
+results_alone : pushed (inner e r (equal 0 2)) Always ≡ false
+results_alone = refl
+
+results_suffice : reads_references five (inner e r (equal 0 2)) ≡ true
+results_suffice = refl
+
+sub_of_result : pushed (inner u (counts e 1) (equal 1 2)) Always ≡ true
+unfolding roll-Query denote.Hole.Carrier.roll
+sub_of_result = refl

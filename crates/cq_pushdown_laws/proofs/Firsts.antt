@@ -3,11 +3,11 @@ use Rattle.std.proofs.Common.{◌≡◌, ◌+◌, ◌<◌, ◌≤◌, ◌⊎◌,
 use Rattle.std.specs.Prelude.{not, ◌&&◌, ◌||◌}
 use Rattle.std.specs.List.{AllByRecursion, list_any}
 use Rattle.std.proofs.lemmas.List.Elements.{filter-append}
-use Rattle.cq_tree.specs.declared.expression.Cond.{Cond}
 use Rattle.cq_tree.specs.declared.query.FromTree.{FromTree, Table, Sub', Result, Cross', Inner', Left', end_of-FromTree, more_of-FromTree, end_of-Query, more_of-Query}
 use Rattle.cq_meaning.specs.Lists.{Has}
 use Rattle.cq_meaning.specs.Queries.{columns_in}
-use Rattle.cq_meaning.proofs.RowLaws.{has_either, filtered_has, filter_same, filter_none}
+use Rattle.cq_meaning.specs.Values.{Results}
+use Rattle.cq_meaning.proofs.RowLaws.{has_either, filtered_has, filter_same}
 use Rattle.cq_task_laws.proofs.LargeLaws.{any_at}
 use Rattle.cq_catalog.specs.Contents.{Contents}
 use Rattle.cq_planning.specs.Conjuncts.{conjuncts, equalities}
@@ -72,7 +72,7 @@ stays_there true true l e = refl
 stays_there true false l e = cc
 stays_there false s l e = refl
 
-module _ (c : Contents) (held : Held) (groups : List ℕ) (first : ℕ → ℕ) (rels : List Relation) where
+module _ (c : Contents) (held : Held) (results : Results) (groups : List ℕ) (first : ℕ → ℕ) (rels : List Relation) where
   abbrev pub Stays : Relation → Type 0
   Stays r = strays first rels r ≡ false
 
@@ -84,7 +84,7 @@ module _ (c : Contents) (held : Held) (groups : List ℕ) (first : ℕ → ℕ) 
   single_first start None = inl (refl, refl)
   single_first start (Some d) = inr (record { head = single_at start (Some d) None; more = []; others = []; first = refl; second = refl })
 
-  spread_first : (f : FromTree) (start : ℕ) → IsSpread c held groups f start → ShareFirst is_distributed is_plain (relations c f start None)
+  spread_first : (f : FromTree) (start : ℕ) → IsSpread c held results groups f start → ShareFirst is_distributed is_plain (relations c f start None)
   spread_first f start spread = subst (ShareFirst is_distributed is_plain) (sym (single_is c f start None spread.single)) (single_first start (distribution_in c f 0))
 
   -- behind a left side without a distributed relation none is
@@ -116,22 +116,22 @@ module _ (c : Contents) (held : Held) (groups : List ℕ) (first : ℕ → ℕ) 
       | inr there ↦ there
     ]
 
-  share_first : (f : FromTree) (start : ℕ) → AreSpread c held groups f start → AllByRecursion Stays (relations c f start None) → Owns f start → ShareFirst is_distributed is_plain (relations c f start None)
+  share_first : (f : FromTree) (start : ℕ) → AreSpread c held results groups f start → AllByRecursion Stays (relations c f start None) → Owns f start → ShareFirst is_distributed is_plain (relations c f start None)
   share_first (Table t n) start spread stay owns = spread_first (Table t n) start spread
   share_first (Sub' p (more_of-Query q end_of-Query)) start spread stay owns = spread_first (Sub' p (more_of-Query q end_of-Query)) start spread
-  share_first (Result k n) start spread stay owns = absurd spread
+  share_first (Result k n) start spread stay owns = spread_first (Result k n) start spread
   share_first (Cross' p (more_of-FromTree a end_of-FromTree) q (more_of-FromTree b end_of-FromTree)) start spread stay owns =
       let ra : List Relation = relations c a start None in
       let rb : List Relation = relations c b (start + columns_in a) None in
-      let within_a = all_within c held groups a start spread.0 in
-      let within_b = all_within c held groups b (start + columns_in a) spread.1 in
+      let within_a = all_within c held results groups a start spread.0 in
+      let within_b = all_within c held results groups b (start + columns_in a) spread.1 in
       both_share is_distributed is_plain ra rb (share_first a start spread.0 (all_left Stays ra rb stay) (owns_left a (columns_in b) start rb within_a within_b owns))
       (λ none. share_first b (start + columns_in a) spread.1 (all_right Stays ra rb stay) (owns_right a (columns_in b) start rb within_a within_b owns))
   share_first (Inner' p (more_of-FromTree a end_of-FromTree) q (more_of-FromTree b end_of-FromTree) on) start spread stay owns =
       let ra : List Relation = relations c a start None in
       let rb : List Relation = relations c b (start + columns_in a) None in
-      let within_a = all_within c held groups a start spread.0 in
-      let within_b = all_within c held groups b (start + columns_in a) spread.1 in
+      let within_a = all_within c held results groups a start spread.0 in
+      let within_b = all_within c held results groups b (start + columns_in a) spread.1 in
       both_share is_distributed is_plain ra rb (share_first a start spread.0 (all_left Stays ra rb stay) (owns_left a (columns_in b) start rb within_a within_b owns))
       (λ none. share_first b (start + columns_in a) spread.1 (all_right Stays ra rb stay) (owns_right a (columns_in b) start rb within_a within_b owns))
   share_first (Left' p (more_of-FromTree a end_of-FromTree) q (more_of-FromTree b end_of-FromTree) on) start spread stay owns =
@@ -140,16 +140,16 @@ module _ (c : Contents) (held : Held) (groups : List ℕ) (first : ℕ → ℕ) 
       let ra : List Relation = relations c a start None in
       let rb : List Relation = relations c b (start + columns_in a) o in
       let is = single_is c b (start + columns_in a) o spread.1.single in
-      let own_a = owns_left a (columns_in b) start rb (all_within c held groups a start spread.0) (spread_within c held groups b (start + columns_in a) o spread.1) owns in
+      let own_a = owns_left a (columns_in b) start rb (all_within c held results groups a start spread.0) (spread_within c held results groups b (start + columns_in a) o spread.1) owns in
       both_share is_distributed is_plain ra rb (share_first a start spread.0 (all_left Stays ra rb stay) own_a)
       (λ none. inl (subst (HaveNone is_distributed is_plain) (sym is) (right_none start (columns_in a) (distribution_in c b 0) pairs
       (λ l h d lo hi. subst (λ us. Has us l) none.0 (filtered_has is_distributed ra l (own_a l h d lo hi) d))
       (subst (AllByRecursion Stays) is (all_right Stays ra rb stay)).0)))
 
 -- the distribution columns that stay in the block begin with that of the first relation that isn't a right side
-pub first_stays : (c : Contents) (held : Held) (groups : List ℕ) (first : ℕ → ℕ) (from : FromTree) → AreSpread c held groups from 0 → let rels = relations c from 0 None in
+pub first_stays : (c : Contents) (held : Held) (results : Results) (groups : List ℕ) (first : ℕ → ℕ) (from : FromTree) → AreSpread c held results groups from 0 → let rels = relations c from 0 None in
     AllByRecursion (λ r. strays first rels r ≡ false) rels → (d : Distribution) (ds : List Distribution) → distributions is_plain rels ≡ d ∷ ds → (more : List Distribution) × (distributions (is_left_in_block rels) rels ≡ d ∷ more)
-first_stays c held groups first from spread stay d ds e = by_first (share_first c held groups first rels from 0 spread stay (λ l h y lo hi. h))
+first_stays c held results groups first from spread stay d ds e = by_first (share_first c held results groups first rels from 0 spread stay (λ l h y lo hi. h))
   where
     rels : List Relation
     rels = relations c from 0 None

@@ -8,7 +8,7 @@ use Rattle.cq_tree.specs.declared.expression.Cond.{Cond}
 use Rattle.cq_tree.specs.declared.query.FromTree.{FromTree, Table, Sub', Result, Cross', Inner', Left', end_of-FromTree, more_of-FromTree, end_of-Query, more_of-Query}
 use Rattle.cq_meaning.specs.Groups.{is_known}
 use Rattle.cq_meaning.specs.Lists.{Has}
-use Rattle.cq_meaning.specs.Values.{Row, column}
+use Rattle.cq_meaning.specs.Values.{Row, Results, column}
 use Rattle.cq_meaning.specs.Queries.{columns_in, joins, from_rows}
 use Rattle.cq_task_laws.specs.Cutting.{width_of, IsChoice, RightsStand}
 use Rattle.cq_task_laws.proofs.CutLaws.{take_left, drop_left}
@@ -67,7 +67,7 @@ module _ (first : ℕ → ℕ) (rels : List Relation) where
 
 -- ---- where right sides stand
 
-module _ (c : Contents) (held : Held) (groups : List ℕ) (whole_row : Row) (i : ℕ) (first : ℕ → ℕ) (rels : List Relation)
+module _ (c : Contents) (held : Held) (results : Results) (groups : List ℕ) (whole_row : Row) (i : ℕ) (first : ℕ → ℕ) (rels : List Relation)
     (classes : (x y : ℕ) → first x ≡ first y → column whole_row x ≡ column whole_row y) (plain : AllByRecursion (λ d. home_by c whole_row d ≡ i) (distributions is_plain rels)) where
   -- where the row has a value there, the value's group is this one
   abbrev StandsBy : Distribution → Type 0
@@ -142,11 +142,11 @@ module _ (c : Contents) (held : Held) (groups : List ℕ) (whole_row : Row) (i :
         by_test true = all_append StandsBy earlier (record { column = start + wa + d.column; colocation = d.colocation } ∷ []) stand (stands_by given, tt)
         by_test false = stand
 
-  right_side : (b : FromTree) (on : Cond) (start wa : ℕ) → IsSpread c held groups b (start + wa) → (l y : Row) → length l ≡ wa → IsPart whole_row start (wa + columns_in b) (l ++ y) →
-      (y ≡ replicate (columns_in b) Null) ⊎ (Has (from_rows b (start + wa) (whole c held) []) y × (joins on [] start (l ++ y) ≡ true)) → (earlier : List Distribution) →
+  right_side : (b : FromTree) (on : Cond) (start wa : ℕ) → IsSpread c held results groups b (start + wa) → (l y : Row) → length l ≡ wa → IsPart whole_row start (wa + columns_in b) (l ++ y) →
+      (y ≡ replicate (columns_in b) Null) ⊎ (Has (from_rows b (start + wa) (whole c held) results) y × (joins on results start (l ++ y) ≡ true)) → (earlier : List Distribution) →
       let rb = relations c b (start + wa) (Some (record { left = start; equalities = equalities (conjuncts on) })) in
       AllByRecursion Stays rb → Follows first rels (start + wa) (columns_in b) earlier rb → AreBelow (start + wa) earlier → AllByRecursion StandsBy earlier →
-      ((side_of c b).cut ≡ true → (z : Row) → Has (from_rows b (start + wa) (whole c held) []) z → joins on [] start (l ++ z) ≡ true → (side_of c b).home z ≡ i)
+      ((side_of c b).cut ≡ true → (z : Row) → Has (from_rows b (start + wa) (whole c held) results) z → joins on results start (l ++ z) ≡ true → (side_of c b).home z ≡ i)
       × AllByRecursion StandsBy (fold (with_colocated first rels) earlier rb)
   right_side b on start wa spread l y long here given earlier stay follows below stand =
       let pairs : List (ℕ × ℕ) = equalities (conjuncts on) in
@@ -155,7 +155,7 @@ module _ (c : Contents) (held : Held) (groups : List ℕ) (whole_row : Row) (i :
       let stays = (subst (AllByRecursion Stays) is stay).0 in
       let follow = subst (Follows first rels (start + wa) (columns_in b) earlier) is follows in
       let part : IsPart whole_row start wa l = part_left whole_row start l y wa (columns_in b) long here in
-      let agrees : (z : Row) → joins on [] start (l ++ z) ≡ true → AllByRecursion (Agrees (pad start (l ++ z))) pairs = λ z k. pairs_agree (pad start (l ++ z)) (conjuncts on) (kept_says (pad start (l ++ z)) [] on k) in (
+      let agrees : (z : Row) → joins on results start (l ++ z) ≡ true → AllByRecursion (Agrees (pad start (l ++ z))) pairs = λ z k. pairs_agree (pad start (l ++ z)) (conjuncts on) (kept_says (pad start (l ++ z)) results on k) in (
         λ cut z h k. right_home start wa l long part pairs earlier below stand (columns_in b) d spread.column stays follow cut z (agrees z k),
         subst (λ rs. AllByRecursion StandsBy (fold (with_colocated first rels) earlier rs)) (sym is)
             (right_known start wa l long part pairs earlier below stand (columns_in b) d spread.column stays follow y here (elim given [ inl nulls ↦ inl nulls | inr k ↦ inr (agrees y k.1) ])),
@@ -171,43 +171,43 @@ module _ (c : Contents) (held : Held) (groups : List ℕ) (whole_row : Row) (i :
   abbrev pub StandAfter : FromTree → ℕ → Row → List Distribution → Type 0
   StandAfter f start row earlier =
       AllByRecursion Stays (relations c f start None) → Follows first rels start (columns_in f) earlier (relations c f start None) → AreBelow start earlier → AllByRecursion StandsBy earlier →
-      RightsStand (own c held start f) i row × AllByRecursion StandsBy (fold (with_colocated first rels) earlier (relations c f start None))
+      RightsStand (own c held results start f) i row × AllByRecursion StandsBy (fold (with_colocated first rels) earlier (relations c f start None))
 
-  both_stand : (a b : FromTree) (start : ℕ) (l y row : Row) (earlier : List Distribution) → AreSpread c held groups a start × AreSpread c held groups b (start + columns_in a) → length l ≡ columns_in a → row ≡ l ++ y →
+  both_stand : (a b : FromTree) (start : ℕ) (l y row : Row) (earlier : List Distribution) → AreSpread c held results groups a start × AreSpread c held results groups b (start + columns_in a) → length l ≡ columns_in a → row ≡ l ++ y →
       StandAfter a start l earlier → ((more : List Distribution) → StandAfter b (start + columns_in a) y more) →
       AllByRecursion Stays (relations c a start None ++ relations c b (start + columns_in a) None) →
       Follows first rels start (columns_in a + columns_in b) earlier (relations c a start None ++ relations c b (start + columns_in a) None) → AreBelow start earlier → AllByRecursion StandsBy earlier →
-      (RightsStand (own c held start a) i (take (width_of (own c held start a)) row) × RightsStand (own c held (start + columns_in a) b) i (drop (width_of (own c held start a)) row))
+      (RightsStand (own c held results start a) i (take (width_of (own c held results start a)) row) × RightsStand (own c held results (start + columns_in a) b) i (drop (width_of (own c held results start a)) row))
       × AllByRecursion StandsBy (fold (with_colocated first rels) earlier (relations c a start None ++ relations c b (start + columns_in a) None))
   both_stand a b start l y row earlier spread long e in_a in_b stay follows below stand =
       let wa : ℕ = columns_in a in
       let wb : ℕ = columns_in b in
       let ra : List Relation = relations c a start None in
       let rb : List Relation = relations c b (start + wa) None in
-      let w : ℕ = width_of (own c held start a) in
-      let wide : length l ≡ w = long ∙ sym (own_width c held a start) in
-      let within_a = all_within c held groups a start spread.0 in
-      let within_b = all_within c held groups b (start + wa) spread.1 in
+      let w : ℕ = width_of (own c held results start a) in
+      let wide : length l ≡ w = long ∙ sym (own_width c held results a start) in
+      let within_a = all_within c held results groups a start spread.0 in
+      let within_b = all_within c held results groups b (start + wa) spread.1 in
       let left_part = in_a (all_left Stays ra rb stay) (follows_left first rels start wa wb ra rb within_a within_b earlier follows below) below stand in
       let right_part = in_b (fold (with_colocated first rels) earlier ra) (all_right Stays ra rb stay) (follows_right first rels start wa wb ra rb within_a within_b earlier follows below)
       (below_right first rels start wa wb ra rb within_a within_b earlier follows below) left_part.1 in (
-        (subst (RightsStand (own c held start a) i) (sym (ap (take w) e ∙ take_left l y w wide)) left_part.0, subst (RightsStand (own c held (start + wa) b) i) (sym (ap (drop w) e ∙ drop_left l y w wide)) right_part.0),
+        (subst (RightsStand (own c held results start a) i) (sym (ap (take w) e ∙ take_left l y w wide)) left_part.0, subst (RightsStand (own c held results (start + wa) b) i) (sym (ap (drop w) e ∙ drop_left l y w wide)) right_part.0),
         subst (AllByRecursion StandsBy) (sym (fold-append (with_colocated first rels) earlier ra rb)) right_part.1,
       )
 
   single_stands : (f : FromTree) (start : ℕ) (row : Row) (earlier : List Distribution) → is_single f ≡ true → AllByRecursion StandsBy earlier → AllByRecursion StandsBy (fold (with_colocated first rels) earlier (relations c f start None))
   single_stands f start row earlier single stand = subst (AllByRecursion StandsBy) (sym (ap (fold (with_colocated first rels) earlier) (single_is c f start None single) ∙ plain_adds start (distribution_in c f 0) earlier)) stand
 
-  pub rights_stand : (f : FromTree) (start : ℕ) (row : Row) (earlier : List Distribution) → AreSpread c held groups f start → IsChoice (own c held start f) row → IsPart whole_row start (columns_in f) row → StandAfter f start row earlier
+  pub rights_stand : (f : FromTree) (start : ℕ) (row : Row) (earlier : List Distribution) → AreSpread c held results groups f start → IsChoice (own c held results start f) row → IsPart whole_row start (columns_in f) row → StandAfter f start row earlier
   rights_stand (Table t n) start row earlier spread h part stay follows below stand = (tt, single_stands (Table t n) start row earlier refl stand)
   rights_stand (Sub' p (more_of-Query q end_of-Query)) start row earlier spread h part stay follows below stand = (tt, single_stands (Sub' p (more_of-Query q end_of-Query)) start row earlier refl stand)
-  rights_stand (Result k n) start row earlier spread h part stay follows below stand = absurd spread
+  rights_stand (Result k n) start row earlier spread h part stay follows below stand = (tt, single_stands (Result k n) start row earlier refl stand)
   rights_stand (Cross' p (more_of-FromTree a end_of-FromTree) q (more_of-FromTree b end_of-FromTree)) start row earlier spread (l, y, ca, cb, m, e) part stay follows below stand =
-      let s = split c held groups whole_row a start (columns_in b) l y row spread.0 ca e part in
+      let s = split c held results groups whole_row a start (columns_in b) l y row spread.0 ca e part in
       both_stand a b start l y row earlier spread s.long e (rights_stand a start l earlier spread.0 ca s.left_part) (λ more. rights_stand b (start + columns_in a) y more spread.1 cb s.right_part)
       stay follows below stand
   rights_stand (Inner' p (more_of-FromTree a end_of-FromTree) q (more_of-FromTree b end_of-FromTree) on) start row earlier spread (l, y, ca, cb, m, e) part stay follows below stand =
-      let s = split c held groups whole_row a start (columns_in b) l y row spread.0 ca e part in
+      let s = split c held results groups whole_row a start (columns_in b) l y row spread.0 ca e part in
       both_stand a b start l y row earlier spread s.long e (rights_stand a start l earlier spread.0 ca s.left_part) (λ more. rights_stand b (start + columns_in a) y more spread.1 cb s.right_part)
       stay follows below stand
   rights_stand (Left' p (more_of-FromTree a end_of-FromTree) q (more_of-FromTree b end_of-FromTree) on) start row earlier spread (l, y, ca, given, e) part stay follows below stand =
@@ -216,17 +216,17 @@ module _ (c : Contents) (held : Held) (groups : List ℕ) (whole_row : Row) (i :
       let ra : List Relation = relations c a start None in
       let o : Option OuterJoin = Some (record { left = start; equalities = equalities (conjuncts on) }) in
       let rb : List Relation = relations c b (start + wa) o in
-      let w : ℕ = width_of (own c held start a) in
-      let s = split c held groups whole_row a start wb l y row spread.0 ca e part in
-      let within_a = all_within c held groups a start spread.0 in
-      let within_b = spread_within c held groups b (start + wa) o spread.1 in
+      let w : ℕ = width_of (own c held results start a) in
+      let s = split c held results groups whole_row a start wb l y row spread.0 ca e part in
+      let within_a = all_within c held results groups a start spread.0 in
+      let within_b = spread_within c held results groups b (start + wa) o spread.1 in
       let left_part = rights_stand a start l earlier spread.0 ca s.left_part (all_left Stays ra rb stay) (follows_left first rels start wa wb ra rb within_a within_b earlier follows below) below stand in
       let right_part = right_side b on start wa spread.1 l y s.long s.both given (fold (with_colocated first rels) earlier ra) (all_right Stays ra rb stay)
       (follows_right first rels start wa wb ra rb within_a within_b earlier follows below) (below_right first rels start wa wb ra rb within_a within_b earlier follows below) left_part.1 in
-      let taken : take w row ≡ l = ap (take w) e ∙ take_left l y w (s.long ∙ sym (own_width c held a start)) in (
+      let taken : take w row ≡ l = ap (take w) e ∙ take_left l y w (s.long ∙ sym (own_width c held results a start)) in (
         (
-          subst (RightsStand (own c held start a) i) (sym taken) left_part.0,
-          λ cut z h k. right_part.0 cut z h (subst (λ u. joins on [] start (u ++ z) ≡ true) taken k),
+          subst (RightsStand (own c held results start a) i) (sym taken) left_part.0,
+          λ cut z h k. right_part.0 cut z h (subst (λ u. joins on results start (u ++ z) ≡ true) taken k),
         ),
         subst (AllByRecursion StandsBy) (sym (fold-append (with_colocated first rels) earlier ra rb)) right_part.1,
       )

@@ -11,7 +11,7 @@ use Rattle.cq_tree.specs.declared.query.FromTree.{FromTree}
 use Rattle.cq_tree.specs.declared.query.Query.{Query, Query'}
 use Rattle.cq_value.specs.declared.value.Value.{Value}
 use Rattle.cq_meaning.specs.declared.Group.{Group}
-use Rattle.cq_meaning.specs.Values.{Row, column}
+use Rattle.cq_meaning.specs.Values.{Row, Results, column}
 use Rattle.cq_meaning.specs.Expressions.{value_of, items_of, keeps}
 use Rattle.cq_meaning.specs.Groups.{group_row, group_with, groups_of, aggregate, distinct}
 use Rattle.cq_meaning.specs.Lists.{Has}
@@ -66,49 +66,50 @@ taken_within (suc n) (x ∷ xs) (suc j) l = let u = taken_within n xs j (omega (
 
 -- ---- columns of the class of the distribution column
 
-module _ (rs : List (List Row)) (first : ℕ → ℕ) (at : ℕ) where
+module _ (first : ℕ → ℕ) (at : ℕ) where
   -- in a row the columns of the class have one value
   abbrev pub IsOneValued : Row → Type 0
   IsOneValued row = (k : ℕ) → first k ≡ first at → column row k ≡ column row at
 
-  of_expression : (e : Expr) → is_of_class first at (column_of e) ≡ true → (row : Row) → IsOneValued row → value_of e row rs ≡ column row at
-  of_expression (Column k) h row same = same k (same_number (first k) (first at) h)
-  of_expression _ h row same = cc
+  module _ (rs : Results) where
+    of_expression : (e : Expr) → is_of_class first at (column_of e) ≡ true → (row : Row) → IsOneValued row → value_of e row rs ≡ column row at
+    of_expression (Column k) h row same = same k (same_number (first k) (first at) h)
+    of_expression _ h row same = cc
 
-  item_at : (es : List Expr) (j : ℕ) → j < length es → is_of_class first at (column_of (slice_index_or es j (Column 0))) ≡ true → (row : Row) → IsOneValued row → column (items_of es rs row) j ≡ column row at
-  item_at [] j l h row same = absurd (omega (arith, l))
-  item_at (e ∷ es) zero l h row same = of_expression e h row same
-  item_at (e ∷ es) (suc j) l h row same = item_at es j (omega (arith, l)) h row same
+    item_at : (es : List Expr) (j : ℕ) → j < length es → is_of_class first at (column_of (slice_index_or es j (Column 0))) ≡ true → (row : Row) → IsOneValued row → column (items_of es rs row) j ≡ column row at
+    item_at [] j l h row same = absurd (omega (arith, l))
+    item_at (e ∷ es) zero l h row same = of_expression e h row same
+    item_at (e ∷ es) (suc j) l h row same = item_at es j (omega (arith, l)) h row same
 
-  -- a key of the class, in a group's row
-  of_key : (keys : List Expr) (k : ℕ) → k < length keys → is_of_class first at (column_of (slice_index_or keys k (Column 0))) ≡ true → (row rest : Row) → IsOneValued row → column (items_of keys rs row ++ rest) k ≡ column row at
-  of_key [] k l h row rest same = absurd (omega (arith, l))
-  of_key (e ∷ keys) zero l h row rest same = of_expression e h row same
-  of_key (e ∷ keys) (suc k) l h row rest same = of_key keys k (omega (arith, l)) h row rest same
+    -- a key of the class, in a group's row
+    of_key : (keys : List Expr) (k : ℕ) → k < length keys → is_of_class first at (column_of (slice_index_or keys k (Column 0))) ≡ true → (row rest : Row) → IsOneValued row → column (items_of keys rs row ++ rest) k ≡ column row at
+    of_key [] k l h row rest same = absurd (omega (arith, l))
+    of_key (e ∷ keys) zero l h row rest same = of_expression e h row same
+    of_key (e ∷ keys) (suc k) l h row rest same = of_key keys k (omega (arith, l)) h row rest same
 
-  of_output : (keys : List Expr) (e : Expr) → is_of_class first at (column_behind true keys (column_of e)) ≡ true → (row rest : Row) → IsOneValued row → value_of e (items_of keys rs row ++ rest) rs ≡ column row at
-  of_output keys (Column k) h row rest same = elim (two_ways (nat_lt k (length keys))) [
-    | inl y ↦ (
-        let g : is_of_class first at (column_of (slice_index_or keys k (Column 0))) ≡ true = rw y at h in
-        of_key keys k (lt_of k (length keys) y) g row rest same
-        )
-    | inr f ↦ (let bad : false ≡ true = rw f at h in cc)
-  ]
-    where
-      lt_of : (a b : ℕ) → nat_lt a b ≡ true → a < b
-      lt_of a b h = grind (arith, h)
-  of_output keys _ h row rest same = cc
+    of_output : (keys : List Expr) (e : Expr) → is_of_class first at (column_behind true keys (column_of e)) ≡ true → (row rest : Row) → IsOneValued row → value_of e (items_of keys rs row ++ rest) rs ≡ column row at
+    of_output keys (Column k) h row rest same = elim (two_ways (nat_lt k (length keys))) [
+      | inl y ↦ (
+          let g : is_of_class first at (column_of (slice_index_or keys k (Column 0))) ≡ true = rw y at h in
+          of_key keys k (lt_of k (length keys) y) g row rest same
+          )
+      | inr f ↦ (let bad : false ≡ true = rw f at h in cc)
+    ]
+      where
+        lt_of : (a b : ℕ) → nat_lt a b ≡ true → a < b
+        lt_of a b h = grind (arith, h)
+    of_output keys _ h row rest same = cc
 
-  output_at : (keys items : List Expr) (j : ℕ) → j < length items → is_of_class first at (column_behind true keys (column_of (slice_index_or items j (Column 0)))) ≡ true →
-      (row rest : Row) → IsOneValued row → column (items_of items rs (items_of keys rs row ++ rest)) j ≡ column row at
-  output_at keys [] j l h row rest same = absurd (omega (arith, l))
-  output_at keys (e ∷ es) zero l h row rest same = of_output keys e h row rest same
-  output_at keys (e ∷ es) (suc j) l h row rest same = output_at keys es j (omega (arith, l)) h row rest same
+    output_at : (keys items : List Expr) (j : ℕ) → j < length items → is_of_class first at (column_behind true keys (column_of (slice_index_or items j (Column 0)))) ≡ true →
+        (row rest : Row) → IsOneValued row → column (items_of items rs (items_of keys rs row ++ rest)) j ≡ column row at
+    output_at keys [] j l h row rest same = absurd (omega (arith, l))
+    output_at keys (e ∷ es) zero l h row rest same = of_output keys e h row rest same
+    output_at keys (e ∷ es) (suc j) l h row rest same = output_at keys es j (omega (arith, l)) h row rest same
 
 -- ---- groups
 
 -- a group of some rows, where there are keys, has those of one of them
-group_source : (e : Expr) (es : List Expr) (rs : List (List Row)) (rows : List Row) (g : Group) → Has (groups_of (e ∷ es) rs rows) g → (r : Row) × Has rows r × (items_of (e ∷ es) rs r ≡ g.keys)
+group_source : (e : Expr) (es : List Expr) (rs : Results) (rows : List Row) (g : Group) → Has (groups_of (e ∷ es) rs rows) g → (r : Row) × Has rows r × (items_of (e ∷ es) rs r ≡ g.keys)
 group_source e es rs rows g h =
     let key : Row → Row = items_of (e ∷ es) rs in
     let u : (k : Row) × Has (distinct (map key rows)) k × (group_with key rows k ≡ g) = mapped_has (group_with key rows) (distinct (map key rows)) g h in
@@ -116,8 +117,8 @@ group_source e es rs rows g h =
     (v.0, v.1, v.2 ∙ ap (λ (x : Group). x.keys) u.2)
 
 -- a value of a row that is made of a group's row
-read_by : (items : List Expr) (j : ℕ) {x v s : Row} {w : Value} → items_of items [] v ≡ x → s ≡ v → column (items_of items [] s) j ≡ w → column x j ≡ w
-read_by items j p q r = ap (λ (y : Row). column y j) (sym p) ∙ ap (λ (y : Row). column (items_of items [] y) j) (sym q) ∙ r
+read_by : (items : List Expr) (rs : Results) (j : ℕ) {x v s : Row} {w : Value} → items_of items rs v ≡ x → s ≡ v → column (items_of items rs s) j ≡ w → column x j ≡ w
+read_by items rs j p q r = ap (λ (y : Row). column y j) (sym p) ∙ ap (λ (y : Row). column (items_of items rs y) j) (sym q) ∙ r
 
 -- ---- what rows are made of
 
@@ -127,39 +128,40 @@ module _ (filter_ : Cond) (from : FromTree) (at : ℕ) where
 
   -- a row that is kept, whose columns of the class have one value
   abbrev pub IsOne : Row → Type 0
-  IsOne row = IsOneValued [] firsts at row
+  IsOne row = IsOneValued firsts at row
 
-  -- a row that is kept, which has the value in its column of the class that a made row has in one of its own
-  pub record Source (p : List Row) (j : ℕ) (x : Row) : Type 0 where
-    pub row : Row
-    pub there : Has p row
-    pub kept : keeps filter_ [] row ≡ true
-    pub value : IsOne row → column x j ≡ column row at
+  module _ (results : Results) where
+    -- a row that is kept, which has the value in its column of the class that a made row has in one of its own
+    pub record Source (p : List Row) (j : ℕ) (x : Row) : Type 0 where
+      pub row : Row
+      pub there : Has p row
+      pub kept : keeps filter_ results row ≡ true
+      pub value : IsOne row → column x j ≡ column row at
 
-  -- a row's keys
-  key_source : (keys : List Expr) (j : ℕ) → j < length keys → is_of_class firsts at (column_of (slice_index_or keys j (Column 0))) ≡ true → (p : List Row) (x : Row) → Has (filter (keeps filter_ []) p) x → Source p j (items_of keys [] x)
-  key_source keys j l h p x k =
-      let v : Has p x × (keeps filter_ [] x ≡ true) = has_filtered (keeps filter_ []) p x k in
-      record { row = x; there = v.0; kept = v.1; value = λ single. item_at [] firsts at keys j l h x single }
+    -- a row's keys
+    key_source : (keys : List Expr) (j : ℕ) → j < length keys → is_of_class firsts at (column_of (slice_index_or keys j (Column 0))) ≡ true → (p : List Row) (x : Row) → Has (filter (keeps filter_ results) p) x → Source p j (items_of keys results x)
+    key_source keys j l h p x k =
+        let v : Has p x × (keeps filter_ results x ≡ true) = has_filtered (keeps filter_ results) p x k in
+        record { row = x; there = v.0; kept = v.1; value = λ single. item_at firsts at results keys j l h x single }
 
-  -- an output row's, where the output is a bare column of the class
-  pub item_source : (grouped : Bool) (keys : List Expr) (aggs : List Agg) (having : Cond) (items : List Expr) (j : ℕ) → (grouped ≡ true → IsNonEmpty keys) → j < length items →
-      is_of_class firsts at (column_behind grouped keys (column_of (slice_index_or items j (Column 0)))) ≡ true → (p : List Row) (x : Row) → Has (item_rows filter_ grouped keys aggs having items [] p) x → Source p j x
-  item_source false keys aggs having items j some l h p x k =
-      let v : (r : Row) × Has (filter (keeps filter_ []) p) r × (items_of items [] r ≡ x) = mapped_has (items_of items []) (filter (keeps filter_ []) p) x k in
-      let w : Has p v.0 × (keeps filter_ [] v.0 ≡ true) = has_filtered (keeps filter_ []) p v.0 v.1 in
-      record { row = v.0; there = w.0; kept = w.1; value = λ single. ap (λ (y : Row). column y j) (sym v.2) ∙ item_at [] firsts at items j l h v.0 single }
-  item_source true [] aggs having items j some l h p x k = absurd (some refl)
-  item_source true (e ∷ es) aggs having items j some l h p x k =
-      let made : List Group = groups_of (e ∷ es) [] (filter (keeps filter_ []) p) in
-      let v : (s : Row) × Has (filter (keeps having []) (map (group_row aggs []) made)) s × (items_of items [] s ≡ x) = mapped_has (items_of items []) (filter (keeps having []) (map (group_row aggs []) made)) x k in
-      let w : Has (map (group_row aggs []) made) v.0 × (keeps having [] v.0 ≡ true) = has_filtered (keeps having []) (map (group_row aggs []) made) v.0 v.1 in
-      let z : (d : Group) × Has made d × (group_row aggs [] d ≡ v.0) = mapped_has (group_row aggs []) made v.0 w.0 in
-      let r : (row : Row) × Has (filter (keeps filter_ []) p) row × (items_of (e ∷ es) [] row ≡ z.0.keys) = group_source e es [] (filter (keeps filter_ []) p) z.0 z.1 in
-      let m : Has p r.0 × (keeps filter_ [] r.0 ≡ true) = has_filtered (keeps filter_ []) p r.0 r.1 in
-      let rest : Row = map (aggregate [] z.0.rows) aggs in
-      let same : items_of (e ∷ es) [] r.0 ++ rest ≡ v.0 = ap (λ (ks : Row). ks ++ rest) r.2 ∙ z.2 in
-      record { row = r.0; there = m.0; kept = m.1; value = λ single. read_by items j v.2 same (output_at [] firsts at (e ∷ es) items j l h r.0 rest single) }
+    -- an output row's, where the output is a bare column of the class
+    pub item_source : (grouped : Bool) (keys : List Expr) (aggs : List Agg) (having : Cond) (items : List Expr) (j : ℕ) → (grouped ≡ true → IsNonEmpty keys) → j < length items →
+        is_of_class firsts at (column_behind grouped keys (column_of (slice_index_or items j (Column 0)))) ≡ true → (p : List Row) (x : Row) → Has (item_rows filter_ grouped keys aggs having items results p) x → Source p j x
+    item_source false keys aggs having items j some l h p x k =
+        let v : (r : Row) × Has (filter (keeps filter_ results) p) r × (items_of items results r ≡ x) = mapped_has (items_of items results) (filter (keeps filter_ results) p) x k in
+        let w : Has p v.0 × (keeps filter_ results v.0 ≡ true) = has_filtered (keeps filter_ results) p v.0 v.1 in
+        record { row = v.0; there = w.0; kept = w.1; value = λ single. ap (λ (y : Row). column y j) (sym v.2) ∙ item_at firsts at results items j l h v.0 single }
+    item_source true [] aggs having items j some l h p x k = absurd (some refl)
+    item_source true (e ∷ es) aggs having items j some l h p x k =
+        let made : List Group = groups_of (e ∷ es) results (filter (keeps filter_ results) p) in
+        let v : (s : Row) × Has (filter (keeps having results) (map (group_row aggs results) made)) s × (items_of items results s ≡ x) = mapped_has (items_of items results) (filter (keeps having results) (map (group_row aggs results) made)) x k in
+        let w : Has (map (group_row aggs results) made) v.0 × (keeps having results v.0 ≡ true) = has_filtered (keeps having results) (map (group_row aggs results) made) v.0 v.1 in
+        let z : (d : Group) × Has made d × (group_row aggs results d ≡ v.0) = mapped_has (group_row aggs results) made v.0 w.0 in
+        let r : (row : Row) × Has (filter (keeps filter_ results) p) row × (items_of (e ∷ es) results row ≡ z.0.keys) = group_source e es results (filter (keeps filter_ results) p) z.0 z.1 in
+        let m : Has p r.0 × (keeps filter_ results r.0 ≡ true) = has_filtered (keeps filter_ results) p r.0 r.1 in
+        let rest : Row = map (aggregate results z.0.rows) aggs in
+        let same : items_of (e ∷ es) results r.0 ++ rest ≡ v.0 = ap (λ (ks : Row). ks ++ rest) r.2 ∙ z.2 in
+        record { row = r.0; there = m.0; kept = m.1; value = λ single. read_by items results j v.2 same (output_at firsts at results (e ∷ es) items j l h r.0 rest single) }
 
 -- ---- the way of combining
 
@@ -183,41 +185,41 @@ has_some test [] h = cc
 has_some test (x ∷ xs) h = tt
 
 -- where tasks can share rows, the query groups or has DISTINCT
-pub shares_serve : (at : ℕ) (q : Query) → shares_rows at q ≡ true → (parts : List (List Row)) → IsNonEmpty parts → Serves Groups q [] parts
-shares_serve at (Query' cs ctes ss subs from filter_ grouped keys aggs having items shown distinct order limit offset names) h parts some = (some, some_shared grouped _ distinct _ h)
+pub shares_serve : (at : ℕ) (q : Query) → shares_rows at q ≡ true → (results : Results) (parts : List (List Row)) → IsNonEmpty parts → Serves Groups q results parts
+shares_serve at (Query' cs ctes ss subs from filter_ grouped keys aggs having items shown distinct order limit offset names) h results parts some = (some, some_shared grouped _ distinct _ h)
 
-module _ (at : ℕ) (group : Value → ℕ) (filter_ : Cond) (from : FromTree) (part : ℕ → List Row) (groups : List ℕ) (differ : AreDistinct groups)
-    (homed : (i : ℕ) → Has groups i → (row : Row) → Has (part i) row → keeps filter_ [] row ≡ true → group (column row at) ≡ i) (one : (i : ℕ) → Has groups i → (row : Row) → Has (part i) row → keeps filter_ [] row ≡ true → IsOne filter_ from at row) where
+module _ (at : ℕ) (group : Value → ℕ) (filter_ : Cond) (from : FromTree) (results : Results) (part : ℕ → List Row) (groups : List ℕ) (differ : AreDistinct groups)
+    (homed : (i : ℕ) → Has groups i → (row : Row) → Has (part i) row → keeps filter_ results row ≡ true → group (column row at) ≡ i) (one : (i : ℕ) → Has groups i → (row : Row) → Has (part i) row → keeps filter_ results row ≡ true → IsOne filter_ from at row) where
   -- the group of a row that is made of a kept row of a part tells the part
-  pub tells_part : (i : ℕ) → Has groups i → (j : ℕ) (x : Row) → Source filter_ from at (part i) j x → group (column x j) ≡ i
+  pub tells_part : (i : ℕ) → Has groups i → (j : ℕ) (x : Row) → Source filter_ from at results (part i) j x → group (column x j) ≡ i
   tells_part i m j x u = ap group (u.value (one i m u.row u.there u.kept)) ∙ homed i m u.row u.there u.kept
 
   -- what is made of the parts shares no key that has such a value
-  share_none : (make : List Row → List Row) (key : Row → Row) (j : ℕ) → ((p : List Row) (x : Row) → Has (make p) x → Source filter_ from at p j (key x)) → ShareNo key (map make (map part groups))
+  share_none : (make : List Row → List Row) (key : Row → Row) (j : ℕ) → ((p : List Row) (x : Row) → Has (make p) x → Source filter_ from at results p j (key x)) → ShareNo key (map make (map part groups))
   share_none make key j source =
       subst (ShareNo key) (sym (map_map make part groups)) (share_no key (λ x. group (column x j)) (λ i. make (part i)) groups differ (λ i m x h. tells_part i m j (key x) (source (part i) x h)))
 
   -- no two parts share a group
-  keys_apart : (keys : List Expr) → list_any (λ e. is_of_class (firsts filter_ from at) at (column_of e)) keys ≡ true → ShareNo (items_of keys []) (map (filter (keeps filter_ [])) (map part groups))
+  keys_apart : (keys : List Expr) → list_any (λ e. is_of_class (firsts filter_ from at) at (column_of e)) keys ≡ true → ShareNo (items_of keys results) (map (filter (keeps filter_ results)) (map part groups))
   keys_apart keys h =
       let u : (j : ℕ) × (j < length keys) × (is_of_class (firsts filter_ from at) at (column_of (slice_index_or keys j (Column 0))) ≡ true) = any_place (λ e. is_of_class (firsts filter_ from at) at (column_of e)) (Column 0) keys h in
-      share_none (filter (keeps filter_ [])) (items_of keys []) u.0 (key_source filter_ from at keys u.0 u.1 u.2)
+      share_none (filter (keeps filter_ results)) (items_of keys results) u.0 (key_source filter_ from at results keys u.0 u.1 u.2)
 
   -- nor an output row
   outputs_apart : (grouped : Bool) (keys : List Expr) (aggs : List Agg) (having : Cond) (items : List Expr) (shown : ℕ) → (grouped ≡ true → list_any (λ e. is_of_class (firsts filter_ from at) at (column_of e)) keys ≡ true) →
-      list_any (λ e. is_of_class (firsts filter_ from at) at (column_behind grouped keys (column_of e))) (take shown items) ≡ true → ShareNo (λ r. r) (map (item_rows filter_ grouped keys aggs having items []) (map part groups))
+      list_any (λ e. is_of_class (firsts filter_ from at) at (column_behind grouped keys (column_of e))) (take shown items) ≡ true → ShareNo (λ r. r) (map (item_rows filter_ grouped keys aggs having items results) (map part groups))
   outputs_apart grouped keys aggs having items shown g h =
       let test : Expr → Bool = λ e. is_of_class (firsts filter_ from at) at (column_behind grouped keys (column_of e)) in
       let u : (j : ℕ) × (j < length (take shown items)) × (test (slice_index_or (take shown items) j (Column 0)) ≡ true) = any_place test (Column 0) (take shown items) h in
       let t = taken_within shown items u.0 u.1 in
-      share_none (item_rows filter_ grouped keys aggs having items []) (λ r. r) u.0
-      (item_source filter_ from at grouped keys aggs having items u.0 (λ y. has_some (λ e. is_of_class (firsts filter_ from at) at (column_of e)) keys (g y)) t.1 (ap test (sym (taken_is shown items u.0 (Column 0) t.0)) ∙ u.2))
+      share_none (item_rows filter_ grouped keys aggs having items results) (λ r. r) u.0
+      (item_source filter_ from at results grouped keys aggs having items u.0 (λ y. has_some (λ e. is_of_class (firsts filter_ from at) at (column_of e)) keys (g y)) t.1 (ap test (sym (taken_is shown items u.0 (Column 0) t.0)) ∙ u.2))
 
   -- where tasks share no rows, their rows can be joined
   pub apart_serve : (grouped : Bool) (keys : List Expr) (aggs : List Agg) (having : Cond) (items : List Expr) (shown : ℕ) (distinct : Bool) →
       ((grouped && not (list_any (λ e. is_of_class (firsts filter_ from at) at (column_of e)) keys)) || (distinct && not (list_any (λ e. is_of_class (firsts filter_ from at) at (column_behind grouped keys (column_of e))) (take shown items)))) ≡ false →
-      (grouped ≡ true → IsNonEmpty keys × ShareNo (items_of keys []) (map (filter (keeps filter_ [])) (map part groups)))
-      × (distinct ≡ true → ShareNo (λ r. r) (map (item_rows filter_ grouped keys aggs having items []) (map part groups)))
+      (grouped ≡ true → IsNonEmpty keys × ShareNo (items_of keys results) (map (filter (keeps filter_ results)) (map part groups)))
+      × (distinct ≡ true → ShareNo (λ r. r) (map (item_rows filter_ grouped keys aggs having items results) (map part groups)))
   apart_serve grouped keys aggs having items shown distinct h =
       let keyed : Bool = list_any (λ e. is_of_class (firsts filter_ from at) at (column_of e)) keys in
       let none = none_shared grouped keyed distinct (list_any (λ e. is_of_class (firsts filter_ from at) at (column_behind grouped keys (column_of e))) (take shown items)) h in (

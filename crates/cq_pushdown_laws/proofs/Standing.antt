@@ -4,7 +4,7 @@ use Rattle.std.specs.Prelude.{nat_eq, not, ◌&&◌, ◌||◌, ◌↔◌}
 use Rattle.std.specs.List.{AllByRecursion}
 use Rattle.cq_tree.specs.declared.query.FromTree.{FromTree, Table, Sub', Result, Cross', Inner', Left', end_of-FromTree, more_of-FromTree, end_of-Query, more_of-Query}
 use Rattle.cq_meaning.specs.Lists.{Has}
-use Rattle.cq_meaning.specs.Values.{Row, column}
+use Rattle.cq_meaning.specs.Values.{Row, Results, column}
 use Rattle.cq_meaning.specs.Queries.{columns_in, from_rows}
 use Rattle.cq_task_laws.specs.Cutting.{width_of, IsChoice, stands}
 use Rattle.cq_task_laws.specs.Tasks.{has_cut}
@@ -53,7 +53,7 @@ right_never : (c : Contents) (P : Relation → Type 0) (f : FromTree) (start : �
 right_never c P f start o is = subst (AllByRecursion (λ r. is_plain r ≡ true → P r)) (sym (single_is c f start (Some o) is))
     (λ plain. absurd (never_plain (is_some (shifted start (distribution_in c f 0))) plain), tt)
 
-module _ (c : Contents) (held : Held) (groups : List ℕ) (whole_row : Row) where
+module _ (c : Contents) (held : Held) (results : Results) (groups : List ℕ) (whole_row : Row) where
   -- ---- one group
 
   module _ (i : ℕ) where
@@ -62,7 +62,7 @@ module _ (c : Contents) (held : Held) (groups : List ℕ) (whole_row : Row) wher
 
     -- this is the group of each plain relation exactly where the row stands there
     abbrev pub Tells : FromTree → ℕ → Row → Type 0
-    Tells f start row = AllByRecursion IsPlainAt (relations c f start None) ↔ (stands (own c held start f) i row ≡ true)
+    Tells f start row = AllByRecursion IsPlainAt (relations c f start None) ↔ (stands (own c held results start f) i row ≡ true)
 
     single_tells : (d : Option Distribution) (n start : ℕ) (row : Row) → IsColumn n d → IsPart whole_row start n row →
         IsPlainAt (single_at start d None) ↔ ((not (side_by c d).cut || nat_eq ((side_by c d).home row) i) ≡ true)
@@ -72,7 +72,7 @@ module _ (c : Contents) (held : Held) (groups : List ℕ) (whole_row : Row) wher
         let same : home_in c d.colocation (column whole_row (start + d.column)) ≡ home_in c d.colocation (column row d.column) = ap (home_in c d.colocation) value in
         (λ plain. eq-eqb (home_in c d.colocation (column row d.column)) i (sym same ∙ plain refl), λ here plain. same ∙ same_number (home_in c d.colocation (column row d.column)) i here)
 
-    spread_tells : (f : FromTree) (start : ℕ) (row : Row) → IsSpread c held groups f start → IsPart whole_row start (columns_in f) row →
+    spread_tells : (f : FromTree) (start : ℕ) (row : Row) → IsSpread c held results groups f start → IsPart whole_row start (columns_in f) row →
         AllByRecursion IsPlainAt (relations c f start None) ↔ ((not (side_of c f).cut || nat_eq ((side_of c f).home row) i) ≡ true)
     spread_tells f start row spread part =
         let tells = single_tells (distribution_in c f 0) (columns_in f) start row spread.column part in
@@ -81,37 +81,37 @@ module _ (c : Contents) (held : Held) (groups : List ℕ) (whole_row : Row) wher
 
     both_tell : (a b : FromTree) (start : ℕ) (l y row : Row) → length l ≡ columns_in a → row ≡ l ++ y → Tells a start l → Tells b (start + columns_in a) y →
         AllByRecursion IsPlainAt (relations c a start None ++ relations c b (start + columns_in a) None)
-        ↔ ((stands (own c held start a) i (take (width_of (own c held start a)) row) && stands (own c held (start + columns_in a) b) i (drop (width_of (own c held start a)) row)) ≡ true)
+        ↔ ((stands (own c held results start a) i (take (width_of (own c held results start a)) row) && stands (own c held results (start + columns_in a) b) i (drop (width_of (own c held results start a)) row)) ≡ true)
     both_tell a b start l y row long e tells_a tells_b =
-        let w : ℕ = width_of (own c held start a) in
-        let wide : length l ≡ w = long ∙ sym (own_width c held a start) in
-        let in_a : stands (own c held start a) i (take w row) ≡ stands (own c held start a) i l = ap (stands (own c held start a) i) (ap (take w) e ∙ take_left l y w wide) in
-        let in_b : stands (own c held (start + columns_in a) b) i (drop w row) ≡ stands (own c held (start + columns_in a) b) i y = ap (stands (own c held (start + columns_in a) b) i) (ap (drop w) e ∙ drop_left l y w wide) in
+        let w : ℕ = width_of (own c held results start a) in
+        let wide : length l ≡ w = long ∙ sym (own_width c held results a start) in
+        let in_a : stands (own c held results start a) i (take w row) ≡ stands (own c held results start a) i l = ap (stands (own c held results start a) i) (ap (take w) e ∙ take_left l y w wide) in
+        let in_b : stands (own c held results (start + columns_in a) b) i (drop w row) ≡ stands (own c held results (start + columns_in a) b) i y = ap (stands (own c held results (start + columns_in a) b) i) (ap (drop w) e ∙ drop_left l y w wide) in
         let ra : List Relation = relations c a start None in
         let rb : List Relation = relations c b (start + columns_in a) None in (
-          λ plain. both_true (stands (own c held start a) i (take w row)) (stands (own c held (start + columns_in a) b) i (drop w row)) (in_a ∙ tells_a.0 (all_left IsPlainAt ra rb plain)) (in_b ∙ tells_b.0 (all_right IsPlainAt ra rb plain)),
+          λ plain. both_true (stands (own c held results start a) i (take w row)) (stands (own c held results (start + columns_in a) b) i (drop w row)) (in_a ∙ tells_a.0 (all_left IsPlainAt ra rb plain)) (in_b ∙ tells_b.0 (all_right IsPlainAt ra rb plain)),
           λ here.
-              (let both = and_true (stands (own c held start a) i (take w row)) (stands (own c held (start + columns_in a) b) i (drop w row)) here in
+              (let both = and_true (stands (own c held results start a) i (take w row)) (stands (own c held results (start + columns_in a) b) i (drop w row)) here in
               all_append IsPlainAt ra rb (tells_a.1 (sym in_a ∙ both.0)) (tells_b.1 (sym in_b ∙ both.1))),
         )
 
-    pub row_tells : (f : FromTree) (start : ℕ) (row : Row) → AreSpread c held groups f start → IsChoice (own c held start f) row → IsPart whole_row start (columns_in f) row → Tells f start row
+    pub row_tells : (f : FromTree) (start : ℕ) (row : Row) → AreSpread c held results groups f start → IsChoice (own c held results start f) row → IsPart whole_row start (columns_in f) row → Tells f start row
     row_tells (Table t n) start row spread h part = spread_tells (Table t n) start row spread part
     row_tells (Sub' p (more_of-Query q end_of-Query)) start row spread h part = spread_tells (Sub' p (more_of-Query q end_of-Query)) start row spread part
-    row_tells (Result k n) start row spread h part = absurd spread
+    row_tells (Result k n) start row spread h part = spread_tells (Result k n) start row spread part
     row_tells (Cross' p (more_of-FromTree a end_of-FromTree) q (more_of-FromTree b end_of-FromTree)) start row spread (l, y, ca, cb, m, e) part =
-        let s = split c held groups whole_row a start (columns_in b) l y row spread.0 ca e part in
+        let s = split c held results groups whole_row a start (columns_in b) l y row spread.0 ca e part in
         both_tell a b start l y row s.long e (row_tells a start l spread.0 ca s.left_part) (row_tells b (start + columns_in a) y spread.1 cb s.right_part)
     row_tells (Inner' p (more_of-FromTree a end_of-FromTree) q (more_of-FromTree b end_of-FromTree) on) start row spread (l, y, ca, cb, m, e) part =
-        let s = split c held groups whole_row a start (columns_in b) l y row spread.0 ca e part in
+        let s = split c held results groups whole_row a start (columns_in b) l y row spread.0 ca e part in
         both_tell a b start l y row s.long e (row_tells a start l spread.0 ca s.left_part) (row_tells b (start + columns_in a) y spread.1 cb s.right_part)
     row_tells (Left' p (more_of-FromTree a end_of-FromTree) q (more_of-FromTree b end_of-FromTree) on) start row spread (l, y, ca, cb, e) part =
-        let s = split c held groups whole_row a start (columns_in b) l y row spread.0 ca e part in
-        let w : ℕ = width_of (own c held start a) in
+        let s = split c held results groups whole_row a start (columns_in b) l y row spread.0 ca e part in
+        let w : ℕ = width_of (own c held results start a) in
         let o : OuterJoin = record { left = start; equalities = equalities (conjuncts on) } in
         let ra : List Relation = relations c a start None in
         let rb : List Relation = relations c b (start + columns_in a) (Some o) in
-        let in_a : stands (own c held start a) i (take w row) ≡ stands (own c held start a) i l = ap (stands (own c held start a) i) (ap (take w) e ∙ take_left l y w (s.long ∙ sym (own_width c held a start))) in
+        let in_a : stands (own c held results start a) i (take w row) ≡ stands (own c held results start a) i l = ap (stands (own c held results start a) i) (ap (take w) e ∙ take_left l y w (s.long ∙ sym (own_width c held results a start))) in
         let tells = row_tells a start l spread.0 ca s.left_part in (
           λ plain. in_a ∙ tells.0 (all_left IsPlainAt ra rb plain),
           λ here. all_append IsPlainAt ra rb (tells.1 (sym in_a ∙ here)) (right_never c (λ r. home_by c whole_row (distribution_of r) ≡ i) b (start + columns_in a) o spread.1.single),
@@ -129,7 +129,7 @@ module _ (c : Contents) (held : Held) (groups : List ℕ) (whole_row : Row) wher
       let value : column whole_row (start + d.column) ≡ column row d.column = part (start + d.column) (omega arith) (omega (arith, there)) ∙ column_pad start row d.column in
       (ap (λ v. among (home_in c d.colocation v) groups) value ∙ h, refl)
 
-  spread_here : (f : FromTree) (start : ℕ) (row : Row) → IsSpread c held groups f start → IsPart whole_row start (columns_in f) row → Has (from_rows f start (whole c held) []) row →
+  spread_here : (f : FromTree) (start : ℕ) (row : Row) → IsSpread c held results groups f start → IsPart whole_row start (columns_in f) row → Has (from_rows f start (whole c held) results) row →
       AllByRecursion (IsPlainHere (side_of c f).cut) (relations c f start None)
   spread_here f start row spread part h =
       subst (AllByRecursion (IsPlainHere (side_of c f).cut)) (sym (single_is c f start None spread.single)) (single_here (distribution_in c f 0) (columns_in f) start row spread.column part (spread.here row h), tt)
@@ -143,23 +143,23 @@ module _ (c : Contents) (held : Held) (groups : List ℕ) (whole_row : Row) wher
       either true y e = refl
       either false y e = e
 
-  pub plain_here : (f : FromTree) (start : ℕ) (row : Row) → AreSpread c held groups f start → IsChoice (own c held start f) row → IsPart whole_row start (columns_in f) row →
-      AllByRecursion (IsPlainHere (has_cut (own c held start f))) (relations c f start None)
+  pub plain_here : (f : FromTree) (start : ℕ) (row : Row) → AreSpread c held results groups f start → IsChoice (own c held results start f) row → IsPart whole_row start (columns_in f) row →
+      AllByRecursion (IsPlainHere (has_cut (own c held results start f))) (relations c f start None)
   plain_here (Table t n) start row spread h part = spread_here (Table t n) start row spread part h
   plain_here (Sub' p (more_of-Query q end_of-Query)) start row spread h part = spread_here (Sub' p (more_of-Query q end_of-Query)) start row spread part h
-  plain_here (Result k n) start row spread h part = absurd spread
+  plain_here (Result k n) start row spread h part = spread_here (Result k n) start row spread part h
   plain_here (Cross' p (more_of-FromTree a end_of-FromTree) q (more_of-FromTree b end_of-FromTree)) start row spread (l, y, ca, cb, m, e) part =
-      let s = split c held groups whole_row a start (columns_in b) l y row spread.0 ca e part in
-      both_here (has_cut (own c held start a)) (has_cut (own c held (start + columns_in a) b)) (relations c a start None) (relations c b (start + columns_in a) None)
+      let s = split c held results groups whole_row a start (columns_in b) l y row spread.0 ca e part in
+      both_here (has_cut (own c held results start a)) (has_cut (own c held results (start + columns_in a) b)) (relations c a start None) (relations c b (start + columns_in a) None)
       (plain_here a start l spread.0 ca s.left_part) (plain_here b (start + columns_in a) y spread.1 cb s.right_part)
   plain_here (Inner' p (more_of-FromTree a end_of-FromTree) q (more_of-FromTree b end_of-FromTree) on) start row spread (l, y, ca, cb, m, e) part =
-      let s = split c held groups whole_row a start (columns_in b) l y row spread.0 ca e part in
-      both_here (has_cut (own c held start a)) (has_cut (own c held (start + columns_in a) b)) (relations c a start None) (relations c b (start + columns_in a) None)
+      let s = split c held results groups whole_row a start (columns_in b) l y row spread.0 ca e part in
+      both_here (has_cut (own c held results start a)) (has_cut (own c held results (start + columns_in a) b)) (relations c a start None) (relations c b (start + columns_in a) None)
       (plain_here a start l spread.0 ca s.left_part) (plain_here b (start + columns_in a) y spread.1 cb s.right_part)
   plain_here (Left' p (more_of-FromTree a end_of-FromTree) q (more_of-FromTree b end_of-FromTree) on) start row spread (l, y, ca, cb, e) part =
       let wa : ℕ = columns_in a in
-      let ka : Bool = has_cut (own c held start a) in
+      let ka : Bool = has_cut (own c held results start a) in
       let o : OuterJoin = record { left = start; equalities = equalities (conjuncts on) } in
-      let s = split c held groups whole_row a start (columns_in b) l y row spread.0 ca e part in
+      let s = split c held results groups whole_row a start (columns_in b) l y row spread.0 ca e part in
       all_append (IsPlainHere ka) (relations c a start None) (relations c b (start + wa) (Some o))
       (plain_here a start l spread.0 ca s.left_part) (right_never c (λ r. (among (home_by c whole_row (distribution_of r)) groups ≡ true) × (ka ≡ true)) b (start + wa) o spread.1.single)

@@ -1,9 +1,9 @@
 -- The relations of a FROM are spread over the groups: a table by its rows' distribution values, and a pushable subquery, whose rows in a group are
--- those of its task there, by the values in its distribution column.
+-- those of its task there, by the values in its distribution column. Each task reads a result whole.
 use Rattle.std.proofs.Common.{◌≡◌, ◌+◌, ◌<◌, ◌≤◌, inl, inr, ℕ, zero-add, Bool, true, false, cond, List, [], ◌∷◌, ◌++◌, map, filter, take, length, refl, sym, ◌∙◌, ap, subst, arith, append-nil, Some, None, Option, is_some, position}
 use Rattle.std.specs.Prelude.{nat_eq, not, ◌&&◌, ◌||◌, is_none, slice_index_or}
 use Rattle.std.specs.Ordering.{is_lt}
-use Rattle.std.specs.List.{flat_map, list_any, list_all}
+use Rattle.std.specs.List.{AllByRecursion, flat_map, list_any, list_all}
 use Rattle.std.specs.List.Sorted.{IsPermutation}
 use Rattle.std.proofs.lemmas.Bool.{eqb-true, eq-eqb}
 use Rattle.std.proofs.lemmas.List.{length-take-le}
@@ -18,9 +18,9 @@ use Rattle.cq_tree.specs.declared.query.Query.{Query, Query'}
 use Rattle.cq_meaning.specs.Expressions.{items_of, keeps}
 use Rattle.cq_meaning.specs.Groups.{distinct_if}
 use Rattle.cq_meaning.specs.Lists.{Has}
-use Rattle.cq_meaning.specs.Queries.{columns_in, from_rows, item_rows, meaning, outputs_of}
+use Rattle.cq_meaning.specs.Queries.{columns_in, from_rows, item_rows}
 use Rattle.cq_meaning.specs.Sorting.{keys_cmp, sorted, cut}
-use Rattle.cq_meaning.specs.Values.{Row, column, table_rows}
+use Rattle.cq_meaning.specs.Values.{Row, Results, column, result_at, table_rows}
 use Rattle.cq_meaning.proofs.Reorder.{Reordered, then, mapped, filtered, permuted}
 use Rattle.cq_meaning.proofs.RowLaws.{distinct_has, filter_all, filter_none, has_again, has_either, not_true}
 use Rattle.cq_meaning_laws.proofs.OrderFree.{distinct_if_again, distinct_width, itemed_width}
@@ -46,6 +46,7 @@ use Rattle.cq_planning.specs.Touched.{among}
 use Rattle.cq_planning_laws.specs.Laid.{IsColumnOf, IsLaid, IsLaidFrom}
 use Rattle.cq_planning_laws.proofs.RowFacts.{IsWide, mean_wide}
 use Rattle.cq_planning_laws.proofs.Rows.{and_true, same_number}
+use Rattle.cq_pushdown_laws.specs.Laws.{AreWide}
 use Rattle.cq_pushdown_laws.specs.Pushed.{are_pushed, is_over_references, is_pushed, is_single, joins_pushed, strays}
 use Rattle.cq_pushdown_laws.specs.Tables.{HoldsOnly, home_in, task_tables}
 use Rattle.cq_pushdown_laws.proofs.References.{same_meaning}
@@ -167,10 +168,10 @@ unshared false k d o h e = by_output d o e
     by_output true o e = rw e refl
     by_output false o e = refl
 
-module _ (filter_ : Cond) (grouped : Bool) (keys : List Expr) (aggs : List Agg) (having : Cond) (items : List Expr) (shown : ℕ) (distinct : Bool) (order : List Key) (limit : Option ℕ) (offset : ℕ) where
+module _ (filter_ : Cond) (grouped : Bool) (keys : List Expr) (aggs : List Agg) (having : Cond) (items : List Expr) (shown : ℕ) (distinct : Bool) (order : List Key) (limit : Option ℕ) (offset : ℕ) (results : Results) where
   -- before the order and the cut
   abbrev full : List Row → List Row
-  full rows = distinct_if distinct (item_rows filter_ grouped keys aggs having items [] rows)
+  full rows = distinct_if distinct (item_rows filter_ grouped keys aggs having items results rows)
 
   abbrev made : List Row → List Row
   made rows = cut shown limit offset (sorted (keys_cmp order) (full rows))
@@ -183,16 +184,16 @@ module _ (filter_ : Cond) (grouped : Bool) (keys : List Expr) (aggs : List Agg) 
   shown_part ln oz rows x h = mapped_has (λ row. take shown row) (full rows) x (has_again (uncut ln oz rows) x h)
 
   full_wide : (rows : List Row) (y : Row) → Has (full rows) y → length y ≡ length items
-  full_wide rows y h = distinct_width distinct (length items) (item_rows filter_ grouped keys aggs having items [] rows) (itemed_width filter_ grouped keys aggs having items [] rows) y h
+  full_wide rows y h = distinct_width distinct (length items) (item_rows filter_ grouped keys aggs having items results rows) (itemed_width filter_ grouped keys aggs having items results rows) y h
 
-  module _ (c : Contents) (held : Held) (groups : List ℕ) (differ : AreDistinct groups) (from : FromTree) (are : AreSpread c held groups from 0) (p : Pushable) (d : Distribution) (ds : List Distribution)
+  module _ (c : Contents) (held : Held) (groups : List ℕ) (differ : AreDistinct groups) (from : FromTree) (are : AreSpread c held results groups from 0) (p : Pushable) (d : Distribution) (ds : List Distribution)
       (plain : distributions is_plain (relations c from 0 None) ≡ d ∷ ds) (pushed : are_pushed (first_of_class (equalities (conjuncts_of filter_ from))) (relations c from 0 None) (d ∷ ds) ≡ true)
       (by : Pushes (first_of_class (equalities (conjuncts_of filter_ from))) d grouped keys (take shown items) limit offset p) where
     abbrev part : ℕ → List Row
-    part = task_rows c held groups filter_ from are
+    part = task_rows c held results groups filter_ from are
 
     abbrev all : List Row
-    all = from_rows from 0 (whole c held) []
+    all = from_rows from 0 (whole c held) results
 
     abbrev class_test : Expr → Bool
     class_test e = is_of_class (first_of_class (equalities (conjuncts_of filter_ from))) d.column (column_behind grouped keys (column_of e))
@@ -202,25 +203,25 @@ module _ (filter_ : Cond) (grouped : Bool) (keys : List Expr) (aggs : List Agg) 
 
     -- ---- what the tasks give together
 
-    at_home : (i : ℕ) → Has groups i → (row : Row) → Has (part i) row → keeps filter_ [] row ≡ true → home_in c d.colocation (column row d.column) ≡ i
-    at_home i m row h kept = task_home c held groups filter_ from are d ds plain i m row h
+    at_home : (i : ℕ) → Has groups i → (row : Row) → Has (part i) row → keeps filter_ results row ≡ true → home_in c d.colocation (column row d.column) ≡ i
+    at_home i m row h kept = task_home c held results groups filter_ from are d ds plain i m row h
 
-    one : (i : ℕ) → Has groups i → (row : Row) → Has (part i) row → keeps filter_ [] row ≡ true → IsOne filter_ from d.column row
-    one i m row h kept x same = one_value c held groups filter_ from are row (task_row c held groups filter_ from are i m row h).0 kept x d.column same
+    one : (i : ℕ) → Has groups i → (row : Row) → Has (part i) row → keeps filter_ results row ≡ true → IsOne filter_ from d.column row
+    one i m row h kept x same = one_value c held results groups filter_ from are row (task_row c held results groups filter_ from are i m row h).0 kept x d.column same
 
-    serves : (grouped ≡ true → IsNonEmpty keys × ShareNo (items_of keys []) (map (filter (keeps filter_ [])) (map part groups))) × (distinct ≡ true → ShareNo (λ r. r) (map (item_rows filter_ grouped keys aggs having items []) (map part groups)))
-    serves = apart_serve d.column (home_in c d.colocation) filter_ from part groups differ at_home one grouped keys aggs having items shown distinct
+    serves : (grouped ≡ true → IsNonEmpty keys × ShareNo (items_of keys results) (map (filter (keeps filter_ results)) (map part groups))) × (distinct ≡ true → ShareNo (λ r. r) (map (item_rows filter_ grouped keys aggs having items results) (map part groups)))
+    serves = apart_serve d.column (home_in c d.colocation) filter_ from results part groups differ at_home one grouped keys aggs having items shown distinct
         (unshared grouped _ distinct (list_any class_test (take shown items)) by.keyed (any_there class_test (Column 0) (take shown items) p.output by.within by.of_class))
 
     together : Reordered (made all) (flat_map (λ i. made (part i)) groups)
     together =
-        let rows : List Row → List Row = item_rows filter_ grouped keys aggs having items [] in
+        let rows : List Row → List Row = item_rows filter_ grouped keys aggs having items results in
         let show : List Row → List Row = map (λ row. take shown row) in
         let parts : List (List Row) = map part groups in
-        let cut : Reordered (filter (keeps filter_ []) all) (flat_map (filter (keeps filter_ [])) parts) =
-        kept_cut c held groups filter_ from are differ (subst (λ xs. are_pushed (first_of_class (equalities (conjuncts_of filter_ from))) (relations c from 0 None) xs ≡ true) (sym plain) pushed) in
+        let cut : Reordered (filter (keeps filter_ results) all) (flat_map (filter (keeps filter_ results)) parts) =
+        kept_cut c held results groups filter_ from are differ (subst (λ xs. are_pushed (first_of_class (equalities (conjuncts_of filter_ from))) (relations c from 0 None) xs ≡ true) (sym plain) pushed) in
         let full_joined : Reordered (full all) (flat_map full parts) = subst (λ us. Reordered (full all) us) (sym (distinct_if_parts distinct rows parts serves.1))
-        (distinct_if_again distinct (items_apart filter_ having keys items aggs [] grouped all parts cut serves.0)) in
+        (distinct_if_again distinct (items_apart filter_ having keys items aggs results grouped all parts cut serves.0)) in
         let shown_joined : Reordered (show (full all)) (flat_map (λ i. show (full (part i))) groups) =
         subst (λ us. Reordered (show (full all)) us) (map_of_flat_map (λ row. take shown row) full parts ∙ flat_map_of_map (λ us. show (full us)) part groups) (mapped (λ row. take shown row) full_joined) in
         then (uncut by.unlimited by.from_start all)
@@ -235,15 +236,15 @@ module _ (filter_ : Cond) (grouped : Bool) (keys : List Expr) (aggs : List Agg) 
     home_is i m x h =
         let u : (y : Row) × Has (full (part i)) y × (take shown y ≡ x) = shown_part by.unlimited by.from_start (part i) x h in
         let some : grouped ≡ true → IsNonEmpty keys = λ g. (serves.0 g).0 in
-        let source : Source filter_ from d.column (part i) p.output u.0 =
-        item_source filter_ from d.column grouped keys aggs having items p.output some inside.1
-        (ap class_test (sym (taken_is shown items p.output (Column 0) inside.0)) ∙ by.of_class) (part i) u.0 (distinct_if_has distinct (item_rows filter_ grouped keys aggs having items [] (part i)) u.0 u.1) in
+        let source : Source filter_ from d.column results (part i) p.output u.0 =
+        item_source filter_ from d.column results grouped keys aggs having items p.output some inside.1
+        (ap class_test (sym (taken_is shown items p.output (Column 0) inside.0)) ∙ by.of_class) (part i) u.0 (distinct_if_has distinct (item_rows filter_ grouped keys aggs having items results (part i)) u.0 u.1) in
         let value : column x (0 + p.output) ≡ column u.0 p.output = ap (λ (z : Row). column z (0 + p.output)) (sym u.2) ∙ ap (column (take shown u.0)) (zero-add p.output) ∙ taken_is shown u.0 p.output _ inside.0 in
-        (λ k. home_in c (by.colocation k) (value k)) ∙ tells_part d.column (home_in c d.colocation) filter_ from part groups differ at_home one i m p.output u.0 source
+        (λ k. home_in c (by.colocation k) (value k)) ∙ tells_part d.column (home_in c d.colocation) filter_ from results part groups differ at_home one i m p.output u.0 source
 
     -- a subquery
     sub_spread : shown ≤ length items → (s : _) (ns ctes nss subs names : _) (start : ℕ) →
-        IsSpreadBy c held groups (distribution_by 0 (Some p)) (Sub' s (more_of-Query (Query' ns ctes nss subs from filter_ grouped keys aggs having items shown distinct order limit offset names) end_of-Query)) start
+        IsSpreadBy c held results groups (distribution_by 0 (Some p)) (Sub' s (more_of-Query (Query' ns ctes nss subs from filter_ grouped keys aggs having items shown distinct order limit offset names) end_of-Query)) start
     sub_spread long s ns ctes nss subs names start = record {
       single = refl;
       column = let l = inside.0 in omega (arith, l);
@@ -260,7 +261,7 @@ module _ (filter_ : Cond) (grouped : Bool) (keys : List Expr) (aggs : List Agg) 
 
 -- ---- the relations of a FROM
 
-module _ (c : Contents) (held : Held) (groups : List ℕ) (differ : AreDistinct groups) (can : (g : ℕ) → CanHold c g (held g)) (only_here : HoldsOnly c held groups) where
+module _ (c : Contents) (widths : ℕ → ℕ) (held : Held) (results : Results) (wide : AreWide widths results) (groups : List ℕ) (differ : AreDistinct groups) (can : (g : ℕ) → CanHold c g (held g)) (only_here : HoldsOnly c held groups) where
   column_there : (n : ℕ) (p : Place) → IsColumnOf n p → IsColumn n (distribution_at 0 p)
   column_there n Local there = tt
   column_there n (Distributed at colocation first_shard) there = omega (arith, there)
@@ -271,7 +272,7 @@ module _ (c : Contents) (held : Held) (groups : List ℕ) (differ : AreDistinct 
   row_here t (Distributed at colocation first_shard) e x h = row_among c held groups can only_here t at colocation first_shard e x h
   row_here t (Reference group shard) e x h = tt
 
-  table_spread : (t n start : ℕ) → IsLaidFrom c (λ i. 0) (Table t n) → IsSpread c held groups (Table t n) start
+  table_spread : (t n start : ℕ) → IsLaidFrom c widths (Table t n) → IsSpread c held results groups (Table t n) start
   table_spread t n start laid = record {
     single = refl;
     column = column_there n (place_at c t) laid.1;
@@ -282,20 +283,30 @@ module _ (c : Contents) (held : Held) (groups : List ℕ) (differ : AreDistinct 
     here = row_here t (place_at c t) refl;
   }
 
-  -- a subquery over reference tables alone
-  references_spread : (q : Query) (s : _) (start : ℕ) → is_over_references c q ≡ true → IsLaid c (λ i. 0) q → IsSpreadBy c held groups None (Sub' s (more_of-Query q end_of-Query)) start
-  references_spread q s start is laid = record {
-    single = refl;
-    column = tt;
-    fits = (
-      λ x h. at_has (IsWide (outputs_of q)) (meaning q (whole c held) []) (mean_wide c (λ i. 0) (whole c held) [] q laid) x h,
-      λ i m. subst (IsPermutation (meaning q (task_tables c held i) [])) (same_meaning c held i q is ∙ sym (filter_all (λ x. true) (meaning q (whole c held) []) (λ x h. refl))) (IsPermutation-refl (meaning q (task_tables c held i) [])),
-    );
-    here = λ x h. tt;
-  }
+  -- a relation that each task reads whole
+  whole_spread : (f : FromTree) (start : ℕ) → is_single f ≡ true → AllByRecursion (IsWide (columns_in f)) (from_rows f start (whole c held) results) →
+      ((i : ℕ) → from_rows f start (task_tables c held i) results ≡ from_rows f start (whole c held) results) → IsSpreadBy c held results groups None f start
+  whole_spread f start single long same =
+      let rows : List Row = from_rows f start (whole c held) results in
+      record {
+        single = single;
+        column = tt;
+        fits = (
+          λ x h. at_has (IsWide (columns_in f)) rows long x h,
+          λ i m. subst (IsPermutation (from_rows f start (task_tables c held i) results)) (same i ∙ sym (filter_all (λ x. true) rows (λ x h. refl))) (IsPermutation-refl (from_rows f start (task_tables c held i) results)),
+        );
+        here = λ x h. tt;
+      }
 
-  pushed_spread : (q : Query) (p : Pushable) → pushable c q ≡ Some p → is_pushed c q ≡ true → IsLaid c (λ i. 0) q → AreSpread c held groups (from_of q) 0 → (s : _) (start : ℕ) →
-      IsSpreadBy c held groups (distribution_by 0 (Some p)) (Sub' s (more_of-Query q end_of-Query)) start
+  -- a subquery over reference tables and results alone
+  references_spread : (q : Query) (s : _) (start : ℕ) → is_over_references c q ≡ true → IsLaid c widths q → IsSpreadBy c held results groups None (Sub' s (more_of-Query q end_of-Query)) start
+  references_spread q s start is laid = whole_spread (Sub' s (more_of-Query q end_of-Query)) start refl (mean_wide c widths (whole c held) results q laid) (λ i. same_meaning c held results i q is)
+
+  result_spread : (k n start : ℕ) → IsLaidFrom c widths (Result k n) → IsSpread c held results groups (Result k n) start
+  result_spread k n start laid = whole_spread (Result k n) start refl (subst (λ w. AllByRecursion (IsWide w) (result_at results k)) laid (wide k)) (λ i. refl)
+
+  pushed_spread : (q : Query) (p : Pushable) → pushable c q ≡ Some p → is_pushed c q ≡ true → IsLaid c widths q → AreSpread c held results groups (from_of q) 0 → (s : _) (start : ℕ) →
+      IsSpreadBy c held results groups (distribution_by 0 (Some p)) (Sub' s (more_of-Query q end_of-Query)) start
   pushed_spread (Query' ns ctes nss subs from filter_ grouped keys aggs having items shown distinct order limit offset names) p e pushed laid are s start =
       by_plain (distributions is_plain rels) refl (and_true (joins_pushed c from) (are_pushed first rels (distributions is_plain rels)) pushed).1
     where
@@ -308,34 +319,35 @@ module _ (c : Contents) (held : Held) (groups : List ℕ) (differ : AreDistinct 
       first : ℕ → ℕ
       first = first_of_class (equalities (conjuncts_of filter_ from))
 
-      by_plain : (xs : List Distribution) → distributions is_plain rels ≡ xs → are_pushed first rels xs ≡ true → IsSpreadBy c held groups (distribution_by 0 (Some p)) (Sub' s (more_of-Query q end_of-Query)) start
+      by_plain : (xs : List Distribution) → distributions is_plain rels ≡ xs → are_pushed first rels xs ≡ true → IsSpreadBy c held results groups (distribution_by 0 (Some p)) (Sub' s (more_of-Query q end_of-Query)) start
       by_plain [] plain y = cc
       by_plain (d ∷ ds) plain y =
           let stay = none_strays (strays first rels) rels (and_true (list_all (is_one_component first d) ds) (not (list_any (strays first rels) rels)) y).1 in
-          let begins : (more : List Distribution) × (distributions (is_left_in_block rels) rels ≡ d ∷ more) = first_stays c held groups first from are stay d ds plain in
-          sub_spread filter_ grouped keys aggs having items shown distinct order limit offset c held groups differ from are p d ds plain y
+          let begins : (more : List Distribution) × (distributions (is_left_in_block rels) rels ≡ d ∷ more) = first_stays c held results groups first from are stay d ds plain in
+          sub_spread filter_ grouped keys aggs having items shown distinct order limit offset results c held groups differ from are p d ds plain y
           (pushes first rels (distributions (is_left_in_block rels) rels) (distributions is_plain rels) grouped keys (take shown items) limit offset p e d begins.0 begins.1)
           laid.1 s ns ctes nss subs names start
 
-  query_spread : (q : Query) (s : _) (start : ℕ) → cond (is_some (pushable c q)) (is_pushed c q) (is_over_references c q) ≡ true → IsLaid c (λ i. 0) q → (is_pushed c q ≡ true → AreSpread c held groups (from_of q) 0) →
-      IsSpread c held groups (Sub' s (more_of-Query q end_of-Query)) start
+  query_spread : (q : Query) (s : _) (start : ℕ) → cond (is_some (pushable c q)) (is_pushed c q) (is_over_references c q) ≡ true → IsLaid c widths q → (is_pushed c q ≡ true → AreSpread c held results groups (from_of q) 0) →
+      IsSpread c held results groups (Sub' s (more_of-Query q end_of-Query)) start
   query_spread q s start is laid are = by_pushable (pushable c q) refl is
     where
-      by_pushable : (o : Option Pushable) → pushable c q ≡ o → cond (is_some o) (is_pushed c q) (is_over_references c q) ≡ true → IsSpread c held groups (Sub' s (more_of-Query q end_of-Query)) start
-      by_pushable None e y = subst (λ o. IsSpreadBy c held groups (distribution_by 0 o) (Sub' s (more_of-Query q end_of-Query)) start) (sym e) (references_spread q s start y laid)
-      by_pushable (Some p) e y = subst (λ o. IsSpreadBy c held groups (distribution_by 0 o) (Sub' s (more_of-Query q end_of-Query)) start) (sym e) (pushed_spread q p e y laid (are y) s start)
+      by_pushable : (o : Option Pushable) → pushable c q ≡ o → cond (is_some o) (is_pushed c q) (is_over_references c q) ≡ true → IsSpread c held results groups (Sub' s (more_of-Query q end_of-Query)) start
+      by_pushable None e y = subst (λ o. IsSpreadBy c held results groups (distribution_by 0 o) (Sub' s (more_of-Query q end_of-Query)) start) (sym e) (references_spread q s start y laid)
+      by_pushable (Some p) e y = subst (λ o. IsSpreadBy c held results groups (distribution_by 0 o) (Sub' s (more_of-Query q end_of-Query)) start) (sym e) (pushed_spread q p e y laid (are y) s start)
 
-  single_spread : (f : FromTree) (start : ℕ) → is_single f ≡ true → AreSpread c held groups f start → IsSpread c held groups f start
+  single_spread : (f : FromTree) (start : ℕ) → is_single f ≡ true → AreSpread c held results groups f start → IsSpread c held results groups f start
   single_spread (Table t n) start is are = are
   single_spread (Sub' s (more_of-Query q end_of-Query)) start is are = are
+  single_spread (Result k n) start is are = are
   single_spread _ start is are = cc
 
-  pub are_spread : (f : FromTree) (start : ℕ) → joins_pushed c f ≡ true → IsLaidFrom c (λ i. 0) f → AreSpread c held groups f start
+  pub are_spread : (f : FromTree) (start : ℕ) → joins_pushed c f ≡ true → IsLaidFrom c widths f → AreSpread c held results groups f start
   are_spread (Table t n) start is laid = table_spread t n start laid
   are_spread (Sub' s (more_of-Query (Query' ns ctes nss subs from filter_ grouped keys aggs having items shown distinct order limit offset names) end_of-Query)) start is laid =
       let q : Query = Query' ns ctes nss subs from filter_ grouped keys aggs having items shown distinct order limit offset names in
       query_spread q s start is laid (λ pushed. are_spread from 0 (and_true (joins_pushed c from) _ pushed).0 laid.0)
-  are_spread (Result i n) start is laid = cc
+  are_spread (Result k n) start is laid = result_spread k n start laid
   are_spread (Cross' p (more_of-FromTree a end_of-FromTree) q (more_of-FromTree b end_of-FromTree)) start is laid =
       let both = and_true (joins_pushed c a) (joins_pushed c b) is in (are_spread a start both.0 laid.0, are_spread b (start + columns_in a) both.1 laid.1)
   are_spread (Inner' p (more_of-FromTree a end_of-FromTree) q (more_of-FromTree b end_of-FromTree) on) start is laid =

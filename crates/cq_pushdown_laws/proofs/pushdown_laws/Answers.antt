@@ -1,3 +1,4 @@
+use Rattle.cq_pushdown_laws.proofs.References.{references_suffice}
 use Rattle.cq_pushdown_laws.proofs.Serving.{large_below, parts_serve, pushdown_serves}
 use Rattle.cq_pushdown_laws.proofs.pushdown_laws.Goals as goal
 
@@ -9,3 +10,6 @@ returns-clause-parts c = parts_serve
 
 pub returns-clause-large : goal.returns-clause-large
 returns-clause-large c = large_below
+
+pub returns-clause-references : goal.returns-clause-references
+returns-clause-references c = references_suffice
