@@ -1,4 +1,4 @@
-ghost use Rattle.std.specs.Prelude.{◌≡◌, ◌⊎◌, ◌++◌, map, take, true, false, IfOk, IfErr, MatchResult};
+ghost use Rattle.std.specs.Prelude.{◌≡◌, ◌≤◌, ◌⊎◌, ◌++◌, map, length, take, drop, true, false, IfOk, OnOk, IfErr, MatchResult};
 ghost use Rattle.std.specs.List.{list_any, AllByRecursion};
 ghost use Rattle.cq_meaning.specs.Limits.{is_large};
 ghost use Rattle.cq_meaning.specs.Queries.{meaning};
@@ -13,6 +13,7 @@ use cq_queries::{Tables, run_query};
 use cq_tree::{Combine, Query, QueryError};
 use cq_value::{Items, NoMemory, Results, Rows};
 use std::alloc::Global;
+use std::mem;
 
 /// What each task reads of its own.
 pub type Parts = Items<Tables>;
@@ -26,70 +27,80 @@ fn memory<T: Drop>(r: Result<T, NoMemory>) -> Result<T, QueryError>
     }
 }
 
-/// Tables, and more behind them.
-fn joined(tables: Tables, more: Tables) -> Result<Tables, NoMemory>
-    ensures { IfOk result (λ all. all ≡ tables ++ more) }
+/// Puts more tables behind those that are there.
+fn join(tables: &mut Tables, more: Tables) -> Result<(), NoMemory>
+    ensures { OnOk result (tables.new ≡ tables.old ++ more) }
 {
-    let mut all = tables;
     for table in more.into_vec() {
-        all.put(table)?;
+        tables.put(table)?;
     }
-    Ok(all)
+    Ok(())
 }
 
-/// The first so many tables.
-fn first_ones(tables: Tables, count: u64) -> Tables
-    ensures { result ≡ take count tables }
+/// Leaves the first so many tables, and gives those behind them.
+fn split_off(alloc: Global, tables: &mut Tables, count: u64) -> Result<Tables, NoMemory>
+    requires { count ≤ length tables.old }
+    ensures first { OnOk result (tables.new ≡ take count tables.old) }
+    ensures behind { IfOk result (λ behind. behind ≡ drop count tables.old) }
 {
-    let mut all = tables.into_vec();
-    all.truncate(count as usize);
-    Tables::from_vec(all)
+    let mut all = mem::replace(tables, Tables::new(alloc)).into_vec();
+    match all.split_off(count as usize) {
+        Ok(behind) => {
+            *tables = Tables::from_vec(all);
+            Ok(Tables::from_vec(behind))
+        }
+        Err(_) => Err(NoMemory),
+    }
 }
 
-/// The rows of a task over the tables beside it and its own, and those beside it for the next task.
+/// The rows of a task over the tables beside it and its own.
 fn run_task(
     alloc: Global,
     task: &Query,
-    beside: Tables,
-    own: Tables,
+    beside: &mut Tables,
+    own: &mut Tables,
     results: &Results,
-) -> Result<(Rows, Tables), QueryError>
-    requires { IsSafeQuery task.now (beside ++ own) results.now }
-    ensures rows { IfOk result (λ made. made.0 ≡ meaning task.now (beside ++ own) results.now) }
-    ensures fits { IfOk result (λ made. is_large task.now (beside ++ own) results.now ≡ false) }
-    ensures again { IfOk result (λ made. made.1 ≡ beside) }
-    ensures err { IfErr result (λ e. e ≡ QueryError.Rows → is_large task.now (beside ++ own) results.now ≡ true) }
+) -> Result<Rows, QueryError>
+    requires { IsSafeQuery task.now (beside.old ++ own.old) results.now }
+    ensures rows { IfOk result (λ rows. rows ≡ meaning task.now (beside.old ++ own.old) results.now) }
+    ensures fits { OnOk result (is_large task.now (beside.old ++ own.old) results.now ≡ false) }
+    ensures lent { OnOk result ((beside.new ≡ beside.old) × (own.new ≡ own.old)) }
+    ensures err { IfErr result (λ e. e ≡ QueryError.Rows → is_large task.now (beside.old ++ own.old) results.now ≡ true) }
 {
     let count = beside.len();
-    let tables = memory(joined(beside, own))?;
-    let rows = run_query(alloc, task, &tables, results)?;
-    Ok((rows, first_ones(tables, count)))
+    memory(join(beside, mem::replace(own, Tables::new(alloc))))?;
+    let rows = run_query(alloc, task, beside, results)?;
+    *own = memory(split_off(alloc, beside, count))?;
+    Ok(rows)
 }
 
-/// The rows of each task, over the tables beside it and its own.
+/// The rows of each task, over the tables beside it and its own. Each one's tables are put back when it is done.
 fn run_tasks(
     alloc: Global,
     task: &Query,
-    beside: Tables,
-    parts: Parts,
+    beside: &mut Tables,
+    parts: &mut Parts,
     results: &Results,
 ) -> Result<RowsList, QueryError>
-    requires { AllByRecursion (λ db. IsSafeQuery task.now db results.now) (reads_by beside parts) }
-    ensures ok { IfOk result (λ all. (all ≡ map (λ db. meaning task.now db results.now) (reads_by beside parts)) × (list_any (λ db. is_large task.now db results.now) (reads_by beside parts) ≡ false)) }
-    ensures err { IfErr result (λ e. e ≡ QueryError.Rows → list_any (λ db. is_large task.now db results.now) (reads_by beside parts) ≡ true) }
+    requires { AllByRecursion (λ db. IsSafeQuery task.now db results.now) (reads_by beside.old parts.old) }
+    ensures rows { IfOk result (λ all. all ≡ map (λ db. meaning task.now db results.now) (reads_by beside.old parts.old)) }
+    ensures fits { OnOk result (list_any (λ db. is_large task.now db results.now) (reads_by beside.old parts.old) ≡ false) }
+    ensures lent { OnOk result ((beside.new ≡ beside.old) × (parts.new ≡ parts.old)) }
+    ensures err { IfErr result (λ e. e ≡ QueryError.Rows → list_any (λ db. is_large task.now db results.now) (reads_by beside.old parts.old) ≡ true) }
 {
     let mut all = RowsList::new(alloc);
-    let mut tables = beside;
-    for own in parts.into_vec() {
-        let (rows, again) = run_task(alloc, task, tables, own, results)?;
+    for part in mem::replace(parts, Parts::new(alloc)).into_vec() {
+        let mut own = part;
+        let rows = run_task(alloc, task, beside, &mut own, results)?;
         memory(all.put(rows))?;
-        tables = again;
+        memory(parts.put(own))?;
     }
     Ok(all)
 }
 
 /// The rows of a block, made of those of its tasks, each of which computes its part of the block over its own tables and those beside all. The tasks
-/// run one after the other, and each one's tables are let go before the next begins.
+/// run one after the other. The tables are lent: they are again what they were when all tasks are done, so that another block can be run over them,
+/// and are of no more use after an error.
 ///
 /// Conditions: the tasks and the coordinator have their columns, and numbers fit 128 bits. Errors: `Rows` exactly where a group of a task, or
 /// of all tasks together, has more than 2^31 rows; want of memory (Citus, "Query Processing").
@@ -97,15 +108,16 @@ pub fn run_by_tasks(
     alloc: Global,
     query: &Query,
     kind: Combine,
-    beside: Tables,
-    parts: Parts,
+    beside: &mut Tables,
+    parts: &mut Parts,
     results: &Results,
 ) -> Result<Rows, QueryError>
-    requires tasks { AllByRecursion (λ db. IsSafeQuery (partial_of kind query.now) db results.now) (reads_by beside parts) }
-    requires merge { has_large_task kind query.now results.now (reads_by beside parts) ≡ false → CanMerge kind query.now results.now (task_rows kind query.now results.now (reads_by beside parts)) }
-    ensures gathers { IfOk result (λ rows. GathersTo kind query.now results.now (task_rows kind query.now results.now (reads_by beside parts)) rows) }
-    ensures fits { IfOk result (λ rows. (has_large_task kind query.now results.now (reads_by beside parts) ≡ false) × (has_large_together kind query.now results.now (task_rows kind query.now results.now (reads_by beside parts)) ≡ false)) }
-    ensures err { IfErr result (λ e. e ≡ QueryError.Rows → (has_large_task kind query.now results.now (reads_by beside parts) ≡ true) ⊎ (has_large_together kind query.now results.now (task_rows kind query.now results.now (reads_by beside parts)) ≡ true)) }
+    requires tasks { AllByRecursion (λ db. IsSafeQuery (partial_of kind query.now) db results.now) (reads_by beside.old parts.old) }
+    requires merge { has_large_task kind query.now results.now (reads_by beside.old parts.old) ≡ false → CanMerge kind query.now results.now (task_rows kind query.now results.now (reads_by beside.old parts.old)) }
+    ensures gathers { IfOk result (λ rows. GathersTo kind query.now results.now (task_rows kind query.now results.now (reads_by beside.old parts.old)) rows) }
+    ensures fits { IfOk result (λ rows. (has_large_task kind query.now results.now (reads_by beside.old parts.old) ≡ false) × (has_large_together kind query.now results.now (task_rows kind query.now results.now (reads_by beside.old parts.old)) ≡ false)) }
+    ensures err { IfErr result (λ e. e ≡ QueryError.Rows → (has_large_task kind query.now results.now (reads_by beside.old parts.old) ≡ true) ⊎ (has_large_together kind query.now results.now (task_rows kind query.now results.now (reads_by beside.old parts.old)) ≡ true)) }
+    ensures lent { OnOk result ((beside.new ≡ beside.old) × (parts.new ≡ parts.old)) }
 {
     let task = memory(partial(alloc, query, kind))?;
     let rows = run_tasks(alloc, &task, beside, parts, results);

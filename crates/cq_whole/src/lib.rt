@@ -9,4 +9,5 @@ mod tables;
 
 pub use laws::table_laws;
 pub use statement::run_statement;
+pub use steps::{Schedule, Step, Steps, steps_of};
 pub use tables::tables_of;
