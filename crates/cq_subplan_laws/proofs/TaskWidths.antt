@@ -1,7 +1,8 @@
 -- What tasks come to is within the widths of a block's outputs.
-use Rattle.std.proofs.Common.{◌≡◌, ℕ, suc, pos, ◌+◌, Bool, true, false, List, [], ◌∷◌, ◌++◌, map, length, refl, sym, ap, subst, ◌∙◌, inl, inr, append-nil}
-use Rattle.std.specs.Prelude.{filter, ◌||◌, ◌⊎◌}
+use Rattle.std.proofs.Common.{◌≡◌, ℕ, zero, suc, pos, ◌+◌, Bool, true, false, List, [], ◌∷◌, ◌++◌, map, length, refl, sym, ap, subst, ◌∙◌, inl, inr, append-nil}
+use Rattle.std.specs.Prelude.{filter, slice_set, slice_index_or, ◌||◌}
 use Rattle.std.specs.List.{flat_map, list_any, AllByRecursion}
+use Rattle.std.proofs.lemmas.List.{length-set}
 use Rattle.std.proofs.lemmas.List.Elements.{filter-append}
 use Rattle.cq_value.specs.declared.value.Value.TheVariants.{Int}
 use Rattle.cq_tree.specs.declared.expression.Expr.{Expr, Column}
@@ -15,7 +16,7 @@ use Rattle.cq_tree.specs.declared.query.Query.{Query, Query'}
 use Rattle.cq_meaning.specs.declared.Columns.{Columns}
 use Rattle.cq_meaning.specs.declared.Group.{Group}
 use Rattle.cq_meaning.specs.Lists.{Has}
-use Rattle.cq_meaning.specs.Values.{Row, Results, Tables, column}
+use Rattle.cq_meaning.specs.Values.{Row, Results, Tables, column, result_at}
 use Rattle.cq_meaning.specs.Expressions.{keeps, items_of}
 use Rattle.cq_meaning.specs.Joins.{product, left_join}
 use Rattle.cq_meaning.specs.Groups.{aggregate, distinct_if, group_row, groups_of}
@@ -203,3 +204,22 @@ tasks_fit cs kind q rs dbs rows several bound counted some holds serves small fe
     joined_cut : (q : Query) (rs : Results) (parts : List (List Row)) → Reordered (kept_of q rs (joined parts)) (flat_map (kept_of q rs) parts)
     joined_cut (Query' ts ctes ss subs from filter_ grouped keys aggs having items shown distinct order limit offset names) rs parts =
         subst (λ us. Reordered us (flat_map (filter (keeps filter_ rs)) parts)) (sym (kept_joined filter_ rs parts)) (same (flat_map (filter (keeps filter_ rs)) parts))
+
+-- ---- a result is replaced by rows within its widths
+
+set_within : (ks : List (List ℕ)) (rs : Results) (k : ℕ) (rows : List Row) → AllWithin (slice_index_or ks k []) rows →
+    ((i : ℕ) → AllWithin (slice_index_or ks i []) (result_at rs i)) → (i : ℕ) → AllWithin (slice_index_or ks i []) (result_at (slice_set rs k rows) i)
+set_within ks [] k rows h w i = w i
+set_within [] (r ∷ rs) zero rows h w zero = h
+set_within (b ∷ ks) (r ∷ rs) zero rows h w zero = h
+set_within ks (r ∷ rs) zero rows h w (suc i) = w (suc i)
+set_within ks (r ∷ rs) (suc k) rows h w zero = w zero
+set_within [] (r ∷ rs) (suc k) rows h w (suc i) = set_within [] rs k rows h (λ j. w (suc j)) i
+set_within (b ∷ ks) (r ∷ rs) (suc k) rows h w (suc i) = set_within ks rs k rows h (λ j. w (suc j)) i
+
+pub holds_set : (cs : Columns) (db : Tables) (rs : Results) (k : ℕ) (rows : List Row) → Holds cs db rs → AllWithin (slice_index_or cs.results k []) rows → Holds cs db (slice_set rs k rows)
+holds_set cs db rs k rows holds h = record {
+  in_tables = holds.in_tables;
+  in_results = set_within cs.results rs k rows h holds.in_results;
+  counted = length-set rs k rows ∙ holds.counted;
+}
