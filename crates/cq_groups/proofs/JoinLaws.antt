@@ -25,6 +25,7 @@ use Rattle.cq_answer.specs.declared.fault.What.TheVariants as what
 use Rattle.cq_answer.specs.declared.fault.Fault.TheVariants as fault
 use Rattle.cq_group.specs.declared.group.GroupState.{GroupState}
 use Rattle.cq_group.specs.Resting.{journals_of}
+use Rattle.cq_history.proofs.Readable.{readable_safe}
 use Rattle.cq_history.specs.Computable.{column_bits, IsReadable}
 use Rattle.cq_history.specs.Journals.{journal_in}
 use Rattle.cq_history.specs.Legality.{IsLegal}
@@ -98,7 +99,7 @@ laid_wide c (Left' p (more_of-FromTree a end_of-FromTree) q (more_of-FromTree b 
 
 module _ (c : Contents) (q : Query) (ts : Tables) (within : (t : ℕ) → AllWithin (column_bits c t) (table_rows (merged ts) t)) where
   pub wanted_safe : (wants : Wants) → IsReadable c q → IsComputable q (merged (narrow wants ts))
-  wanted_safe wants readable = readable.safe (merged (narrow wants ts)) (λ t. narrowed_within wants ts (column_bits c t) t (within t))
+  wanted_safe wants readable = readable_safe readable (merged (narrow wants ts)) (λ t. narrowed_within wants ts (column_bits c t) t (within t))
 
   module _ (plainly : joins_plainly c q ≡ true) where
     tests : (is_alone q ≡ true) × ((is_plain (out-Query q).from && are_laid c (leaves_from (out-Query q).from 0 false)) ≡ true)

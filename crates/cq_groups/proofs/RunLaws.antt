@@ -1,27 +1,58 @@
--- What a query comes to by its tasks.
-use Rattle.std.proofs.Common.{◌≡◌, inr, true, List, [], refl, subst, Result, Ok, Err}
-use Rattle.std.specs.Prelude.{◌⊎◌, IfOk, IfErr}
+-- What a query comes to by its blocks, or by the tasks of a repartition.
+use Rattle.std.proofs.Common.{◌≡◌, inl, inr, true, List, [], ◌∷◌, Option, Some, refl, sym, ◌∙◌, subst, Result, Ok, Err}
+use Rattle.std.specs.Prelude.{◌⊎◌, slice_set, IfOk, IfErr}
 use Rattle.cq_tree.specs.declared.plan.Combine.{Combine}
 use Rattle.cq_tree.specs.declared.query.QueryError.{QueryError}
 use Rattle.cq_tree.specs.declared.query.QueryError.TheVariants as error
 use Rattle.cq_tree.specs.declared.query.Query.{Query}
-use Rattle.cq_meaning.specs.Values.{Row, Tables}
-use Rattle.cq_task_laws.specs.Merging.{GathersTo, has_large_together}
-use Rattle.cq_tasks.specs.Execution.{task_rows, has_large_task}
-use Rattle.cq_groups.specs.Tasks.{CanServe, IsRun}
+use Rattle.cq_meaning.specs.Values.{Row, Results, Tables}
+use Rattle.cq_meaning.specs.Queries.{AnswersWith}
+use Rattle.cq_meaning.specs.Limits.{is_large}
+use Rattle.cq_meaning.specs.Results.{results_of}
+use Rattle.cq_meaning_laws.specs.Settled.{AllSettled}
+use Rattle.cq_meaning_laws.specs.WholeRules.{Step, steps_of, no_results}
+use Rattle.cq_subplan_laws.specs.Subplans.{AreAnswered, HasLarge}
+use Rattle.cq_subplan_laws.proofs.LargeAgain.{subplans_large, steps_large}
+use Rattle.cq_subplan_laws.proofs.Orders.{subplans_answer}
+use Rattle.cq_groups.specs.Tasks.{Gives, IsLargeBlock, CanServe, IsRun}
+use Rattle.cq_groups.specs.declared.captures.Captures.{Captures}
+use Rattle.cq_groups.proofs.ServeLaws.{no_results_of}
 
-module _ (kind : Combine) (q : Query) (reads : List Tables) (db : Tables) (serve : CanServe kind q reads db) where
-  by_result : (r : Result (List Row) QueryError) → IfOk r (λ rows. GathersTo kind q [] (task_rows kind q [] reads) rows) →
-      IfErr r (λ e. e ≡ error.Rows → (has_large_task kind q [] reads ≡ true) ⊎ (has_large_together kind q [] (task_rows kind q [] reads) ≡ true)) → IsRun q db r
-  by_result (Ok rows) gathers err = serve.answers rows gathers
-  by_result (Err error.Rows) gathers err = inr (serve.large (err refl))
-  by_result (Err error.Memory) gathers err = tt
+-- what a block comes to
+module _ (kind : Option Combine) (q : Query) (results : Results) (read : Captures) (db : Tables) (serves : CanServe kind q results read db) where
+  -- one without steps before it is a whole statement
+  pub alone_is : steps_of q ≡ [] → results ≡ [] → (r : Result (List Row) QueryError) → IfOk r (λ rows. Gives kind q results read rows) → IfErr r (λ e. e ≡ error.Rows → IsLargeBlock kind q results read) → IsRun q db r
+  alone_is simple none r given large = by_result r given large
+    where
+      own : results ≡ results_of q db
+      own = none ∙ sym (no_results_of q db simple)
 
-  -- what they read, and no results
-  pub run_is : (rs : List (List Row)) (dbs : List Tables) → rs ≡ [] → dbs ≡ reads → (r : Result (List Row) QueryError) → IfOk r (λ rows. GathersTo kind q rs (task_rows kind q rs dbs) rows) →
-      IfErr r (λ e. e ≡ error.Rows → (has_large_task kind q rs dbs ≡ true) ⊎ (has_large_together kind q rs (task_rows kind q rs dbs) ≡ true)) → IsRun q db r
-  run_is rs dbs none same r gathers err =
-      by_result r
-      (subst (λ ds. IfOk r (λ rows. GathersTo kind q [] (task_rows kind q [] ds) rows)) same (subst (λ zs. IfOk r (λ rows. GathersTo kind q zs (task_rows kind q zs dbs) rows)) none gathers))
-      (subst (λ ds. IfErr r (λ e. e ≡ error.Rows → (has_large_task kind q [] ds ≡ true) ⊎ (has_large_together kind q [] (task_rows kind q [] ds) ≡ true))) same
-      (subst (λ zs. IfErr r (λ e. e ≡ error.Rows → (has_large_task kind q zs dbs ≡ true) ⊎ (has_large_together kind q zs (task_rows kind q zs dbs) ≡ true))) none err))
+      by_result : (r : Result (List Row) QueryError) → IfOk r (λ rows. Gives kind q results read rows) → IfErr r (λ e. e ≡ error.Rows → IsLargeBlock kind q results read) → IsRun q db r
+      by_result (Ok rows) given large = subst (λ rs. AnswersWith q db rs rows) own (serves.answers rows given)
+      by_result (Err error.Rows) given large = inr (subst (λ rs. is_large q db rs ≡ true) own (serves.large (large refl)))
+      by_result (Err error.Memory) given large = tt
+
+-- ---- a statement whose first steps are done
+
+module _ (q : Query) (db : Tables) where
+  -- what the steps that are left come to is what all of them do
+  pub record AreLeft (results : Results) (more : List Step) : Type 0 where
+    pub answered : (all : Results) → AreAnswered db results more all → AreAnswered db (no_results q) (steps_of q) all
+    pub large : HasLarge db results more → HasLarge db (no_results q) (steps_of q)
+
+  pub none_done : AreLeft (no_results q) (steps_of q)
+  none_done = record { answered = λ all h. h; large = λ h. h }
+
+  pub one_done : (results : Results) (s : Step) (more : List Step) (rows : List Row) → AreLeft results (s ∷ more) → AnswersWith s.query db results rows → AreLeft (slice_set results s.number rows) more
+  one_done results s more rows left answers = record { answered = λ all h. left.answered all (rows, answers, h); large = λ h. left.large (inr (rows, answers, h)) }
+
+  -- a step is too large
+  pub step_large : (settled : AllSettled q) (results : Results) (s : Step) (more : List Step) → AreLeft results (s ∷ more) → is_large s.query db results ≡ true → IsRun q db (Err error.Rows)
+  step_large settled results s more left large = inl (steps_large q db settled (left.large (inl large)))
+
+  -- the query's own block
+  pub query_is : (settled : AllSettled q) (results : Results) → AreLeft results [] → (kind : Option Combine) (read : Captures) → CanServe kind q results read db → (r : Result (List Row) QueryError) →
+      IfOk r (λ rows. Gives kind q results read rows) → IfErr r (λ e. e ≡ error.Rows → IsLargeBlock kind q results read) → IsRun q db r
+  query_is settled results left kind read serves (Ok rows) given large = subplans_answer q db results rows settled (left.answered results refl) (serves.answers rows given)
+  query_is settled results left kind read serves (Err error.Rows) given large = inr (subplans_large q db results settled (left.answered results refl) (serves.large (large refl)))
+  query_is settled results left kind read serves (Err error.Memory) given large = tt

@@ -67,7 +67,7 @@ or_yes : (b : Bool) → (b || true) ≡ true
 or_yes true = refl
 or_yes false = refl
 
-and_both : (a b : Bool) → (a && b) ≡ true → (a ≡ true) × (b ≡ true)
+pub and_both : (a b : Bool) → (a && b) ≡ true → (a ≡ true) × (b ≡ true)
 and_both true b h = (refl, h)
 and_both false b h = cc
 
@@ -351,14 +351,14 @@ module _ (c : Contents) (tables : List ℕ) (rows : ℕ → ℕ → List Row) (p
         safe = safe_query cs beside rs beside_fits q bound;
         answers = λ made given.
             let own : AnswersWith q beside rs made = subst (AnswersWith q beside rs) (sym given.0) (mean_answers q beside rs) in
-            let of_read : AnswersWith q (read first_task.0) rs made = answers_alike (read first_task.0) beside rs q made (turned beside_reads) own in
-            let of_task : AnswersWith q (task first_task.0) rs made = answers_alike (task first_task.0) (read first_task.0) rs q made (turned (agrees first_task.0 first_task.1)) of_read in
+            let of_read : AnswersWith q (read first_task.0) rs made = answers_alike (read first_task.0) beside rs q made (turned beside (read first_task.0) beside_reads) own in
+            let of_task : AnswersWith q (task first_task.0) rs made = answers_alike (task first_task.0) (read first_task.0) rs q made (turned (read first_task.0) (task first_task.0) (agrees first_task.0 first_task.1)) of_read in
             answers_alike db all rs q made all_agree (answers_from q (task first_task.0) all rs made suffices.0 of_task);
         large = λ h. large_all (sym same_again ∙ (sym (large_alike (read first_task.0) (task first_task.0) rs q (agrees first_task.0 first_task.1)) ∙ (sym (large_alike beside (read first_task.0) rs q beside_reads) ∙ h)));
       }
         where
-          turned : {xs ys : Tables} → AllByRecursion (λ t. table_rows xs t ≡ table_rows ys t) (tables_in q) → AllByRecursion (λ t. table_rows ys t ≡ table_rows xs t) (tables_in q)
-          turned {xs} {ys} h = all_then (λ t. table_rows xs t ≡ table_rows ys t) (λ t. table_rows ys t ≡ table_rows xs t) (λ t e. sym e) (tables_in q) h
+          turned : (xs ys : Tables) → AllByRecursion (λ t. table_rows xs t ≡ table_rows ys t) (tables_in q) → AllByRecursion (λ t. table_rows ys t ≡ table_rows xs t) (tables_in q)
+          turned xs ys h = all_then (λ t. table_rows xs t ≡ table_rows ys t) (λ t. table_rows ys t ≡ table_rows xs t) (λ t e. sym e) (tables_in q) h
 
       beside_fit : (made : List Row) → Gives None q rs read_of made → AllWithin (output_bits cs q) made
       beside_fit made given = subst (AllWithin (output_bits cs q)) (sym given.0) (query_fits cs beside rs beside_fits q bound given.1)

@@ -21,6 +21,7 @@ use Rattle.cq_answer.specs.declared.fault.What.TheVariants as what
 use Rattle.cq_answer.specs.declared.fault.Fault.TheVariants as fault
 use Rattle.cq_group.specs.declared.group.GroupState.{GroupState}
 use Rattle.cq_group.specs.Resting.{journals_of, AreResting}
+use Rattle.cq_history.proofs.Readable.{readable_safe}
 use Rattle.cq_history.specs.Computable.{column_bits, IsReadable}
 use Rattle.cq_demands.specs.Demands.{demands}
 use Rattle.cq_history.specs.Faults.{near as near_by_rule}
@@ -140,7 +141,7 @@ module _ {X : Type 0} (c : Contents) (q : Query) (groups : List (GroupState X)) 
   -- the query can be computed over what it picks
   pub shard_safe : IsReadable c q → ((g : ℕ) → IsLegal c g (journal_in (journals_of groups) g)) → IsComputable q (wanted_of groups q s)
   shard_safe readable legal =
-      readable.safe (wanted_of groups q s) (λ t.
+      readable_safe readable (wanted_of groups q s) (λ t.
       wanted_within groups q s shard_there (column_bits c t) t
       (subst (λ (ls : List Look). AllWithin (column_bits c t) (table_rows (merged (captured_by groups ls)) t)) (sym its_look)
       (merged_within c groups shaped (tables_of_statement q) legal (touched_by_query c q) t)))
