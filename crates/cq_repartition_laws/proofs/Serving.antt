@@ -70,7 +70,7 @@ module _ (class : ℕ) (filter_ : Cond) (from : FromTree) (ends : List ℤ) (db 
   agree : (row : Row) → IsChoice (parted keys ends db from 0) row → keeps filter_ [] row ≡ true → AllByRecursion (Agrees row) pairs
   agree row h k =
       pairs_agree row (conjuncts_of filter_ from) (all_append (Says row) (conjuncts filter_) (inner_conjuncts from) (kept_says row [] filter_ k)
-      (choice_says (side_of keys ends) db task (buckets keys ends db) from 0 fit row h))
+      (choice_says (side_of keys ends) db task [] (buckets keys ends db) from 0 fit row h))
 
   one_value : (row : Row) → IsChoice (parted keys ends db from 0) row → keeps filter_ [] row ≡ true → (x : ℕ) → first class ≡ first x → column row x ≡ column row class
   one_value row h k x same = class_agrees row pairs (agree row h k) x class (sym same)
@@ -145,9 +145,9 @@ repartition_serves class (Query' cs ctes ss subs from filter_ grouped keys aggs 
       elim (two_ways (nat_lt (length ends) 2)) [
         | inl few ↦ rw few tt
         | inr many ↦ elim (two_ways (shares_rows class q)) [
-          | inl y ↦ rw (many, y) (shares_serve class q y parts (some_parts rows 0 (length ends) (some_of (length ends) many)))
+          | inl y ↦ rw (many, y) (shares_serve class q y [] parts (some_parts rows 0 (length ends) (some_of (length ends) many)))
           | inr n ↦ rw (many, n)
-              (apart_serve class (λ v. index_in ends (token_of v)) filter_ from rows (range_with_len 0 (length ends)) (range_distinct 0 (length ends))
+              (apart_serve class (λ v. index_in ends (token_of v)) filter_ from [] rows (range_with_len 0 (length ends)) (range_distinct 0 (length ends))
               (task_home class filter_ from ends db plain.0 part wide both.0 both.1)
               (λ i m row h k x same. one_value class filter_ from ends db plain.0 part wide row (task_row class filter_ from ends db plain.0 part wide both.0 both.1 i m row h).0 k x (sym same))
               grouped keys aggs having items shown distinct n)

@@ -1,5 +1,5 @@
 -- In which bucket a joined row stands: that of the value of the class.
-use Rattle.std.proofs.Common.{◌≡◌, ℕ, ℤ, ◌+◌, ◌<◌, inl, inr, Bool, true, false, List, ◌++◌, take, drop, length, Option, None, Some, refl, sym, ◌∙◌, ap, subst, arith, eq-eqb}
+use Rattle.std.proofs.Common.{◌≡◌, ℕ, ℤ, ◌+◌, ◌<◌, inl, inr, Bool, true, false, List, [], ◌++◌, take, drop, length, Option, None, Some, refl, sym, ◌∙◌, ap, subst, arith, eq-eqb}
 use Rattle.std.specs.Prelude.{not, ◌&&◌, ◌||◌, nat_eq}
 use Rattle.cq_value.specs.Placement.{token_of}
 use Rattle.cq_tree.specs.declared.query.FromTree.{FromTree, Table, Sub', Result, Cross', Inner', Left', end_of-FromTree, more_of-FromTree}
@@ -73,7 +73,7 @@ module _ (first : ℕ → ℕ) (class : ℕ) (keys : List Key) (ends : List ℤ)
       let wa : ℕ = columns_in a in
       let ls : List Leaf = leaves_from a start false in
       let rs : List Leaf = leaves_from b (start + wa) false in
-      let long : length l ≡ wa = choice_long (side_of keys ends) db (bucket_tables keys ends db) (buckets keys ends db) a start fit.0 l ca in
+      let long : length l ≡ wa = choice_long (side_of keys ends) db (bucket_tables keys ends db) [] (buckets keys ends db) a start fit.0 l ca in
       let here : IsPart row start (wa + columns_in b) (l ++ y) = subst (IsPart row start (wa + columns_in b)) e is_part in
       both_stand i (parted keys ends db a start) l y part (choice_width (parted keys ends db a start) (buckets keys ends db) fit.0 l ca) e (parted keys ends db b (start + wa))
       (row_stands a start l both.0 fit.0 (all_left _ ls rs alike) ca (part_left row start l y wa (columns_in b) long here))
@@ -83,7 +83,7 @@ module _ (first : ℕ → ℕ) (class : ℕ) (keys : List Key) (ends : List ℤ)
       let wa : ℕ = columns_in a in
       let ls : List Leaf = leaves_from a start false in
       let rs : List Leaf = leaves_from b (start + wa) false in
-      let long : length l ≡ wa = choice_long (side_of keys ends) db (bucket_tables keys ends db) (buckets keys ends db) a start fit.0 l ca in
+      let long : length l ≡ wa = choice_long (side_of keys ends) db (bucket_tables keys ends db) [] (buckets keys ends db) a start fit.0 l ca in
       let here : IsPart row start (wa + columns_in b) (l ++ y) = subst (IsPart row start (wa + columns_in b)) e is_part in
       both_stand i (parted keys ends db a start) l y part (choice_width (parted keys ends db a start) (buckets keys ends db) fit.0 l ca) e (parted keys ends db b (start + wa))
       (row_stands a start l both.0 fit.0 (all_left _ ls rs alike) ca (part_left row start l y wa (columns_in b) long here))
@@ -93,7 +93,7 @@ module _ (first : ℕ → ℕ) (class : ℕ) (keys : List Key) (ends : List ℤ)
       let wa : ℕ = columns_in a in
       let ls : List Leaf = leaves_from a start false in
       let rs : List Leaf = leaves_from b (start + wa) true in
-      let long : length l ≡ wa = choice_long (side_of keys ends) db (bucket_tables keys ends db) (buckets keys ends db) a start fit.0 l ca in
+      let long : length l ≡ wa = choice_long (side_of keys ends) db (bucket_tables keys ends db) [] (buckets keys ends db) a start fit.0 l ca in
       let here : IsPart row start (wa + columns_in b) (l ++ y) = subst (IsPart row start (wa + columns_in b)) e is_part in
       let uncut : (side_of keys ends b).cut ≡ false = right_uncut keys ends db b (start + wa) both.1 (right_unsplit keys ends db first class b (start + wa) both.1 (all_right _ ls rs alike)) in
       let s = front_stands i (parted keys ends db a start) l y part (choice_width (parted keys ends db a start) (buckets keys ends db) fit.0 l ca) e
