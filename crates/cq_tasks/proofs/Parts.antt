@@ -36,15 +36,3 @@ module _ (beside : Tables) where
       in_list : (ds : List Tables) → list_any p (reads_by beside (ds ++ (own ∷ rest))) ≡ true
       in_list [] = ap (λ b. b || list_any p (reads_by beside rest)) h
       in_list (d ∷ ds) = either (p (beside ++ d)) (list_any p (reads_by beside (ds ++ (own ∷ rest)))) (in_list ds)
-
-  pub rows_push : {Y : Type 0} (f : Tables → Y) (done : List Tables) (own : Tables) → map f (reads_by beside (done ++ own ∷ [])) ≡ map f (reads_by beside done) ++ f (beside ++ own) ∷ []
-  rows_push f [] own = refl
-  rows_push f (d ∷ done) own = ap (λ ys. f (beside ++ d) ∷ ys) (rows_push f done own)
-
-  pub none_push : (p : Tables → Bool) (done : List Tables) (own : Tables) → list_any p (reads_by beside done) ≡ false → p (beside ++ own) ≡ false → list_any p (reads_by beside (done ++ own ∷ [])) ≡ false
-  none_push p [] own h e = ap (λ b. b || false) e
-  none_push p (d ∷ done) own h e = both (p (beside ++ d)) (list_any p (reads_by beside done)) (list_any p (reads_by beside (done ++ own ∷ []))) h (λ k. none_push p done own k e)
-    where
-      both : (a b m : Bool) → (a || b) ≡ false → (b ≡ false → m ≡ false) → (a || m) ≡ false
-      both true b m h f = cc
-      both false b m h f = f h
