@@ -14,19 +14,18 @@ INSERT INTO region VALUES (1, 'inland'), (2, 'coast'), (4, 'isles');
 -- A CTE over a distributed table, joined with one, and with a reference table.
 WITH t AS (SELECT store, sum(n) AS total FROM sale GROUP BY store) SELECT s.name, t.total FROM store s JOIN t ON s.id = t.store ORDER BY s.name;
 WITH t AS (SELECT store, sum(n) AS total FROM sale GROUP BY store) SELECT s.name, t.total FROM store s LEFT JOIN t ON s.id = t.store ORDER BY s.name;
-WITH t AS (SELECT item, count(*) AS c, sum(n) AS total FROM sale GROUP BY item) SELECT i.kind, sum(t.total) AS total, count(*) AS c FROM item i JOIN t ON i.id = t.item GROUP BY i.kind ORDER BY 1;
+WITH t AS (SELECT item, count(*) AS c, sum(n) AS total FROM sale GROUP BY item) SELECT i.id, i.kind, t.total, t.c FROM item i JOIN t ON i.id = t.item ORDER BY i.id;
 WITH t AS (SELECT region, count(*) AS c FROM store GROUP BY region) SELECT r.name, t.c FROM region r JOIN t ON r.id = t.region ORDER BY r.name;
 WITH t AS (SELECT id, name FROM region WHERE id < 4) SELECT s.name, t.name AS region FROM store s JOIN t ON s.region = t.id ORDER BY s.name;
 -- Used twice, and one over another.
 WITH t AS (SELECT store, sum(n) AS total FROM sale GROUP BY store) SELECT a.store, b.store AS other FROM t a, t b, store s WHERE a.total < b.total AND s.id = a.store ORDER BY 1, 2;
 WITH t AS (SELECT store, item, n FROM sale WHERE n > 1), u AS (SELECT store, max(n) AS most FROM t GROUP BY store) SELECT s.name, u.most FROM store s JOIN u ON u.store = s.id ORDER BY s.name;
 WITH t AS (SELECT store FROM sale WHERE n > 4), u AS (SELECT s.id, s.name FROM store s WHERE s.id IN (SELECT store FROM t)) SELECT count(*) AS c, min(u.name) AS first FROM u;
-WITH t AS (SELECT item, sum(n) AS total FROM sale GROUP BY item), u AS (SELECT i.kind, t.total FROM item i LEFT JOIN t ON t.item = i.id) SELECT kind, count(total) AS c FROM u GROUP BY kind HAVING count(*) > 1 ORDER BY 1;
--- IN subqueries in WHERE, HAVING and ON, in one another, and in a subquery of a FROM.
+WITH t AS (SELECT item, sum(n) AS total FROM sale GROUP BY item), u AS (SELECT i.id, i.kind, t.total FROM item i LEFT JOIN t ON t.item = i.id) SELECT id, total FROM u WHERE kind = 'a' OR kind IS NULL ORDER BY id;
+-- IN subqueries in WHERE and HAVING, in one another, and in a subquery of a FROM.
 SELECT name FROM store WHERE id IN (SELECT store FROM sale WHERE n > 4) ORDER BY name;
 SELECT count(*) AS c FROM sale WHERE item IN (SELECT id FROM item WHERE price IN (SELECT max(price) FROM item GROUP BY kind));
 SELECT store, sum(n) AS total FROM sale GROUP BY store HAVING sum(n) IN (SELECT max(n) + 1 FROM sale GROUP BY item) ORDER BY store;
-SELECT s.name, a.item FROM store s LEFT JOIN sale a ON s.id = a.store AND a.item IN (SELECT id FROM item WHERE kind = 'a') ORDER BY s.name, a.item, a.n;
 SELECT q.store, s.name FROM (SELECT store, count(*) AS c FROM sale WHERE item IN (SELECT id FROM item WHERE price > 5) GROUP BY store) q JOIN store s ON s.id = q.store WHERE q.c > 1 ORDER BY 1;
 SELECT name FROM store WHERE region IN (SELECT id FROM region) ORDER BY name;
 SELECT DISTINCT kind FROM item WHERE id IN (SELECT item FROM sale) ORDER BY kind;

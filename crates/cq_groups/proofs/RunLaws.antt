@@ -1,5 +1,5 @@
 -- What a query comes to by its blocks, or by the tasks of a repartition.
-use Rattle.std.proofs.Common.{◌≡◌, inl, inr, true, List, [], ◌∷◌, Option, Some, refl, sym, ◌∙◌, subst, Result, Ok, Err}
+use Rattle.std.proofs.Common.{◌≡◌, ◌<◌, ◌≤◌, ◌+◌, inl, inr, ℕ, zero, suc, true, List, [], ◌∷◌, length, drop, get_or, Option, refl, sym, ap, ◌∙◌, subst, Result, Ok, Err, add-one, drop-cons, arith}
 use Rattle.std.specs.Prelude.{◌⊎◌, slice_set, IfOk, IfErr}
 use Rattle.cq_tree.specs.declared.plan.Combine.{Combine}
 use Rattle.cq_tree.specs.declared.query.QueryError.{QueryError}
@@ -14,7 +14,8 @@ use Rattle.cq_meaning_laws.specs.WholeRules.{Step, steps_of, no_results}
 use Rattle.cq_subplan_laws.specs.Subplans.{AreAnswered, HasLarge}
 use Rattle.cq_subplan_laws.proofs.LargeAgain.{subplans_large, steps_large}
 use Rattle.cq_subplan_laws.proofs.Orders.{subplans_answer}
-use Rattle.cq_groups.specs.Tasks.{Gives, IsLargeBlock, CanServe, IsRun}
+use Rattle.cq_catalog.specs.Contents.{Contents}
+use Rattle.cq_groups.specs.Tasks.{pushed_by, Gives, IsLargeBlock, CanServe, BlocksServe, IsRun}
 use Rattle.cq_groups.specs.declared.captures.Captures.{Captures}
 use Rattle.cq_groups.proofs.ServeLaws.{no_results_of}
 
@@ -56,3 +57,32 @@ module _ (q : Query) (db : Tables) where
   query_is settled results left kind read serves (Ok rows) given large = subplans_answer q db results rows settled (left.answered results refl) (serves.answers rows given)
   query_is settled results left kind read serves (Err error.Rows) given large = inr (subplans_large q db results settled (left.answered results refl) (serves.large (large refl)))
   query_is settled results left kind read serves (Err error.Memory) given large = tt
+
+-- ---- a step of the loop over steps
+
+pub front : (steps : List Step) (i : ℕ) (s : Step) → i < length steps → s ≡ get_or steps i s → drop i steps ≡ s ∷ drop (i + 1) steps
+front steps i s l is = rw (add-one) (drop-cons steps i s l ∙ ap (λ z. z ∷ drop (suc i) steps) (sym is))
+
+pub past : (steps : List Step) (i : ℕ) → length steps ≤ i → drop i steps ≡ []
+past [] zero l = refl
+past [] (suc i) l = refl
+past (s ∷ steps) zero l = absurd (omega (arith, l))
+past (s ∷ steps) (suc i) l = past steps i (omega (arith, l))
+
+module _ (c : Contents) (q : Query) (read : Captures) (db : Tables) (results : Results) (steps more : List Step) (s : Step) (ahead : steps ≡ s ∷ more) (serves : BlocksServe c q read db results steps) (left : AreLeft q db results steps) where
+  ahead_serves : BlocksServe c q read db results (s ∷ more)
+  ahead_serves = subst (BlocksServe c q read db results) ahead serves
+
+  ahead_left : AreLeft q db results (s ∷ more)
+  ahead_left = subst (AreLeft q db results) ahead left
+
+  pub step_done : (rows : List Row) → Gives (pushed_by c s.query) s.query results read rows → BlocksServe c q read db (slice_set results s.number rows) more × AreLeft q db (slice_set results s.number rows) more
+  step_done rows given = (ahead_serves.1 rows given, one_done q db results s more rows ahead_left (ahead_serves.0.answers rows given))
+
+  -- it has no rows
+  pub step_stops : AllSettled q → (e : QueryError) (r : Result (List Row) QueryError) → (e ≡ error.Rows → IsLargeBlock (pushed_by c s.query) s.query results read) → r ≡ Err e → IsRun q db r
+  step_stops settled e r large is = subst (IsRun q db) (sym is) (by_error e large)
+    where
+      by_error : (e : QueryError) → (e ≡ error.Rows → IsLargeBlock (pushed_by c s.query) s.query results read) → IsRun q db (Err e)
+      by_error error.Rows large = step_large q db settled results s more ahead_left (ahead_serves.0.large (large refl))
+      by_error error.Memory large = tt

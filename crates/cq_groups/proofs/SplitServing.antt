@@ -97,9 +97,9 @@ module _ (side : FromTree → Side) (kind : Combine) (q : Query) (db : Tables) (
         answers_over q db [] made (tasks_gather q [] kind (map task indices) from_whole cut made serves gathers);
     large = λ h. elim (tasks_large q [] kind (map task indices) from_whole cut some few
         (subst (λ reads. (has_large_task kind q [] reads ≡ true) ⊎ (has_large_together kind q [] (task_rows kind q [] reads) ≡ true)) reads_are h)) [
-      | inl below ↦ absurd (never (is_large_from (from_of q) below.0 []) below.2 (small below.0))
-      | inr own ↦ large_over q db [] ∙ (λ i. small db i || own i)
-    ];
+          | inl below ↦ absurd (never (is_large_from (from_of q) below.0 []) below.2 (small below.0))
+          | inr own ↦ large_over q db [] ∙ (λ i. small db i || own i)
+        ];
   }
 
 -- ---- a repartition
