@@ -10,8 +10,8 @@ use Rattle.cq_tree.specs.declared.query.Query.{Query, Query', out-Query}
 use Rattle.cq_meaning.specs.declared.Columns.{Columns}
 use Rattle.cq_meaning.specs.Lists.{Has}
 use Rattle.cq_meaning.specs.Values.{Row, Results, Tables, result_at, table_rows}
-use Rattle.cq_meaning.specs.Widths.{AllWithin, Within, output_bits, IsBoundQuery, Holds}
-use Rattle.cq_meaning.specs.Queries.{from_rows, meaning, AnswersWith}
+use Rattle.cq_meaning.specs.Widths.{AllWithin, output_bits, IsBoundQuery, Holds}
+use Rattle.cq_meaning.specs.Queries.{from_rows, AnswersWith}
 use Rattle.cq_meaning.specs.Limits.{is_large, is_large_from}
 use Rattle.cq_meaning.specs.Results.{results_of}
 use Rattle.cq_meaning.specs.Safety.{IsSafeQuery}
@@ -34,7 +34,7 @@ use Rattle.cq_task_laws.proofs.Opened.{from_of, from_is, partial_from}
 use Rattle.cq_task_laws.proofs.PartLaws.{flat_map_of_map, mapped_has}
 use Rattle.cq_subplan_laws.proofs.TaskWidths.{holds_set, tasks_fit}
 use Rattle.cq_tasks.specs.Execution.{reads_by, task_rows, has_large_task}
-use Rattle.cq_whole.specs.Tables.{tables_from, tables_in, tables_of_steps, tables_of_statement}
+use Rattle.cq_whole.specs.Tables.{tables_from, tables_in}
 use Rattle.cq_whole.proofs.TableLaws.{answers_alike, meaning_alike, large_alike}
 use Rattle.cq_catalog.specs.Contents.{Contents}
 use Rattle.cq_catalog.specs.Placement.{place_at}
@@ -58,7 +58,7 @@ use Rattle.cq_history.specs.Looks.{has_shard}
 use Rattle.cq_history.proofs.Lists.{two_ways}
 use Rattle.cq_groups.specs.Reads.{IsComputable}
 use Rattle.cq_groups.specs.Looking.{looks_by, tables_there, merged}
-use Rattle.cq_groups.specs.Tasks.{own_of, beside_of, captures_by, count_tasks, are_several, kind_by, pushed_by, is_distributed, is_planned, Gives, IsLargeBlock, IsSafeBlock, CanServe, BlocksServe}
+use Rattle.cq_groups.specs.Tasks.{captures_by, count_tasks, are_several, kind_by, pushed_by, is_distributed, is_planned, Gives, CanServe, BlocksServe}
 use Rattle.cq_groups.specs.declared.captures.Captures.{Captures}
 use Rattle.cq_groups.proofs.GatherLaws.{merged_rows}
 use Rattle.cq_groups.proofs.TaskReads.{tasks_in, counted, tasks_ascend, own_at, beside_at, all_seen, own_are, beside_are, held, read_at, reads_agree, beside_agrees, whole_agrees, can, only_there, read_within, beside_only, task_within}
@@ -324,7 +324,8 @@ module _ (c : Contents) (tables : List ℕ) (rows : ℕ → ℕ → List Row) (p
       pushed_fit : (made : List Row) → Gives (Some kind) q rs read_of made → AllWithin (output_bits cs q) made
       pushed_fit made given =
           let own = given_of made given in
-          tasks_fit cs kind q rs (map task ts) made several_ways bound as_counted (some_of task ts count.0) (all_of (λ dc. Holds cs dc rs) task (λ k. fit (task k) (task_within c tables rows gs within k)) ts) serves
+          let opened : Serves kind q rs (map (λ dc. from_rows (out-Query q).from 0 dc rs) (map task ts)) = subst (λ f. Serves kind q rs (map (λ dc. from_rows f 0 dc rs) (map task ts))) (sym (from_is q)) serves in
+          tasks_fit cs kind q rs (map task ts) made several_ways bound as_counted (some_of task ts count.0) (all_of (λ dc. Holds cs dc rs) task (λ k. fit (task k) (task_within c tables rows gs within k)) ts) opened
           (sym same_large ∙ own.1) (sym (ap (has_large_together kind q rs) same_rows) ∙ own.2) (subst (λ us. GathersTo kind q rs us made) same_rows own.0)
 
     -- ---- over reference tables and results

@@ -1,7 +1,7 @@
 -- The tasks of a repartition serve for a query, over any tables whose rows are within their columns' widths.
-use Rattle.std.proofs.Common.{◌≡◌, ◌<◌, ◌≤◌, ◌^◌, inl, inr, ℕ, ℤ, Bool, true, false, List, [], ◌∷◌, ◌++◌, map, length, option_map, Option, None, Some, refl, sym, ◌∙◌, ap, subst, arith}
+use Rattle.std.proofs.Common.{◌≡◌, ◌≤◌, ◌^◌, inl, inr, ℕ, ℤ, Bool, true, false, List, [], ◌++◌, map, length, None, Some, refl, sym, ◌∙◌, ap, subst, arith}
 use Rattle.std.specs.Prelude.{◌⊎◌, ◌&&◌, ◌||◌, nat_le, nat_lt, if◌then◌else◌}
-use Rattle.std.specs.List.{flat_map, list_any, range_with_len, AllByRecursion}
+use Rattle.std.specs.List.{flat_map, range_with_len, AllByRecursion}
 use Rattle.std.proofs.lemmas.List.{length-map}
 use Rattle.std.proofs.lemmas.List.FromFn.{length-range_with_len}
 use Rattle.cq_tree.specs.declared.plan.Combine.{Combine}
@@ -9,12 +9,11 @@ use Rattle.cq_tree.specs.declared.plan.Combine.TheVariants.{Nothing, RowsOnly, G
 use Rattle.cq_tree.specs.declared.plan.Planner.{Planner}
 use Rattle.cq_tree.specs.declared.plan.Planner.TheVariants.{FastPath, Router, Pushdown, Repartition as Parting, Coordinator}
 use Rattle.cq_tree.specs.declared.query.FromTree.{FromTree, Table, Sub', Result, Cross', Inner', Left', end_of-FromTree, more_of-FromTree}
-use Rattle.cq_tree.specs.declared.query.Query.{Query, Query', out-Query}
-use Rattle.cq_meaning.specs.Values.{Row, Tables, table_rows}
-use Rattle.cq_meaning.specs.Widths.{AllWithin, Within}
-use Rattle.cq_meaning.specs.Queries.{from_rows, AnswersWith}
-use Rattle.cq_meaning.specs.Limits.{is_large, is_large_from}
-use Rattle.cq_meaning.specs.Results.{results_of}
+use Rattle.cq_tree.specs.declared.query.Query.{Query, out-Query}
+use Rattle.cq_meaning.specs.Values.{Row, Tables}
+use Rattle.cq_meaning.specs.Widths.{Within}
+use Rattle.cq_meaning.specs.Queries.{from_rows}
+use Rattle.cq_meaning.specs.Limits.{is_large_from}
 use Rattle.cq_meaning.specs.Safety.{IsSafeQuery}
 use Rattle.cq_meaning.proofs.MapLaws.{map_map}
 use Rattle.cq_meaning.proofs.Reorder.{Reordered}
@@ -43,7 +42,6 @@ use Rattle.cq_repartition_laws.specs.Tasks.{bucket_tables, side_of}
 use Rattle.cq_repartition_laws.proofs.Reading.{bucket_rows}
 use Rattle.cq_repartition_laws.proofs.Serving as law
 use Rattle.cq_repartition.specs.Repartitions.{are_buckets, repartition_over, over_planner, repartition_by}
-use Rattle.cq_repartition.specs.Parted.{keys_if_parted}
 use Rattle.cq_repartition.specs.declared.repartition.Repartition.{Repartition}
 use Rattle.cq_history.proofs.Readable.{readable_safe, readable_together}
 use Rattle.cq_history.specs.Computable.{column_bits, AreWithin, IsReadable}

@@ -4,7 +4,6 @@ use Rattle.std.specs.Prelude.{not, ◌&&◌, ◌||◌, nat_eq}
 use Rattle.std.specs.List.{flat_map, list_any, AllByRecursion}
 use Rattle.std.proofs.lemmas.Bool.{eq-eqb}
 use Rattle.std.proofs.lemmas.Bool.Decides.{eqb_tells}
-use Rattle.cq_meaning.specs.Lists.{Has}
 use Rattle.cq_meaning.specs.Values.{Row, Tables, table_rows}
 use Rattle.cq_meaning.specs.Widths.{AllWithin}
 use Rattle.cq_catalog.specs.Contents.{Contents}
@@ -16,7 +15,7 @@ use Rattle.cq_planning.specs.Reaching.{IsAscendingFrom}
 use Rattle.cq_planning.specs.Routing.{is_distributed_place}
 use Rattle.cq_planning.specs.Touched.{among}
 use Rattle.cq_pushdown_laws.specs.Tables.{task_at, task_tables, HoldsOnly}
-use Rattle.cq_pushdown_laws.proofs.Spread.{has_among, task_table_at}
+use Rattle.cq_pushdown_laws.proofs.Spread.{task_table_at}
 use Rattle.cq_history.specs.Computable.{column_bits, AreWithin}
 use Rattle.cq_history.specs.Looks.{has_shard, has_shard_at}
 use Rattle.cq_history.proofs.Lists.{two_ways}

@@ -25,21 +25,22 @@ use Rattle.cq_meaning.specs.Queries.{columns_in, joins, from_rows, item_rows}
 use Rattle.cq_meaning.specs.Widths.{bits, input_bits, from_bits, output_bits, AreBoundItems, IsBoundFrom, IsBoundQuery, Within, AllWithin, Holds}
 use Rattle.cq_meaning.proofs.AnswerLaws.{mean_answers}
 use Rattle.cq_meaning.proofs.MapLaws.{has_mapped}
-use Rattle.cq_meaning.proofs.Reorder.{Reordered, same, then}
+use Rattle.cq_meaning.proofs.Reorder.{Reordered, same}
 use Rattle.cq_meaning.proofs.RowLaws.{has_again, has_either}
 use Rattle.cq_meaning_laws.proofs.OrderFree.{groups_again}
 use Rattle.cq_meaning_laws.proofs.Permuted.{reordered}
 use Rattle.cq_meaning_laws.proofs.SafeLaws.{either, columns_are, items_fit, query_fits}
 use Rattle.cq_meaning_laws.proofs.WithinLaws.{all_append, all_distinct_if, all_filter, within_cut, within_left, within_product}
 use Rattle.cq_task_laws.specs.Partial.{columns_from, partial}
-use Rattle.cq_task_laws.specs.Merging.{joined, all_combining, is_above_limit, is_large_together, GathersTo, has_large_together}
+use Rattle.cq_task_laws.specs.Merging.{joined, all_combining, is_above_limit, is_large_together, has_large_together}
 use Rattle.cq_task_laws.specs.Gathering.{kept_of, has_large_over, AllAnswer, AnswersOver, IsNonEmpty, Serves, ShareNo}
-use Rattle.cq_task_laws.proofs.BlockTasks.{part_of, task_meaning_of, is_large_task, none_large, tasks_gather}
+use Rattle.cq_task_laws.proofs.BlockTasks.{part_of, task_meaning_of, none_large, tasks_gather}
 use Rattle.cq_task_laws.proofs.GatherLaws.{groups_join, length_push, part_width, some_map}
 use Rattle.cq_task_laws.proofs.GatherRows.{all_given, answers_joined, whole_rows}
 use Rattle.cq_task_laws.proofs.LargeLaws.{any_at, any_from, count_of, sum_in}
-use Rattle.cq_task_laws.proofs.Opened.{from_of, over_from, counted_groups, large_opened}
+use Rattle.cq_task_laws.proofs.Opened.{from_of, from_is, over_from, counted_groups, large_opened}
 use Rattle.cq_task_laws.proofs.PartLaws.{flat_map_of_map, flat_map_same, groups_apart, mapped_has}
+use Rattle.cq_subplan_laws.specs.Laws.{TasksFit}
 use Rattle.cq_subplan_laws.proofs.Fitting.{within_again}
 
 has_in : {X : Type 0} (f : X → List Row) (xs : List X) (r : Row) → Has (flat_map f xs) r → (x : X) × Has xs x × Has (f x) r
@@ -130,10 +131,10 @@ small_over RowsOnly (Query' cs ctes ss subs from filter_ true keys aggs having i
     let keep : List Row → List Row = filter (keeps filter_ rs) in
     let apart = serves.0 refl in
     not_true (has_large_over q rs (joined parts)) (λ e.
-        let u = large_apart rs keys apart.0 (map keep parts) apart.1
-        (subst (λ us. list_any is_large_group (groups_of keys rs us) ≡ true) (kept_joined filter_ rs parts ∙ sym (flat_map_of_map (λ (p : List Row). p) keep parts)) e) in
-        let v = mapped_has keep parts u.0 u.1 in
-        never (has_large_over q rs v.0) (subst (λ us. list_any is_large_group (groups_of keys rs us) ≡ true) (sym v.2) u.2) (each_has parts v.0 v.1 small))
+    let u = large_apart rs keys apart.0 (map keep parts) apart.1
+    (subst (λ us. list_any is_large_group (groups_of keys rs us) ≡ true) (kept_joined filter_ rs parts ∙ sym (flat_map_of_map (λ (p : List Row). p) keep parts)) e) in
+    let v = mapped_has keep parts u.0 u.1 in
+    never (has_large_over q rs v.0) (subst (λ us. list_any is_large_group (groups_of keys rs us) ≡ true) (sym v.2) u.2) (each_has parts v.0 v.1 small))
   where
     each_has : (ps : List (List Row)) (p : List Row) → Has ps p → AllByRecursion (λ us. has_large_over (Query' cs ctes ss subs from filter_ true keys aggs having items shown distinct order limit offset names) rs us ≡ false) ps →
         has_large_over (Query' cs ctes ss subs from filter_ true keys aggs having items shown distinct order limit offset names) rs p ≡ false
@@ -186,10 +187,9 @@ over_fits cs (Query' ts ctes ss subs from filter_ grouped keys aggs having items
     (within_cut js shown limit offset a.0 (within_again js (reordered (distinct_if distinct made) a.0 a.1) full))
 
 -- what the tasks of a block come to
-pub tasks_fit : (cs : Columns) (kind : Combine) (q : Query) (rs : Results) (dbs : List Tables) (rows : List Row) → (kind ≡ Nothing → ⊥) → IsBoundQuery cs q → length rs ≡ length cs.results → IsNonEmpty dbs →
-    AllByRecursion (λ db. Holds cs db rs) dbs → Serves kind q rs (map (part_of q rs kind) dbs) → list_any (is_large_task q rs kind) dbs ≡ false → has_large_together kind q rs (map (task_meaning_of q rs kind) dbs) ≡ false →
-    GathersTo kind q rs (map (task_meaning_of q rs kind) dbs) rows → AllWithin (output_bits cs q) rows
-tasks_fit cs kind q rs dbs rows several bound counted some holds serves small few gathers =
+pub tasks_fit : TasksFit
+tasks_fit cs kind q rs dbs rows several bound counted some holds own small few gathers =
+    let serves : Serves kind q rs (map (part_of q rs kind) dbs) = subst (λ f. Serves kind q rs (map (λ db. from_rows f 0 db rs) dbs)) (from_is q) own in
     let parts : List (List Row) = map (part_of q rs kind) dbs in
     let none = none_large q rs kind dbs small in
     over_fits cs q rs bound counted (joined parts) rows
