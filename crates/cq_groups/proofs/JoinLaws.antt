@@ -4,8 +4,7 @@ use Rattle.std.specs.Prelude.{nat_eq, ◌&&◌}
 use Rattle.std.proofs.lemmas.Bool.Decides.{eqb_tells}
 use Rattle.std.proofs.lemmas.List.{length-map}
 use Rattle.std.proofs.lemmas.List.Elements.{filter-append}
-use Rattle.cq_value.proofs.Lists.{all_filtered, all_weaker}
-use Rattle.cq_value.proofs.Truths.{and_both, two_ways}
+use Rattle.cq_value.proofs.Truths.{and_both}
 use Rattle.cq_tree.specs.declared.journal.Who.{Who}
 use Rattle.cq_tree.specs.declared.query.FromTree.{FromTree, Table, Sub', Result, Cross', Inner', Left', end_of-FromTree, more_of-FromTree}
 use Rattle.cq_tree.specs.declared.query.Query.{Query, out-Query}
@@ -27,11 +26,13 @@ use Rattle.cq_answer.specs.declared.fault.What.TheVariants as what
 use Rattle.cq_answer.specs.declared.fault.Fault.TheVariants as fault
 use Rattle.cq_group.specs.declared.group.GroupState.{GroupState}
 use Rattle.cq_group.specs.Resting.{journals_of}
+use Rattle.cq_history.proofs.Readable.{readable_safe}
 use Rattle.cq_history.specs.Computable.{column_bits, IsReadable}
 use Rattle.cq_history.specs.Journals.{journal_in}
 use Rattle.cq_history.specs.Legality.{IsLegal}
 use Rattle.cq_history.specs.Refusals.{is_alone}
 use Rattle.cq_history.proofs.Demands.{joins_suffice}
+use Rattle.cq_history.proofs.Lists.{all_filtered, all_weaker, two_ways}
 use Rattle.cq_groups.specs.Reads.{Look, captured_by, AreShaped, IsComputable, Computes, IsComputed, done, stopped, failed}
 use Rattle.cq_groups.specs.Looking.{looks_of, merged, gathered, are_laid, joins_plainly, wants_by}
 use Rattle.cq_groups.proofs.GatherLaws.{merged_rows}
@@ -95,7 +96,7 @@ laid_wide c (Left' p (more_of-FromTree a end_of-FromTree) q (more_of-FromTree b 
 
 module _ (c : Contents) (q : Query) (ts : Tables) (within : (t : ℕ) → AllWithin (column_bits c t) (table_rows (merged ts) t)) where
   pub wanted_safe : (wants : Wants) → IsReadable c q → IsComputable q (merged (narrow wants ts))
-  wanted_safe wants readable = readable.safe (merged (narrow wants ts)) (λ t. narrowed_within wants ts (column_bits c t) t (within t))
+  wanted_safe wants readable = readable_safe readable (merged (narrow wants ts)) (λ t. narrowed_within wants ts (column_bits c t) t (within t))
 
   module _ (plainly : joins_plainly c q ≡ true) where
     tests : (is_alone q ≡ true) × ((is_plain (out-Query q).from && are_laid c (leaves_from (out-Query q).from 0 false)) ≡ true)

@@ -20,8 +20,9 @@ pub mod ShardLaws
 pub mod JoinLaws
 pub mod TaskReads
 pub mod CaptureLaws
-pub mod RunLaws
 pub mod PushLaws
+pub mod SettledLaws
 pub mod ServeLaws
+pub mod RunLaws
 pub mod SplitServing
 pub mod WayLaws

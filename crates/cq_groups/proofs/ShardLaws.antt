@@ -3,8 +3,6 @@ use Rattle.std.proofs.Common.{◌≡◌, ◌<◌, ◌≤◌, length, inl, inr, �
 use Rattle.std.specs.Prelude.{nat_eq}
 use Rattle.std.proofs.lemmas.Bool.Decides.{eqb_tells}
 use Rattle.std.proofs.lemmas.Bool.{eq-eqb}
-use Rattle.cq_value.proofs.Truths.{two_ways}
-use Rattle.cq_value.proofs.Lists.{all_filtered}
 use Rattle.cq_value.specs.declared.value.Value.{Value}
 use Rattle.cq_tree.specs.declared.journal.Who.{Who}
 use Rattle.cq_tree.specs.declared.query.FromTree.{FromTree, Table}
@@ -23,6 +21,7 @@ use Rattle.cq_answer.specs.declared.fault.What.TheVariants as what
 use Rattle.cq_answer.specs.declared.fault.Fault.TheVariants as fault
 use Rattle.cq_group.specs.declared.group.GroupState.{GroupState}
 use Rattle.cq_group.specs.Resting.{journals_of, AreResting}
+use Rattle.cq_history.proofs.Readable.{readable_safe}
 use Rattle.cq_history.specs.Computable.{column_bits, IsReadable}
 use Rattle.cq_demands.specs.Demands.{demands}
 use Rattle.cq_history.specs.Faults.{near as near_by_rule}
@@ -34,6 +33,7 @@ use Rattle.cq_history.specs.Log.{IsAnswered}
 use Rattle.cq_history.specs.Refusals.{rules, refusal_in, is_alone}
 use Rattle.cq_history.specs.Run.{Run}
 use Rattle.cq_history.proofs.Demands.{wanted_answer, wanted_large}
+use Rattle.cq_history.proofs.Lists.{all_filtered, two_ways}
 use Rattle.cq_groups.specs.declared.shard.Shard.{Shard}
 use Rattle.cq_groups.specs.Reads.{Look, CanLook, captured_of, captured_by, groups_in, rows_in, AreShaped, IsComputable, Computes, IsComputed, done, stopped, failed}
 use Rattle.cq_groups.specs.Looking.{looks_of, merged, one_shard, shard_alone, look_at, wanted_of, environment_at}
@@ -141,7 +141,7 @@ module _ {X : Type 0} (c : Contents) (q : Query) (groups : List (GroupState X)) 
   -- the query can be computed over what it picks
   pub shard_safe : IsReadable c q → ((g : ℕ) → IsLegal c g (journal_in (journals_of groups) g)) → IsComputable q (wanted_of groups q s)
   shard_safe readable legal =
-      readable.safe (wanted_of groups q s) (λ t.
+      readable_safe readable (wanted_of groups q s) (λ t.
       wanted_within groups q s shard_there (column_bits c t) t
       (subst (λ (ls : List Look). AllWithin (column_bits c t) (table_rows (merged (captured_by groups ls)) t)) (sym its_look)
       (merged_within c groups shaped (tables_of_statement q) legal (touched_by_query c q) t)))

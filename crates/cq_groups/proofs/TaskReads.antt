@@ -4,8 +4,6 @@ use Rattle.std.specs.Prelude.{not, ◌&&◌, ◌||◌, nat_eq}
 use Rattle.std.specs.List.{flat_map, list_any, AllByRecursion}
 use Rattle.std.proofs.lemmas.Bool.{eq-eqb}
 use Rattle.std.proofs.lemmas.Bool.Decides.{eqb_tells}
-use Rattle.cq_value.proofs.Truths.{two_ways}
-use Rattle.cq_meaning.specs.Lists.{Has}
 use Rattle.cq_meaning.specs.Values.{Row, Tables, table_rows}
 use Rattle.cq_meaning.specs.Widths.{AllWithin}
 use Rattle.cq_catalog.specs.Contents.{Contents}
@@ -17,9 +15,10 @@ use Rattle.cq_planning.specs.Reaching.{IsAscendingFrom}
 use Rattle.cq_planning.specs.Routing.{is_distributed_place}
 use Rattle.cq_planning.specs.Touched.{among}
 use Rattle.cq_pushdown_laws.specs.Tables.{task_at, task_tables, HoldsOnly}
-use Rattle.cq_pushdown_laws.proofs.Spread.{has_among, task_table_at}
+use Rattle.cq_pushdown_laws.proofs.Spread.{task_table_at}
 use Rattle.cq_history.specs.Computable.{column_bits, AreWithin}
 use Rattle.cq_history.specs.Looks.{has_shard, has_shard_at}
+use Rattle.cq_history.proofs.Lists.{two_ways}
 use Rattle.cq_history.proofs.Wholes.{whole_by_groups}
 use Rattle.cq_groups.specs.Looking.{with_table, tables_there, looks_by, gathered}
 use Rattle.cq_groups.specs.Tasks.{is_distributed, own_of, beside_of, count_tasks}
@@ -234,6 +233,18 @@ module _ (c : Contents) (tables : List ℕ) where
           ap (λ (v : Tables). table_rows v t) (sym (append-nil (own_at g)))
           ∙ (entry_rows g (filter (is_distributed c) (there g)) [] t ∙ ap (λ b. cond b (rows g t) []) (among_filter (is_distributed c) (there g) t))
 
+      -- a table that isn't distributed is read beside all tasks
+      pub beside_agrees : (g t : ℕ) → is_distributed c t ≡ false → table_rows (beside_at gs) t ≡ table_rows (read_at g) t
+      beside_agrees g t f = sym (without (beside_at gs) (own_at g) (own_rows g t ∙ rw f (none (among t (there g)))))
+        where
+          none : (b : Bool) → cond (b && false) (rows g t) [] ≡ []
+          none true = refl
+          none false = refl
+
+          without : (xs ys : Tables) → table_rows ys t ≡ [] → table_rows (xs ++ ys) t ≡ table_rows xs t
+          without [] ys e = e
+          without (x ∷ xs) ys e = elim (two_ways (nat_eq x.0 t)) [ inl y ↦ rw y refl | inr n ↦ rw n (without xs ys e) ]
+
       -- what is read of a table in a group is what the task in it reads by the placement
       pub reads_agree : (g : ℕ) → among g gs ≡ true → (t : ℕ) → among t tables ≡ true → table_rows (read_at g) t ≡ table_rows (task_tables c held g) t
       reads_agree g m t known = by_place (place_at c t) refl ∙ sym (task_table_at c held g t)
@@ -369,3 +380,22 @@ module _ (c : Contents) (tables : List ℕ) where
 
         pub read_within : (g : ℕ) → AreWithin c (read_at g)
         read_within g = of_each (read_at g) (both_within (beside_at gs) (own_at g) (beside_within gs) (entries_within (is_distributed c) g (there g) (all_there c g tables)))
+
+        -- so is what is beside all tasks
+        pub beside_only : AreWithin c (beside_at gs)
+        beside_only = of_each (beside_at gs) (beside_within gs)
+
+        -- and what the task in a group reads by the placement
+        held_within : (g t : ℕ) → AllWithin (column_bits c t) (held g t)
+        held_within g t = elim (two_ways (among g gs)) [
+          | inl y ↦ rw y (elim (two_ways (among t (there g))) [ inl z ↦ rw z (within g t (shard_there g t z)) | inr n ↦ rw n tt ])
+          | inr n ↦ rw n tt
+        ]
+
+        pub task_within : (g : ℕ) → AreWithin c (task_tables c held g)
+        task_within g t = subst (AllWithin (column_bits c t)) (sym (task_table_at c held g t)) (by_place (place_at c t))
+          where
+            by_place : (p : Place) → AllWithin (column_bits c t) (task_at c held g t p)
+            by_place Local = tt
+            by_place (Distributed column colocation first_shard) = held_within g t
+            by_place (Reference own shard) = held_within own t

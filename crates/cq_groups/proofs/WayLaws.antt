@@ -1,19 +1,19 @@
 -- A query's way to be computed serves for what its looks read.
-use Rattle.std.proofs.Common.{◌≡◌, ◌<◌, inl, inr, ℕ, true, List, [], ◌∷◌, ◌++◌, map, refl, sym, ◌∙◌, ap, subst, Option, None, Some, slice_get}
-use Rattle.std.specs.List.{AllByRecursion}
-use Rattle.cq_value.proofs.Lists.{all_filtered}
-use Rattle.cq_value.proofs.Truths.{two_ways}
-use Rattle.cq_tree.specs.declared.plan.Combine.{Combine}
+use Rattle.std.proofs.Common.{◌≡◌, ◌<◌, inl, inr, ℕ, Bool, true, false, List, [], ◌∷◌, ◌++◌, map, refl, sym, ◌∙◌, ap, subst, Option, None, Some, slice_get}
+use Rattle.std.specs.Prelude.{◌&&◌, not}
+use Rattle.std.specs.List.{list_any, list_all, AllByRecursion}
+use Rattle.cq_value.proofs.Truths.{and_both}
 use Rattle.cq_tree.specs.declared.query.Query.{Query}
 use Rattle.cq_tree.specs.declared.statement.Statement.TheVariants as statement
 use Rattle.cq_meaning.specs.Values.{Row, Tables, table_rows}
 use Rattle.cq_meaning.specs.Widths.{AllWithin, Within}
-use Rattle.cq_tasks.specs.Execution.{reads_by}
-use Rattle.cq_whole.specs.Tables.{tables_of_statement}
+use Rattle.cq_meaning_laws.specs.WholeRules.{Step, steps_of, no_results}
+use Rattle.cq_whole.specs.Tables.{tables_in, tables_of_steps, tables_of_statement}
 use Rattle.cq_catalog.specs.Contents.{Contents}
 use Rattle.cq_planning.specs.Database.{IsRowOf}
 use Rattle.cq_planning.specs.Touched.{among, touched, touched_by_query}
-use Rattle.cq_pushdown_laws.specs.Pushed.{is_pushed}
+use Rattle.cq_planning.specs.Blocks.{subqueries_in}
+use Rattle.cq_planning.specs.Refusals.{is_cut_loosely}
 use Rattle.cq_repartition.specs.Repartitions.{repartition_by}
 use Rattle.cq_repartition.specs.declared.repartition.Repartition.{Repartition}
 use Rattle.cq_demands.specs.Demands.{has_all, rows_with}
@@ -25,19 +25,26 @@ use Rattle.cq_history.specs.Computable.{column_bits, IsReadable}
 use Rattle.cq_history.specs.Journals.{journal_in}
 use Rattle.cq_history.specs.Legality.{IsLegal}
 use Rattle.cq_history.specs.Looks.{has_shard}
-use Rattle.cq_history.specs.Refusals.{is_alone}
+use Rattle.cq_history.proofs.Readable.{readable_laid, readable_holds, steps_bound, steps_laid}
+use Rattle.cq_history.proofs.Lists.{two_ways, all_filtered}
 use Rattle.cq_history.proofs.Sums.{among_here, among_more}
 use Rattle.cq_groups.specs.Reads.{Look, captured_of, captured_by, AreShaped}
 use Rattle.cq_groups.specs.Looking.{looks_of, looks_by, tables_there, joins_plainly, merged}
-use Rattle.cq_groups.specs.Tasks.{own_of, beside_of, count_tasks, are_several, kind_by, pushed_way, split_way, first_way, way_by, CanServe, SplitServes, WayServes}
+use Rattle.cq_groups.specs.Tasks.{captures_by, count_tasks, are_several, is_planned, are_planned, is_pushed_whole, split_way, first_way, way_by, BlocksServe, SplitServes, WayServes}
 use Rattle.cq_groups.specs.declared.ways.Way.{Way}
 use Rattle.cq_groups.specs.declared.ways.Way.TheVariants.{Pushed}
 use Rattle.cq_groups.proofs.GatherLaws.{seen_of, rows_at, look_rows}
 use Rattle.cq_groups.proofs.JoinLaws.{narrowed_within}
 use Rattle.cq_groups.proofs.LookLaws.{in_order_ascends, in_order_below, has_shapes, merged_within, rows_placed, rows_within}
-use Rattle.cq_groups.proofs.ServeLaws.{tasks_serve}
+use Rattle.cq_groups.proofs.QueryLaws.{each_of}
+use Rattle.cq_groups.proofs.ServeLaws.{blocks_serve}
+use Rattle.cq_groups.proofs.SettledLaws.{all_settled}
 use Rattle.cq_groups.proofs.SplitServing.{repartition_serves}
 use Rattle.cq_groups.proofs.TaskReads.{all_seen}
+
+all_split : (P : ℕ → Type 0) (xs ys : List ℕ) → AllByRecursion P (xs ++ ys) → AllByRecursion P xs × AllByRecursion P ys
+all_split P [] ys h = (tt, h)
+all_split P (x ∷ xs) ys h = let rest = all_split P xs ys h.1 in ((h.0, rest.0), rest.1)
 
 module _ {X : Type 0} (c : Contents) (groups : List (GroupState X)) {nodes : ℕ} (shaped : AreShaped c nodes groups) (legal : (g : ℕ) → IsLegal c g (journal_in (journals_of groups) g)) (wants : Wants) (q : Query) where
   abbrev tables : List ℕ
@@ -75,25 +82,32 @@ module _ {X : Type 0} (c : Contents) (groups : List (GroupState X)) {nodes : ℕ
           let rest : narrow wants (captured_by groups (looks_by c tables hs)) ≡ all_seen c tables rows hs = by_groups hs (λ k m. few k (among_more k h hs m)) in
           narrow_append wants (captured_of (slice_get groups h) there) (captured_by groups (looks_by c tables hs)) ∙ (λ i. first i ++ rest i)
 
-  serves : IsReadable c q → is_alone q ≡ true → are_several (count_tasks c (looks_of c q)) ≡ true → is_pushed c q ≡ true →
-      CanServe (kind_by c q) q (reads_by (beside_of c (looks_of c q) seen) (own_of c (looks_of c q) seen)) (merged seen)
-  serves readable alone several pushed =
-      subst (λ (v : Tables). CanServe (kind_by c q) q (reads_by (beside_of c (looks_of c q) v) (own_of c (looks_of c q) v)) (merged v)) (sym seen_is)
-      (tasks_serve c q rows placed within gs (in_order_ascends c (touched_by_query c q)) readable alone several pushed)
+  -- ---- block by block
 
-  -- the tasks of pushdown
-  pushed_serves : IsReadable c q → (kind : Combine) → pushed_way c q (looks_of c q) ≡ Some kind → WayServes (Pushed kind) c q (looks_of c q) seen (merged seen)
-  pushed_serves readable kind e = elim (two_ways (is_alone q)) [
-    | inr n ↦ (let bad : None ≡ Some kind = rw n at e in cc)
-    | inl alone ↦ elim (two_ways (are_several (count_tasks c (looks_of c q)))) [
-      | inr n ↦ (let bad : None ≡ Some kind = rw (alone, n) at e in cc)
-      | inl several ↦ elim (two_ways (is_pushed c q)) [
-        | inr n ↦ (let bad : None ≡ Some kind = rw (alone, several, n) at e in cc)
-        | inl pushed ↦ (let same : Some (kind_by c q) ≡ Some kind = rw (alone, several, pushed) at e in let own : kind_by c q ≡ kind = cc in
-            subst (λ k. WayServes (Pushed k) c q (looks_of c q) seen (merged seen)) own (serves readable alone several pushed))
-      ]
-    ]
-  ]
+  -- the tables of each step and of the query are among those of the statement
+  known : AllByRecursion (λ (s : Step). AllByRecursion (λ t. among t tables ≡ true) (tables_in s.query)) (steps_of q) × AllByRecursion (λ t. among t tables ≡ true) (tables_in q)
+  known =
+      let both = all_split (λ t. among t tables ≡ true) (tables_of_steps (steps_of q)) (tables_in q) (each_of (λ t. among t tables ≡ true) tables (λ t m. m)) in
+      (by_steps (steps_of q) both.0, both.1)
+    where
+      by_steps : (steps : List Step) → AllByRecursion (λ t. among t tables ≡ true) (tables_of_steps steps) → AllByRecursion (λ (s : Step). AllByRecursion (λ t. among t tables ≡ true) (tables_in s.query)) steps
+      by_steps [] h = tt
+      by_steps (s ∷ more) h = let both = all_split (λ t. among t tables ≡ true) (tables_in s.query) (tables_of_steps more) h in (both.0, by_steps more both.1)
+
+  pushed_serves : IsReadable c q → is_pushed_whole c q (looks_of c q) ≡ true → WayServes Pushed c q (looks_of c q) seen (merged seen)
+  pushed_serves readable e =
+      let tests = and_both (are_several (count_tasks c (looks_of c q))) (not (list_any is_cut_loosely (subqueries_in q)) && are_planned c q) e in
+      let own = and_both (not (list_any is_cut_loosely (subqueries_in q))) (are_planned c q) tests.1 in
+      let planned = and_both (list_all (λ (s : Step). is_planned c s.query) (steps_of q)) (is_planned c q) own.1 in (
+        all_settled q (not_false (list_any is_cut_loosely (subqueries_in q)) own.0),
+        subst (λ (v : Tables). BlocksServe c q (captures_by c (looks_of c q) v) (merged v) (no_results q) (steps_of q)) (sym seen_is)
+            (blocks_serve c tables rows placed within gs (in_order_ascends c (touched_by_query c q)) tests.0 readable.bound.widths q known.1 readable.bound.whole.0 (readable_laid readable) planned.1
+            (no_results q) (steps_of q) (λ dc w. readable_holds readable dc w) known.0 (steps_bound readable) (steps_laid readable) planned.0),
+      )
+    where
+      not_false : (b : Bool) → not b ≡ true → b ≡ false
+      not_false true h = cc
+      not_false false h = refl
 
   -- those of a repartition
   seen_within : (t : ℕ) → AllWithin (column_bits c t) (table_rows (merged seen) t)
@@ -106,12 +120,12 @@ module _ {X : Type 0} (c : Contents) (groups : List (GroupState X)) {nodes : ℕ
     | inl plainly ↦ (let taken : repartition_by c q ≡ Some r = rw plainly at e in repartition_serves c q (merged seen) seen_within readable plainly r taken)
   ]
 
-  by_ways : IsReadable c q → (pushed : Option Combine) (split : Option Repartition) → pushed_way c q (looks_of c q) ≡ pushed → split_way c q ≡ split → WayServes (first_way pushed split) c q (looks_of c q) seen (merged seen)
-  by_ways readable (Some kind) split p e = pushed_serves readable kind p
-  by_ways readable None (Some r) p e = split_serves readable r e
-  by_ways readable None None p e = tt
+  by_ways : IsReadable c q → (pushed : Bool) (split : Option Repartition) → is_pushed_whole c q (looks_of c q) ≡ pushed → split_way c q ≡ split → WayServes (first_way pushed split) c q (looks_of c q) seen (merged seen)
+  by_ways readable true split p e = pushed_serves readable p
+  by_ways readable false (Some r) p e = split_serves readable r e
+  by_ways readable false None p e = tt
 
   pub way_serves : IsReadable c q → (looks : List Look) → looks ≡ looks_of c q → (way : Way) → way ≡ way_by c q looks → WayServes way c q looks (narrow wants (captured_by groups looks)) (merged (narrow wants (captured_by groups looks)))
   way_serves readable looks planned way is =
       subst (λ (ls : List Look). WayServes way c q ls (narrow wants (captured_by groups ls)) (merged (narrow wants (captured_by groups ls)))) (sym planned)
-      (subst (λ w. WayServes w c q (looks_of c q) seen (merged seen)) (sym (is ∙ ap (way_by c q) planned)) (by_ways readable (pushed_way c q (looks_of c q)) (split_way c q) refl refl))
+      (subst (λ w. WayServes w c q (looks_of c q) seen (merged seen)) (sym (is ∙ ap (way_by c q) planned)) (by_ways readable (is_pushed_whole c q (looks_of c q)) (split_way c q) refl refl))

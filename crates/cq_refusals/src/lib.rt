@@ -9,4 +9,5 @@ mod joins;
 mod pairs;
 mod refusals;
 
+pub use cuts::has_loose_cut;
 pub use refusals::refusal_of;

@@ -13,7 +13,7 @@ use Rattle.cq_meaning_laws.proofs.WholeOrder.{alike_at}
 use Rattle.cq_subplan_laws.specs.Laws.{SubplansFit}
 use Rattle.cq_subplan_laws.proofs.Orders.{answered, alike_set, alike_itself}
 
-within_again : (ks : List ℕ) {us vs : List Row} → Reordered us vs → AllWithin ks us → AllWithin ks vs
+pub within_again : (ks : List ℕ) {us vs : List Row} → Reordered us vs → AllWithin ks us → AllWithin ks vs
 within_again ks none h = h
 within_again ks (kept r) h = (h.0, within_again ks r h.1)
 within_again ks turned h = (h.1.0, (h.0, h.1.1))
