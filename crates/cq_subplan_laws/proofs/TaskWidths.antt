@@ -4,6 +4,7 @@ use Rattle.std.specs.Prelude.{filter, slice_set, slice_index_or, ◌||◌}
 use Rattle.std.specs.List.{flat_map, list_any, AllByRecursion}
 use Rattle.std.proofs.lemmas.List.{length-set}
 use Rattle.std.proofs.lemmas.List.Elements.{filter-append}
+use Rattle.cq_value.proofs.Truths.{or_neither}
 use Rattle.cq_value.specs.declared.value.Value.TheVariants.{Int}
 use Rattle.cq_tree.specs.declared.expression.Expr.{Expr, Column}
 use Rattle.cq_tree.specs.declared.expression.Cond.{Cond, Always}
@@ -29,7 +30,7 @@ use Rattle.cq_meaning.proofs.Reorder.{Reordered, same}
 use Rattle.cq_meaning.proofs.RowLaws.{has_again, has_either}
 use Rattle.cq_meaning_laws.proofs.OrderFree.{groups_again}
 use Rattle.cq_meaning_laws.proofs.Permuted.{reordered}
-use Rattle.cq_meaning_laws.proofs.SafeLaws.{either, columns_are, items_fit, query_fits}
+use Rattle.cq_meaning_laws.proofs.SafeLaws.{columns_are, items_fit, query_fits}
 use Rattle.cq_meaning_laws.proofs.WithinLaws.{all_append, all_distinct_if, all_filter, within_cut, within_left, within_product}
 use Rattle.cq_task_laws.specs.Partial.{columns_from, partial}
 use Rattle.cq_task_laws.specs.Merging.{joined, all_combining, is_above_limit, is_large_together, has_large_together}
@@ -151,14 +152,14 @@ module _ (cs : Columns) (db : Tables) (rs : Results) (holds : Holds cs db rs) wh
   from_fits ahead start (Sub' p (more_of-Query q end_of-Query)) h small = query_fits cs db rs holds q h small
   from_fits ahead start (Result i n) h small = holds.in_results i
   from_fits ahead start (Cross' p (more_of-FromTree a end_of-FromTree) q (more_of-FromTree b end_of-FromTree)) h small =
-      let s = either (is_large_from a db rs) (is_large_from b db rs) small in
+      let s = or_neither (is_large_from a db rs) (is_large_from b db rs) small in
       within_product (from_bits cs a) (from_bits cs b) (from_rows a start db rs) (from_rows b (start + columns_in a) db rs) (from_fits ahead start a h.0 s.0) (from_fits (ahead ++ from_bits cs a) (start + columns_in a) b h.1 s.1)
   from_fits ahead start (Inner' p (more_of-FromTree a end_of-FromTree) q (more_of-FromTree b end_of-FromTree) on) h small =
-      let s = either (is_large_from a db rs) (is_large_from b db rs) small in
+      let s = or_neither (is_large_from a db rs) (is_large_from b db rs) small in
       all_filter (Within (from_bits cs a ++ from_bits cs b)) (joins on rs start) (product (from_rows a start db rs) (from_rows b (start + columns_in a) db rs))
       (within_product (from_bits cs a) (from_bits cs b) (from_rows a start db rs) (from_rows b (start + columns_in a) db rs) (from_fits ahead start a h.0 s.0) (from_fits (ahead ++ from_bits cs a) (start + columns_in a) b h.1 s.1))
   from_fits ahead start (Left' p (more_of-FromTree a end_of-FromTree) q (more_of-FromTree b end_of-FromTree) on) h small =
-      let s = either (is_large_from a db rs) (is_large_from b db rs) small in
+      let s = or_neither (is_large_from a db rs) (is_large_from b db rs) small in
       subst (λ n. AllWithin (from_bits cs a ++ from_bits cs b) (left_join (joins on rs start) n (from_rows a start db rs) (from_rows b (start + columns_in a) db rs)))
       (sym (columns_are cs (ahead ++ from_bits cs a) b h.1))
       (within_left (from_bits cs a) (from_bits cs b) (joins on rs start) (from_rows a start db rs) (from_rows b (start + columns_in a) db rs) (from_fits ahead start a h.0 s.0) (from_fits (ahead ++ from_bits cs a) (start + columns_in a) b h.1 s.1))
