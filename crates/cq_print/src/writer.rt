@@ -1,4 +1,4 @@
-ghost use Rattle.std.specs.Prelude.{◌≡◌, [], ◌++◌, map, IfOk, OnOk};
+ghost use Rattle.std.specs.Prelude.{◌≡◌, [], ◌++◌, ◌∷◌, map, IfOk, OnOk};
 ghost use Rattle.cq_token.specs.Printed.{printed};
 ghost use Rattle.cq_grammar.specs.Spelling.{word, sign, named, number, quoted, if_written};
 ghost use Rattle.cq_print.specs.Cases as cases;
@@ -121,9 +121,16 @@ impl Writer {
     pub fn append(&mut self, other: &Writer) -> Result<(), NoMemory>
         ensures { OnOk result (self.new ≡ self.old ++ other.now) }
     {
+        let alloc = self.alloc;
         'kinds: for kind in other.kinds.as_slice() {
-            self.kinds.put(copy_of(self.alloc, kind)?)?;
+            self.put(copy_of(alloc, kind)?)?;
         }
         Ok(())
+    }
+
+    fn put(&mut self, kind: TokenKind) -> Result<(), NoMemory>
+        ensures { OnOk result (self.new ≡ self.old ++ kind ∷ []) }
+    {
+        self.kinds.put(kind)
     }
 }

@@ -1,5 +1,5 @@
-use Rattle.std.proofs.Common.{◌≡◌, ◌++◌}
+use Rattle.std.proofs.Common.{◌≡◌, ◌++◌, drop}
 use Rattle.cq_print.proofs.writer.Writer.append.Given as goal
 
 abbrev pub invariant-kinds : goal.invariant-kinds
-invariant-kinds l = l.self-inside ≡ l.initial.self-inside ++ l.yielded
+invariant-kinds l = l.initial.self ++ l.kind-items ≡ l.self ++ drop l.kind-index l.kind-items
