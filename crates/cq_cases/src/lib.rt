@@ -1,10 +1,7 @@
-//! What no script through the program shows: journals and what stores hold at the end; sources, sinks and stores that fail; the engine's
-//! joins, subqueries and writes; the printer. All is tests; the scripts are in `tests/sql`.
+//! What no script through the program shows: journals and what stores hold at the end; sources, sinks and stores that fail; the
+//! printer. All is tests; the scripts are in `tests/sql`.
 #![tactic(auto)]
 
-mod checked;
-#[cfg(test)]
-mod engine;
 #[cfg(test)]
 mod faults;
 #[cfg(test)]
@@ -21,5 +18,3 @@ mod tables;
 mod tokens;
 #[cfg(test)]
 mod touched;
-
-pub use checked::checked_query;
