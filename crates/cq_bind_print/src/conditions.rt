@@ -67,8 +67,8 @@ impl Scope<'_> {
                 self.subquery(out, *number)?;
                 out.sign(Sign::Close)
             }
-            Cond::And(a, b) => self.chain(out, false, a.get(), b.get()),
-            Cond::Or(a, b) => self.chain(out, true, a.get(), b.get()),
+            Cond::And(..) => self.chain(out, c, false),
+            Cond::Or(..) => self.chain(out, c, true),
             Cond::Not(a) => {
                 out.word("not")?;
                 self.cond(out, a.get(), Level::Not)
@@ -77,8 +77,13 @@ impl Scope<'_> {
         }
     }
 
+    /// Writes the two halves of a chain of AND or, where this says so, of OR.
     #[cycle(write)]
-    fn chain(&self, out: &mut Writer, any: bool, a: &Cond, b: &Cond) -> Result<(), NoMemory> {
+    fn chain(&self, out: &mut Writer, c: &Cond, any: bool) -> Result<(), NoMemory> {
+        let (a, b) = match c {
+            Cond::And(a, b) | Cond::Or(a, b) => (a.get(), b.get()),
+            _ => return Ok(()),
+        };
         let least = match (any, Form::of(a).is_half(any, Form::of(b))) {
             (true, true) => Level::Or,
             (false, false) => Level::Not,
@@ -91,22 +96,32 @@ impl Scope<'_> {
 
     #[cycle(write)]
     fn between(&self, out: &mut Writer, c: &Cond) -> Result<(), NoMemory> {
-        if let Cond::And(low, high) = c {
-            self.ends(out, low.get(), high.get())?;
-        }
-        Ok(())
+        let Cond::And(low, high) = c else {
+            return Ok(());
+        };
+        self.lower(out, low.get())?;
+        out.word("and")?;
+        self.upper(out, high.get())
     }
 
+    /// Writes what lies between, and the lower end.
     #[cycle(write)]
-    fn ends(&self, out: &mut Writer, low: &Cond, high: &Cond) -> Result<(), NoMemory> {
-        if let (Cond::Compare(_, x, from), Cond::Compare(_, _, to)) = (low, high) {
-            self.expr(out, x, Level::Sum)?;
-            out.word("between")?;
-            self.expr(out, from, Level::Sum)?;
-            out.word("and")?;
-            self.expr(out, to, Level::Sum)?;
+    fn lower(&self, out: &mut Writer, c: &Cond) -> Result<(), NoMemory> {
+        let Cond::Compare(_, x, from) = c else {
+            return Ok(());
+        };
+        self.expr(out, x, Level::Sum)?;
+        out.word("between")?;
+        self.expr(out, from, Level::Sum)
+    }
+
+    /// Writes the upper end.
+    #[cycle(write)]
+    fn upper(&self, out: &mut Writer, c: &Cond) -> Result<(), NoMemory> {
+        match c {
+            Cond::Compare(_, _, to) => self.expr(out, to, Level::Sum),
+            _ => Ok(()),
         }
-        Ok(())
     }
 
     #[cycle(write)]
