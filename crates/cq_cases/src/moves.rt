@@ -65,17 +65,29 @@ struct Outcome {
     stores: Vec<FaultStore>,
 }
 
+/// A store of a node, at this place among the node's.
+fn store_of(
+    alloc: Global,
+    node: u32,
+    place: u64,
+    failing: Failing,
+) -> Result<FaultStore, AllocError>
+    ensures { IfOk result (λ store. IsWaiting node (held store)) }
+{
+    let mut fails = Vec::new(alloc);
+    if node == failing.node && place == failing.place {
+        fails.push(failing.call)?;
+    }
+    Ok(FaultStore::new(alloc, node, fails))
+}
+
 /// The stores of a node.
 fn stores_of(alloc: Global, node: u32, failing: Failing) -> Result<Vec<FaultStore>, AllocError>
     ensures { IfOk result (λ stores. All (λ s. IsWaiting node (held s)) stores.items) }
 {
     let mut stores = Vec::new(alloc);
     for place in 0..STORES {
-        let mut fails = Vec::new(alloc);
-        if node == failing.node && place == failing.place {
-            fails.push(failing.call)?;
-        }
-        stores.push(FaultStore::new(alloc, node, fails))?;
+        stores.push(store_of(alloc, node, place, failing)?)?;
     }
     Ok(stores)
 }
