@@ -25,7 +25,7 @@ use cq_meaning_laws::width_laws;
 use cq_queries::{Lookups, eval};
 use cq_reading::{BindError, Bound, Found, Scope, World};
 use cq_tree::{Expr, ShardOp, Statement};
-use cq_value::{Items, NoMemory, Positions, Row, Rows, Value};
+use cq_value::{Items, NoMemory, Positions, Row, Rows, Value, Values};
 use cq_widths::bits_of;
 use std::alloc::Global;
 
@@ -36,7 +36,8 @@ fn value_of(alloc: Global, e: &Expr) -> Result<Value, NoMemory>
     match bits_of(e, &[], 0) {
         Some(_) => {
             width_laws();
-            eval(alloc, e, &Row::new(alloc), &Lookups::new(alloc))
+            let row = Row::from_values(Values::new(alloc));
+            eval(alloc, e, &row, &Lookups::new(alloc))
         }
         None => Err(NoMemory),
     }
@@ -71,13 +72,13 @@ fn computed(
 }
 
 /// The column of the next value.
-fn next_column(columns: &[u32], before: &Row) -> Option<u32>
+fn next_column(columns: &[u32], before: &Values) -> Option<u32>
     ensures { result ≡ slice_get columns.now (length before.now) }
 {
     columns.get(before.len() as usize).copied()
 }
 
-fn one_more(mut row: Row, v: Value) -> Result<Row, NoMemory>
+fn one_more(mut row: Values, v: Value) -> Result<Values, NoMemory>
     ensures { IfOk result (λ all. all ≡ row ++ v ∷ []) }
 {
     row.put(v)?;
@@ -92,9 +93,9 @@ fn value_for(
     table: &TableInfo,
     row: u64,
     i: u32,
-    before: Row,
+    before: Values,
     e: &Written,
-) -> Result<Row, BindError>
+) -> Result<Values, BindError>
     ensures { Binds (reading.value_for scope.now table.now row before e.now (Some i) found.old) result found.new }
 {
     let v = computed(alloc, found, scope, e)?;
@@ -109,9 +110,9 @@ fn with_value(
     table: &TableInfo,
     row: u64,
     columns: &[u32],
-    before: Row,
+    before: Values,
     e: &Written,
-) -> Result<Row, BindError>
+) -> Result<Values, BindError>
     ensures { Binds (reading.with_value scope.now table.now row columns.now before e.now found.old) result found.new }
 {
     match next_column(columns, &before) {
@@ -129,24 +130,30 @@ fn values(
     row: u64,
     columns: &[u32],
     values: &Items<Written>,
-) -> Result<Row, BindError>
+) -> Result<Values, BindError>
     ensures { Binds (through (reading.with_value scope.now table.now row columns.now) values.now [] found.old) result found.new }
 {
     through(
         found,
         values,
-        Row::new(alloc),
-        |found: &mut Found, before: Row, e: &Written| {
+        Values::new(alloc),
+        |found: &mut Found, before: Values, e: &Written| {
             with_value(alloc, found, scope, table, row, columns, before, e)
         },
     )
 }
 
 /// A row with these values in these columns, and NULL in the others.
-fn filled(alloc: Global, table: &TableInfo, columns: &[u32], values: Row) -> Result<Row, NoMemory>
+fn filled(
+    alloc: Global,
+    table: &TableInfo,
+    columns: &[u32],
+    values: Values,
+) -> Result<Row, NoMemory>
     ensures { IfOk result (λ row. row ≡ reading.put_values (replicate (length table.now.columns) value.Null) columns.now values) }
 {
-    Ok(put_values(null_row(alloc, table)?, columns, values))
+    let all = put_values(null_row(alloc, table)?, columns, values);
+    Row::shared(alloc, all)
 }
 
 /// The row of this number, counted from 1.

@@ -12,7 +12,7 @@ use crate::writes::{is_key_column, refused_value};
 use cq_catalog::TableInfo;
 use cq_grammar::RowValues;
 use cq_reading::BindError;
-use cq_value::{NoMemory, Row, Value};
+use cq_value::{NoMemory, Value, Values};
 use std::alloc::Global;
 
 /// Whether a row has a value for each of these columns. `Err`: 17 where it has more or fewer.
@@ -55,10 +55,10 @@ pub fn check_unlisted(table: &TableInfo, row: u64, listed: &[u32]) -> Result<(),
     check_columns(table, row, listed, small(table.columns.len())?)
 }
 
-fn nulls(alloc: Global, number: u64) -> Result<Row, NoMemory>
+fn nulls(alloc: Global, number: u64) -> Result<Values, NoMemory>
     ensures { IfOk result (λ row. row ≡ replicate number value.Null) }
 {
-    let mut row = Row::new(alloc);
+    let mut row = Values::new(alloc);
     for _i in 0..number {
         row.put(Value::Null)?;
     }
@@ -66,13 +66,13 @@ fn nulls(alloc: Global, number: u64) -> Result<Row, NoMemory>
 }
 
 /// A row of NULLs, one for each column of a table.
-pub fn null_row(alloc: Global, table: &TableInfo) -> Result<Row, NoMemory>
+pub fn null_row(alloc: Global, table: &TableInfo) -> Result<Values, NoMemory>
     ensures { IfOk result (λ row. row ≡ replicate (length table.now.columns) value.Null) }
 {
     nulls(alloc, table.columns.len())
 }
 
-fn with_value(mut row: Row, place: u32, v: Value) -> Row
+fn with_value(mut row: Values, place: u32, v: Value) -> Values
     ensures { result ≡ slice_set row place v }
 {
     if u64::from(place) < row.len() {
@@ -82,7 +82,7 @@ fn with_value(mut row: Row, place: u32, v: Value) -> Row
 }
 
 /// The row with a value in the first of these columns.
-fn with_first(row: Row, columns: &[u32], v: Value) -> Row
+fn with_first(row: Values, columns: &[u32], v: Value) -> Values
     ensures { result ≡ put_in row columns.now (v ∷ []) }
 {
     match columns {
@@ -101,7 +101,7 @@ fn behind_first(columns: &[u32]) -> &[u32]
 }
 
 /// The row with these values in these columns. What lies outside of it is let go.
-pub fn put_values(row: Row, columns: &[u32], values: Row) -> Row
+pub fn put_values(row: Values, columns: &[u32], values: Values) -> Values
     ensures { result ≡ put_in row columns.now values }
 {
     let mut row = row;

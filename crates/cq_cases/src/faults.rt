@@ -13,7 +13,9 @@ ghost use Rattle.cq_group.specs.Opening.{IsFresh, AreFresh};
 use cq_group::{Capture, GroupError, GroupState, Staged};
 use cq_store::{BoxedStore, ColumnValues, FaultStore, Store, StoreError};
 use cq_tree::{Reply, ShardOp, Who};
-use cq_value::{Change, Changes, Kind, Kinds, NoMemory, Positions, Row, Rows, Shape, Value};
+use cq_value::{
+    Change, Changes, Kind, Kinds, NoMemory, Positions, Row, Rows, Shape, Value, Values,
+};
 use std::alloc::Global;
 use std::test::Fail;
 
@@ -34,10 +36,10 @@ fn insertion(alloc: Global, key: i128) -> Result<ShardOp, NoMemory>
     ensures named { IfOk result (λ op. table_of op ≡ TABLE) }
     ensures safe { IfOk result (λ op. (pairs : List Pair) → IsSafeWrite op pairs) }
 {
-    let mut row = Row::new(alloc);
-    row.put(Value::Int(key))?;
+    let mut values = Values::new(alloc);
+    values.put(Value::Int(key))?;
     let mut rows = Rows::new(alloc);
-    rows.put(row)?;
+    rows.put(Row::from_values(values))?;
     Ok(ShardOp::Insert { table: TABLE, rows })
 }
 
@@ -175,10 +177,10 @@ fn second_copy_fails_once(rt: HostRuntime) -> Result<(), Fail> {
 fn first_row(alloc: Global, number: i128) -> Result<Changes, NoMemory>
     ensures { IfOk result (λ changes. (row : _) × (changes ≡ Add 0 row ∷ [])) }
 {
-    let mut row = Row::new(alloc);
-    row.put(Value::Int(number))?;
+    let mut values = Values::new(alloc);
+    values.put(Value::Int(number))?;
     let mut changes = Changes::new(alloc);
-    changes.put(Change::Add(0, row))?;
+    changes.put(Change::Add(0, Row::from_values(values)))?;
     Ok(changes)
 }
 

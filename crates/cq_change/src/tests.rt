@@ -1,14 +1,14 @@
 //! A log that is applied to a table.
 
 use crate::log::ChangeLog;
-use cq_value::{Change, NoMemory, Numbered, Row, Value};
+use cq_value::{Change, NoMemory, Numbered, Row, Value, Values};
 use std::alloc::Global;
 use std::test::Fail;
 
 fn row(alloc: Global, n: i128) -> Result<Row, NoMemory> {
-    let mut row = Row::new(alloc);
-    row.put(Value::Int(n))?;
-    Ok(row)
+    let mut values = Values::new(alloc);
+    values.put(Value::Int(n))?;
+    Ok(Row::from_values(values))
 }
 
 #[test]

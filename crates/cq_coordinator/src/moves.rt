@@ -17,21 +17,22 @@ use cq_group::Gate;
 use cq_move::MoveReport;
 use cq_store::Store;
 use cq_tree::Who;
-use cq_value::{Names, NoMemory, Row, Rows, Text, Value};
+use cq_value::{Drafts, Names, NoMemory, Reserved, Row, Text, Value, Values, finish};
 use std::alloc::Global;
 
 /// The table that a move is answered, with the numbers of a report.
 #[derive(Drop)]
 struct ReportTable {
     names: Names,
-    rows: Rows,
+    rows: Drafts,
+    room: Reserved<Row>,
 }
 
 /// A row of a zero for each number of a report.
-fn zeros(alloc: Global) -> Result<Row, NoMemory>
+fn zeros(alloc: Global) -> Result<Values, NoMemory>
     ensures { IfOk result (λ row. row ≡ report_row (record { copied = 0; caught = 0; last = 0 })) }
 {
-    let mut row = Row::new(alloc);
+    let mut row = Values::new(alloc);
     row.put(Value::Int(0))?;
     row.put(Value::Int(0))?;
     row.put(Value::Int(0))?;
@@ -42,18 +43,22 @@ fn zeros(alloc: Global) -> Result<Row, NoMemory>
 fn report_table(alloc: Global) -> Result<ReportTable, NoMemory>
     ensures names { IfOk result (λ t. t.names ≡ report_names) }
     ensures rows { IfOk result (λ t. t.rows ≡ report_row (record { copied = 0; caught = 0; last = 0 }) ∷ []) }
+    ensures empty { IfOk result (λ t. t.room.list ≡ []) }
+    ensures room { IfOk result (λ t. 1 ≤ t.room.room) }
 {
     let mut names = Names::new(alloc);
     names.put(Text::of_str(alloc, "copied")?)?;
     names.put(Text::of_str(alloc, "caught")?)?;
     names.put(Text::of_str(alloc, "last")?)?;
-    let mut rows = Rows::new(alloc);
+    let mut rows = Drafts::new(alloc);
     rows.put(zeros(alloc)?)?;
-    Ok(ReportTable { names, rows })
+    let mut room = Reserved::new(alloc);
+    room.reserve(1)?;
+    Ok(ReportTable { names, rows, room })
 }
 
 /// Puts the numbers of a report in the place of the zeros. Takes no memory.
-fn fill(rows: &mut Rows, report: MoveReport)
+fn fill(rows: &mut Drafts, report: MoveReport)
     requires { rows.old ≡ report_row (record { copied = 0; caught = 0; last = 0 }) ∷ [] }
     ensures { rows.new ≡ report_row (report_of report) ∷ [] }
 {
@@ -89,7 +94,7 @@ impl<S: Store> Coordinator<S> {
                 fill(&mut table.rows, report);
                 Answer::Table {
                     names: table.names,
-                    rows: table.rows,
+                    rows: finish(table.room, table.rows),
                 }
             }
             Err(fault) => Answer::Failed(fault),

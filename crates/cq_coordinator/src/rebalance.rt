@@ -1,4 +1,4 @@
-ghost use Rattle.std.specs.Prelude.{◌≡◌, ℕ, List, Some, None, [], ◌∷◌, ◌++◌, map, IfErr, IfOk};
+ghost use Rattle.std.specs.Prelude.{◌≡◌, ℕ, List, Some, None, [], ◌∷◌, ◌++◌, ◌≤◌, length, map, IfErr, IfOk};
 ghost use Rattle.cq_tree.specs.declared.statement.Statement.TheVariants as statement;
 ghost use Rattle.cq_answer.specs.declared.answered.Answered.{Answered};
 ghost use Rattle.cq_answer.specs.declared.answered.Settings.{Settings};
@@ -22,7 +22,7 @@ use cq_group::Gate;
 use cq_rebalance::{make_moves, plan_moves, zero_rows};
 use cq_store::Store;
 use cq_tree::Who;
-use cq_value::{Names, NoMemory, Rows, Text};
+use cq_value::{Drafts, Names, NoMemory, Reserved, Row, Text, finish};
 use std::alloc::Global;
 
 /// The names of the columns of a rebalance's table.
@@ -39,11 +39,25 @@ fn rebalance_names(alloc: Global) -> Result<Names, NoMemory>
     Ok(names)
 }
 
-/// Moves that balance the shard groups, and their rows.
+/// Moves that balance the shard groups, their rows, and room for these in an answer.
 #[derive(Drop)]
 struct Plan {
     moves: Moves,
-    rows: Rows,
+    rows: Drafts,
+    room: Reserved<Row>,
+}
+
+/// The moves with the rows of their table, which aren't made yet, so that their memory is taken before the moves.
+fn draft(alloc: Global, moves: Moves) -> Result<Plan, NoMemory>
+    ensures moves { IfOk result (λ p. p.moves ≡ moves) }
+    ensures rows { IfOk result (λ p. p.rows ≡ map zero_row moves) }
+    ensures empty { IfOk result (λ p. p.room.list ≡ []) }
+    ensures room { IfOk result (λ p. length moves ≤ p.room.room) }
+{
+    let rows = zero_rows(alloc, moves.as_slice())?;
+    let mut room = Reserved::new(alloc);
+    room.reserve(moves.len())?;
+    Ok(Plan { moves, rows, room })
 }
 
 /// The moves that balance a cluster's shard groups, with the rows of their table, which aren't made yet. By size each distributed group
@@ -64,6 +78,8 @@ fn begin_moves<S: Store>(
     ensures goes_on { GoOn S.state cluster.old.groups.items cluster.new.groups.items }
     ensures begun { IfOk result (λ p. IsBegun S.state who by_size (journals_of_cluster cluster.old) (node_in cluster.old.groups.items) (sizes_in by_size cluster.old.catalog cluster.old.groups.items) cluster.new p.moves) }
     ensures rows { IfOk result (λ p. p.rows ≡ map zero_row p.moves) }
+    ensures empty { IfOk result (λ p. p.room.list ≡ []) }
+    ensures room { IfOk result (λ p. length p.moves ≤ p.room.room) }
     ensures accounted { IfOk result (λ p. AccountsOn S.state who cluster.old cluster.new) }
     ensures failed { IfErr result (StopsPlan S.state by_size cluster.old.catalog cluster.old.nodes who cluster.old.groups.items cluster.new.groups.items) }
     ensures blamed { IfErr result (λ f. AccountsFailed S.state who f cluster.old cluster.new) }
@@ -80,8 +96,8 @@ fn begin_moves<S: Store>(
         Ok(moves) => moves,
         Err(fault) => return Err(fault),
     };
-    match zero_rows(alloc, moves.as_slice()) {
-        Ok(rows) => Ok(Plan { moves, rows }),
+    match draft(alloc, moves) {
+        Ok(plan) => Ok(plan),
         Err(NoMemory) => Err(Fault::Memory),
     }
 }
@@ -106,7 +122,11 @@ impl<S: Store> Coordinator<S> {
             Ok(begun) => begun,
             Err(fault) => return Answer::Failed(fault),
         };
-        let Plan { moves, mut rows } = begun;
+        let Plan {
+            moves,
+            mut rows,
+            room,
+        } = begun;
         match make_moves(
             alloc,
             gate,
@@ -115,7 +135,10 @@ impl<S: Store> Coordinator<S> {
             moves.as_slice(),
             &mut rows,
         ) {
-            Ok(()) => Answer::Table { names, rows },
+            Ok(()) => Answer::Table {
+                names,
+                rows: finish(room, rows),
+            },
             Err(fault) => Answer::Failed(fault),
         }
     }

@@ -7,7 +7,7 @@ use crate::error::CopyError;
 use crate::fields::{bad_value, value_at};
 use crate::format::Format;
 use cq_catalog::TableInfo;
-use cq_value::{NoMemory, Row, Value};
+use cq_value::{NoMemory, Row, Value, Values};
 use std::alloc::Global;
 
 /// Into what rows are read: how the data are written, a table and its listed columns, and the first column that isn't listed and may
@@ -22,10 +22,10 @@ pub(crate) struct Frame<'a> {
 }
 
 /// A row of NULLs.
-fn blank(alloc: Global, table: &TableInfo) -> Result<Row, NoMemory>
+fn blank(alloc: Global, table: &TableInfo) -> Result<Values, NoMemory>
     ensures { IfOk result (λ values. values ≡ spec.blank table.now) }
 {
-    let mut values = Row::with_room(alloc, table.columns.len())?;
+    let mut values = Values::with_room(alloc, table.columns.len())?;
     for _ in table.columns.as_slice() {
         values.put(Value::Null)?;
     }
@@ -33,7 +33,7 @@ fn blank(alloc: Global, table: &TableInfo) -> Result<Row, NoMemory>
 }
 
 /// The row with the value in its column.
-fn with_value(values: Row, column: u32, value: Value) -> Row
+fn with_value(values: Values, column: u32, value: Value) -> Values
     ensures { result ≡ slice_set values column value }
 {
     let mut values = values;
@@ -44,7 +44,7 @@ fn with_value(values: Row, column: u32, value: Value) -> Row
 }
 
 /// The row, if no column is missing.
-fn complete(row: u64, absent: Option<u32>, values: Row) -> Result<Row, CopyError>
+fn complete(row: u64, absent: Option<u32>, values: Values) -> Result<Values, CopyError>
     ensures { result ≡ spec.complete row absent values }
 {
     match absent {
@@ -76,7 +76,7 @@ impl<'a> Frame<'a> {
     }
 
     /// The row with each field's value in its column, from left to right, or the first refusal of one.
-    fn filled(&self, row: u64, fields: &[&[u8]]) -> Result<Row, CopyError>
+    fn filled(&self, row: u64, fields: &[&[u8]]) -> Result<Values, CopyError>
         requires { length fields.now ≡ length self.now.listed.now }
         ensures { Gives result (spec.filled self.now.format self.now.table.now row self.now.listed.now (map (λ f. f.now) fields.now) (spec.blank self.now.table.now)) }
     {
@@ -108,6 +108,7 @@ impl<'a> Frame<'a> {
             });
         }
         let values = self.filled(row, fields)?;
-        complete(row, self.absent, values)
+        let values = complete(row, self.absent, values)?;
+        Ok(Row::shared(self.alloc, values)?)
     }
 }

@@ -43,10 +43,10 @@ pub fn update_row(alloc: Global, sets: &[Set], row: &Row) -> Result<Row, NoMemor
     ensures { IfOk result (λ new. new ≡ updated sets.now row.now) }
 {
     let none = Lookups::new(alloc);
-    let mut new = row.copy(alloc)?;
+    let mut new = row.copy(alloc)?.into_values(alloc)?;
     for s in sets {
         let v = eval(alloc, &s.value, row, &none)?;
         new.set(s.column as u64, v);
     }
-    Ok(new)
+    Row::shared(alloc, new)
 }

@@ -15,7 +15,7 @@ use cq_group::{
 };
 use cq_store::Store;
 use cq_tree::Who;
-use cq_value::{NoMemory, Row, Value};
+use cq_value::{NoMemory, Value, Values};
 use std::alloc::Global;
 
 /// The most rounds of catch-up.
@@ -31,7 +31,7 @@ pub struct MoveReport {
 
 impl MoveReport {
     /// Puts the numbers into a row, from this column on. Takes no memory.
-    pub fn put_into(self, row: &mut Row, first: u32)
+    pub fn put_into(self, row: &mut Values, first: u32)
         requires { first + 3 ≤ length row.old }
         ensures { row.new ≡ with_report row.old first self }
     {

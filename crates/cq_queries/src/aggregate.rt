@@ -140,11 +140,11 @@ fn row_of_group(
     requires { All (IsSafeAggregate results.now g.now.rows) aggs.now }
     ensures { IfOk result (λ row. row ≡ group_row aggs.now results.now g.now) }
 {
-    let mut row = g.keys.copy(alloc)?;
+    let mut row = g.keys.copy(alloc)?.into_values(alloc)?;
     for a in aggs {
         row.put(aggregate_of(alloc, a, g.rows.as_slice(), results)?)?;
     }
-    Ok(row)
+    Ok(Row::from_values(row))
 }
 
 /// The same of each group.

@@ -8,7 +8,7 @@ use crate::select::values;
 use cq_keys::{Grouping, push_group};
 use cq_meaning::Group;
 use cq_tree::Expr;
-use cq_value::{NoMemory, Row, Rows};
+use cq_value::{NoMemory, Row, Rows, Values};
 use std::alloc::Global;
 
 /// The rows by the values of expressions, in the order of their first rows.
@@ -41,7 +41,7 @@ pub fn groups_for(
 {
     if es.is_empty() {
         let mut groups = Vec::new(alloc);
-        let keys = Row::new(alloc);
+        let keys = Row::from_values(Values::new(alloc));
         push_group(&mut groups, Group { keys, rows })?;
         Ok(groups)
     } else {

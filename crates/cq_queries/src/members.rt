@@ -10,7 +10,7 @@ use crate::expression::cell;
 use crate::logic;
 use crate::operand::{self, Operand};
 use cq_tree::Op;
-use cq_value::{Items, NoMemory, Results, Row, Rows, Truth, Value, order};
+use cq_value::{Items, NoMemory, Results, Rows, Truth, Value, Values, order};
 use std::alloc::Global;
 use std::marker::Model;
 
@@ -44,7 +44,7 @@ fn are_texts(values: &[Value]) -> bool
 /// Values in their order, among which a binary search finds one. Contracts see the values.
 #[derive(Drop)]
 struct Members {
-    values: Row,
+    values: Values,
     are_numbers: bool,
     are_texts: bool,
 }
@@ -63,7 +63,7 @@ impl Model for Members {
 }
 
 /// The values in their order.
-fn in_order(values: Row) -> Row
+fn in_order(values: Values) -> Values
     ensures up { IsInOrder result }
     ensures permutation { IsPermutation values result }
 {
@@ -95,7 +95,7 @@ fn verdict(is_found: bool, is_unsure: bool) -> Truth
 }
 
 impl Members {
-    fn new(values: Row) -> Members
+    fn new(values: Values) -> Members
         ensures { IsPermutation values result }
     {
         let values = in_order(values);
@@ -167,10 +167,10 @@ impl<'a> Model for Listed<'a> {
 pub type Lookups<'a> = Items<Listed<'a>>;
 
 /// The values of the first column.
-fn first_values(alloc: Global, rows: &Rows) -> Result<Row, NoMemory>
+fn first_values(alloc: Global, rows: &Rows) -> Result<Values, NoMemory>
     ensures { IfOk result (λ values. values ≡ first_column rows.now) }
 {
-    let mut values = Row::new(alloc);
+    let mut values = Values::new(alloc);
     for row in rows.as_slice() {
         values.put(operand::take(alloc, cell(row, 0))?)?;
     }

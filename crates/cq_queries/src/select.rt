@@ -6,7 +6,7 @@ use crate::expression::{eval, test};
 use crate::logic::is_true;
 use crate::members::Lookups;
 use cq_tree::{Cond, Expr};
-use cq_value::{NoMemory, Row, Rows};
+use cq_value::{NoMemory, Row, Rows, Values};
 use std::alloc::Global;
 
 /// The rows of which a condition is true.
@@ -28,11 +28,11 @@ pub fn values(alloc: Global, es: &[Expr], row: &Row, results: &Lookups<'_>) -> R
     requires { All (λ e. IsSafe e row.now results.now) es.now }
     ensures { IfOk result (λ values. values ≡ items_of es.now results.now row.now) }
 {
-    let mut values = Row::new(alloc);
+    let mut values = Values::new(alloc);
     for e in es {
         values.put(eval(alloc, e, row, results)?)?;
     }
-    Ok(values)
+    Ok(Row::from_values(values))
 }
 
 /// The values of expressions over each row.

@@ -133,12 +133,12 @@ pub fn order_rows(
     }
 }
 
-fn shortened(row: Row, shown: u32) -> Row
-    ensures { result ≡ take_first shown row }
+fn shortened(alloc: Global, row: Row, shown: u32) -> Result<Row, NoMemory>
+    ensures { IfOk result (λ r. r ≡ take_first shown row) }
 {
-    let mut values = row.into_vec();
+    let mut values = row.into_values(alloc)?.into_vec();
     values.truncate(shown as usize);
-    Items::from_vec(values)
+    Ok(Row::from_values(Items::from_vec(values)))
 }
 
 fn after_offset(alloc: Global, rows: Rows, offset: u64) -> Result<Vec<Row>, NoMemory>
@@ -179,7 +179,7 @@ pub fn cut_rows(
 {
     let mut all = Rows::new(alloc);
     for row in window(alloc, rows, limit, offset)? {
-        all.put(shortened(row, shown))?;
+        all.put(shortened(alloc, row, shown)?)?;
     }
     Ok(all)
 }

@@ -12,11 +12,11 @@ use cq_group::Gate;
 use cq_move::MoveReport;
 use cq_store::Store;
 use cq_tree::Who;
-use cq_value::{NoMemory, Row, Rows, Value};
+use cq_value::{Drafts, NoMemory, Value, Values};
 use std::alloc::Global;
 
 /// Puts the numbers of a report into the row of its move, at this place. Takes no memory.
-fn fill(rows: &mut Rows, place: u64, next: Move, report: MoveReport)
+fn fill(rows: &mut Drafts, place: u64, next: Move, report: MoveReport)
     requires { slice_get rows.old place ≡ Some (zero_row_by_rule next) }
     ensures { rows.new ≡ slice_set rows.old place (rebalance_row (record { move = next; report = report_of report })) }
 {
@@ -26,10 +26,10 @@ fn fill(rows: &mut Rows, place: u64, next: Move, report: MoveReport)
 }
 
 /// The row of a move that isn't made yet.
-fn zero_row(alloc: Global, next: Move) -> Result<Row, NoMemory>
+fn zero_row(alloc: Global, next: Move) -> Result<Values, NoMemory>
     ensures { IfOk result (λ row. row ≡ zero_row_by_rule next) }
 {
-    let mut row = Row::new(alloc);
+    let mut row = Values::new(alloc);
     row.put(Value::Int(i128::from(next.group)))?;
     row.put(Value::Int(i128::from(next.from)))?;
     row.put(Value::Int(i128::from(next.to)))?;
@@ -40,10 +40,10 @@ fn zero_row(alloc: Global, next: Move) -> Result<Row, NoMemory>
 }
 
 /// The rows of moves that aren't made yet, so that their memory is taken before the moves.
-pub fn zero_rows(alloc: Global, moves: &[Move]) -> Result<Rows, NoMemory>
+pub fn zero_rows(alloc: Global, moves: &[Move]) -> Result<Drafts, NoMemory>
     ensures { IfOk result (λ rows. rows ≡ map zero_row_by_rule moves.now) }
 {
-    let mut rows = Rows::new(alloc);
+    let mut rows = Drafts::new(alloc);
     for next in moves {
         rows.put(zero_row(alloc, *next)?)?;
     }
@@ -60,7 +60,7 @@ pub fn make_moves<S: Store, G: Gate>(
     cluster: &mut Cluster<S>,
     who: Who,
     moves: &[Move],
-    rows: &mut Rows,
+    rows: &mut Drafts,
 ) -> Result<(), Fault>
     requires sound { IsSound S.state cluster.old }
     requires begun { (by_size : Bool) × (start : List Journal) × (nodes : ℕ → ℕ) × (sizes : ℕ → ℕ) × IsBegun S.state who by_size start nodes sizes cluster.old moves.now }

@@ -5,11 +5,11 @@ ghost use Rattle.cq_value.specs.Order.{value_cmp};
 ghost use Rattle.cq_planning.specs.ValueSets.{ascending as ascending_by_rule};
 ghost use Rattle.cq_shape.specs.Ascending.{ends_with, each_once};
 
-use cq_value::{Items, NoMemory, Row, Value, order};
+use cq_value::{Items, NoMemory, Value, Values, order};
 use std::alloc::Global;
 
 /// The values in their order.
-fn in_order(values: Row) -> Result<Row, NoMemory>
+fn in_order(values: Values) -> Result<Values, NoMemory>
     ensures { IfOk result (λ all. all ≡ sorted value_cmp values) }
 {
     let mut all = values.into_vec();
@@ -30,10 +30,10 @@ fn has_last(values: &[Value], value: &Value) -> bool
 }
 
 /// Of equal values that follow each other the first.
-fn once(alloc: Global, values: Row) -> Result<Row, NoMemory>
+fn once(alloc: Global, values: Values) -> Result<Values, NoMemory>
     ensures { IfOk result (λ all. all ≡ each_once values) }
 {
-    let mut all = Row::new(alloc);
+    let mut all = Values::new(alloc);
     for value in values.into_vec() {
         if !has_last(all.as_slice(), &value) {
             all.put(value)?;
@@ -44,7 +44,7 @@ fn once(alloc: Global, values: Row) -> Result<Row, NoMemory>
 
 /// The values in ascending order, each once.
 #[tactic(auto, using(crate::proofs::AscendingLaws::once_is))]
-pub fn ascending(alloc: Global, values: Row) -> Result<Row, NoMemory>
+pub fn ascending(alloc: Global, values: Values) -> Result<Values, NoMemory>
     ensures { IfOk result (λ all. all ≡ ascending_by_rule values) }
 {
     once(alloc, in_order(values)?)

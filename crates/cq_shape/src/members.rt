@@ -5,14 +5,14 @@ ghost use Rattle.std.specs.Ordering.{is_lt};
 ghost use Rattle.cq_value.specs.Order.{value_cmp};
 ghost use Rattle.cq_meaning.specs.Values.{same_value};
 
-use cq_value::{Items, NoMemory, Row, Value, order};
+use cq_value::{Items, NoMemory, Value, Values, order};
 use std::alloc::Global;
 
 /// Equal values.
-pub fn copy_values(alloc: Global, values: &[Value]) -> Result<Row, NoMemory>
+pub fn copy_values(alloc: Global, values: &[Value]) -> Result<Values, NoMemory>
     ensures { IfOk result (λ all. all ≡ values.now) }
 {
-    let mut all = Row::new(alloc);
+    let mut all = Values::new(alloc);
     for value in values {
         all.put(value.copy(alloc)?)?;
     }
@@ -20,7 +20,7 @@ pub fn copy_values(alloc: Global, values: &[Value]) -> Result<Row, NoMemory>
 }
 
 /// The values in their order.
-fn ordered(values: Row) -> Result<Row, NoMemory>
+fn ordered(values: Values) -> Result<Values, NoMemory>
     ensures up { IfOk result (λ all. IsSortedBy (λ x y. is_lt (value_cmp x y)) all) }
     ensures permutation { IfOk result (λ all. IsPermutation values all) }
 {
@@ -42,11 +42,11 @@ fn is_among(values: &[Value], value: &Value) -> bool
     }
 }
 
-fn kept_among(alloc: Global, values: Row, others: &[Value]) -> Result<Row, NoMemory>
+fn kept_among(alloc: Global, values: Values, others: &[Value]) -> Result<Values, NoMemory>
     requires { IsSortedBy (λ x y. is_lt (value_cmp x y)) others.now }
     ensures { IfOk result (λ kept. kept ≡ filter (λ v. list_any (same_value v) others.now) values) }
 {
-    let mut kept = Row::new(alloc);
+    let mut kept = Values::new(alloc);
     for value in values.into_vec() {
         if is_among(others, &value) {
             kept.put(value)?;
@@ -56,7 +56,7 @@ fn kept_among(alloc: Global, values: Row, others: &[Value]) -> Result<Row, NoMem
 }
 
 /// The values that are among others, too.
-pub fn kept_in(alloc: Global, values: Row, others: &[Value]) -> Result<Row, NoMemory>
+pub fn kept_in(alloc: Global, values: Values, others: &[Value]) -> Result<Values, NoMemory>
     ensures { IfOk result (λ kept. kept ≡ filter (λ v. list_any (same_value v) others.now) values) }
 {
     let sorted = ordered(copy_values(alloc, others)?)?;

@@ -6,17 +6,17 @@ ghost use Rattle.cq_planning.specs.ValueSets.{values_said as said_by_rule, sets_
 use crate::ascending::ascending;
 use crate::conjuncts::{column_of, literal_of};
 use cq_tree::{Cond, Expr, FromTree, Op};
-use cq_value::{Items, NoMemory, Row, Value};
+use cq_value::{Items, NoMemory, Value, Values};
 use std::alloc::Global;
 
 /// A column, and values that are said of it.
-pub type Said = (u32, Row);
+pub type Said = (u32, Values);
 
 /// One value of a column.
 fn one_value(alloc: Global, column: u32, value: &Value) -> Result<Said, NoMemory>
     ensures { IfOk result (λ p. p ≡ (column, value.now ∷ [])) }
 {
-    let mut values = Row::new(alloc);
+    let mut values = Values::new(alloc);
     values.put(value.copy(alloc)?)?;
     Ok((column, values))
 }
@@ -35,7 +35,7 @@ fn equal_to(alloc: Global, x: &Expr, literal: &Expr) -> Result<Option<Said>, NoM
 }
 
 /// Moves values to the end of others.
-fn joined(values: Row, more: Row) -> Result<Row, NoMemory>
+fn joined(values: Values, more: Values) -> Result<Values, NoMemory>
     ensures { IfOk result (λ all. all ≡ values ++ more) }
 {
     let mut all = values;
@@ -116,10 +116,10 @@ fn either(alloc: Global, c: &Cond) -> Result<Option<Said>, NoMemory>
 }
 
 /// The values but NULL.
-fn known(alloc: Global, values: Row) -> Result<Row, NoMemory>
+fn known(alloc: Global, values: Values) -> Result<Values, NoMemory>
     ensures { IfOk result (λ kept. kept ≡ filter is_known values) }
 {
-    let mut kept = Row::new(alloc);
+    let mut kept = Values::new(alloc);
     for value in values.into_vec() {
         if !matches!(value, Value::Null) {
             kept.put(value)?;

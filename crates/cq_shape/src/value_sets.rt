@@ -5,14 +5,14 @@ ghost use Rattle.cq_shape.specs.Labels.{label};
 use crate::labels::label_at;
 use crate::members::{copy_values, kept_in};
 use crate::said::Said;
-use cq_value::{NoMemory, Row};
+use cq_value::{NoMemory, Values};
 use std::alloc::Global;
 
 /// The values that a column can have in a row that counts: these, or all.
-pub type ValueSet = Option<Row>;
+pub type ValueSet = Option<Values>;
 
 /// What is in a set and among values.
-pub fn meet_values(alloc: Global, set: ValueSet, values: &Row) -> Result<ValueSet, NoMemory>
+pub fn meet_values(alloc: Global, set: ValueSet, values: &Values) -> Result<ValueSet, NoMemory>
     ensures { IfOk result (λ s. s ≡ meet_by_rule set (Some values.now)) }
 {
     match set {

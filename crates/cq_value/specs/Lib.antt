@@ -1,5 +1,6 @@
 pub mod formers
 pub mod Changes
+pub mod Holding
 pub mod Lending
 pub mod Order
 pub mod Placement

@@ -1,8 +1,8 @@
 ghost use Rattle.std.specs.Prelude.{◌≡◌, IfOk};
 
 use crate::items::Items;
+use crate::row::Row;
 use crate::text::NoMemory;
-use crate::value::Row;
 use std::alloc::Global;
 
 /// A change of one row of a numbered table: a new row under a new id, another row under an id that is there, or an id's

@@ -1,6 +1,7 @@
 ghost use Rattle.std.specs.Prelude.{◌≡◌, ◌<◌, ◌≤◌, ◌+◌, [], ◌∷◌, ◌++◌, length, slice_index_or, slice_set, IsOk, OnOk};
 ghost use Rattle.std.specs.List.{remove};
 
+use crate::items::Items;
 use crate::text::NoMemory;
 use std::alloc::Global;
 use std::marker::Model;
@@ -63,6 +64,14 @@ impl<T> Reserved<T> {
         ensures { result.now ≡ self.now.list }
     {
         self.items.as_slice()
+    }
+
+    /// The list, whose room contracts no longer see.
+    pub fn into_items(self) -> Items<T>
+        ensures { result ≡ self.list }
+    {
+        let Reserved { items } = self;
+        Items::from_vec(items)
     }
 
     /// Takes the item at a place out, and so leaves room for one more. Takes no memory.

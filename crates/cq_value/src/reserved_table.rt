@@ -5,8 +5,8 @@ ghost use Rattle.cq_value.specs.Tables.{IsAscending, empty_table, with_row, with
 use crate::change::{Change, Changes};
 use crate::numbered::Numbered;
 use crate::reserved::Reserved;
+use crate::row::Row;
 use crate::text::NoMemory;
-use crate::value::Row;
 use std::alloc::Global;
 use std::marker::Model;
 

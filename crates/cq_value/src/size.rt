@@ -1,7 +1,8 @@
 ghost use Rattle.std.specs.Prelude.{◌≡◌, ◌≤◌, ◌+◌, ◌^◌, length, All};
 ghost use Rattle.cq_value.specs.Sizes.{text_length, value_size as size_of_value, row_size as size_of_row};
 
-use crate::value::{Row, Value};
+use crate::row::Row;
+use crate::value::Value;
 
 fn value_size(value: &Value) -> u64
     requires { text_length value.now ≤ 2 ^ 24 }

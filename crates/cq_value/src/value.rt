@@ -1,6 +1,7 @@
 ghost use Rattle.std.specs.Prelude.{◌≡◌, IfOk};
 
 use crate::items::Items;
+use crate::row::Row;
 use crate::text::{NoMemory, Text};
 use std::alloc::Global;
 
@@ -20,10 +21,13 @@ pub enum Truth {
     Unknown,
 }
 
-/// The values of a row, in the order of its columns.
-pub type Row = Items<Value>;
+/// Values, in order.
+pub type Values = Items<Value>;
 
 pub type Rows = Items<Row>;
+
+/// Rows that are still written to.
+pub type Drafts = Items<Values>;
 
 /// The rows of intermediate results, by number.
 pub type Results = Items<Rows>;
