@@ -3,6 +3,7 @@
 
 ghost use Rattle.std.specs.Prelude.{◌≡◌, IfOk};
 
+use cq_copies::CopyTree;
 use cq_tree::Expr;
 use cq_value::{Boxed, NoMemory};
 use std::alloc::Global;

@@ -5,6 +5,7 @@ ghost use Rattle.cq_task_laws.specs.Counting.{counting as counting_of};
 
 use crate::memory::{both, small};
 use crate::tasks::{columns, width_of_groups};
+use cq_copies::CopyTree;
 use cq_tree::{Agg, Aggs, Cond, Expr, Exprs, FromTree, Keys, Queries, Query};
 use cq_value::{Items, Names, NoMemory};
 use std::alloc::Global;

@@ -2,7 +2,6 @@
 //! entries of journals.
 #![tactic(auto)]
 
-mod copies;
 mod expression;
 mod journal;
 mod limit;

@@ -1,10 +1,25 @@
 ghost use Rattle.std.specs.Prelude.{◌≡◌, Ok, IfOk};
 
-use crate::expression::{Arm, Arms, Cond, Expr, Exprs};
-use crate::query::{Agg, FromTree, Key, Queries, Query};
-use crate::write::{Set, ShardOp};
-use cq_value::{Boxed, Duplicate, Items, NoMemory};
+use cq_tree::{Agg, Arm, Arms, Cond, Expr, Exprs, FromTree, Queries, Query, Set, ShardOp};
+use cq_value::{Boxed, Items, NoMemory};
 use std::alloc::Global;
+
+/// A tree of which equal trees are made.
+pub trait CopyTree: Drop {
+    /// An equal tree.
+    fn copy(&self, alloc: Global) -> Result<Self, NoMemory>
+        ensures { IfOk result (λ x. x ≡ self.now) };
+}
+
+impl<T: CopyTree> CopyTree for Items<T> {
+    fn copy(&self, alloc: Global) -> Result<Items<T>, NoMemory> {
+        let mut copies = Items::new(alloc);
+        for tree in self.as_slice() {
+            copies.put(tree.copy(alloc)?)?;
+        }
+        Ok(copies)
+    }
+}
 
 fn both<A: Drop, B: Drop>(
     a: Result<A, NoMemory>,
@@ -18,12 +33,9 @@ fn both<A: Drop, B: Drop>(
     }
 }
 
-impl Expr {
-    /// An equal expression.
+impl CopyTree for Expr {
     #[cycle(copies)]
-    pub fn copy(&self, alloc: Global) -> Result<Expr, NoMemory>
-        ensures { IfOk result (λ e. e ≡ self.now) }
-    {
+    fn copy(&self, alloc: Global) -> Result<Expr, NoMemory> {
         match self {
             Expr::Literal(v) => Ok(Expr::Literal(v.copy(alloc)?)),
             Expr::Column(at) => Ok(Expr::Column(*at)),
@@ -88,12 +100,9 @@ fn copy_arms(alloc: Global, arms: &[Arm]) -> Result<Arms, NoMemory>
     Ok(copies)
 }
 
-impl Cond {
-    /// An equal condition.
+impl CopyTree for Cond {
     #[cycle(copies)]
-    pub fn copy(&self, alloc: Global) -> Result<Cond, NoMemory>
-        ensures { IfOk result (λ c. c ≡ self.now) }
-    {
+    fn copy(&self, alloc: Global) -> Result<Cond, NoMemory> {
         match self {
             Cond::Compare(op, a, b) => {
                 let (x, y) = both(a.copy(alloc), b.copy(alloc))?;
@@ -115,11 +124,8 @@ impl Cond {
     }
 }
 
-impl Agg {
-    /// An equal aggregate.
-    pub fn copy(&self, alloc: Global) -> Result<Agg, NoMemory>
-        ensures { IfOk result (λ a. a ≡ self.now) }
-    {
+impl CopyTree for Agg {
+    fn copy(&self, alloc: Global) -> Result<Agg, NoMemory> {
         match self {
             Agg::CountAll => Ok(Agg::CountAll),
             Agg::Count(e) => Ok(Agg::Count(e.copy(alloc)?)),
@@ -130,11 +136,8 @@ impl Agg {
     }
 }
 
-impl Set {
-    /// An equal assignment.
-    pub fn copy(&self, alloc: Global) -> Result<Set, NoMemory>
-        ensures { IfOk result (λ s. s ≡ self.now) }
-    {
+impl CopyTree for Set {
+    fn copy(&self, alloc: Global) -> Result<Set, NoMemory> {
         let value = self.value.copy(alloc)?;
         Ok(Set {
             column: self.column,
@@ -143,35 +146,8 @@ impl Set {
     }
 }
 
-impl Duplicate for Expr {
-    fn duplicate(&self, alloc: Global) -> Result<Expr, NoMemory> {
-        self.copy(alloc)
-    }
-}
-
-impl Duplicate for Agg {
-    fn duplicate(&self, alloc: Global) -> Result<Agg, NoMemory> {
-        self.copy(alloc)
-    }
-}
-
-impl Duplicate for Key {
-    fn duplicate(&self, _alloc: Global) -> Result<Key, NoMemory> {
-        Ok(*self)
-    }
-}
-
-impl Duplicate for Set {
-    fn duplicate(&self, alloc: Global) -> Result<Set, NoMemory> {
-        self.copy(alloc)
-    }
-}
-
-impl ShardOp {
-    /// An equal write.
-    pub fn copy(&self, alloc: Global) -> Result<ShardOp, NoMemory>
-        ensures { IfOk result (λ op. op ≡ self.now) }
-    {
+impl CopyTree for ShardOp {
+    fn copy(&self, alloc: Global) -> Result<ShardOp, NoMemory> {
         match self {
             ShardOp::Insert { table, rows } => Ok(ShardOp::Insert {
                 table: *table,
@@ -215,12 +191,9 @@ fn boxed_from(alloc: Global, f: &FromTree) -> Result<Boxed<FromTree>, NoMemory>
     Boxed::new(alloc, f.copy(alloc)?)
 }
 
-impl FromTree {
-    /// An equal FROM.
+impl CopyTree for FromTree {
     #[cycle(query_copies)]
-    pub fn copy(&self, alloc: Global) -> Result<FromTree, NoMemory>
-        ensures { IfOk result (λ f. f ≡ self.now) }
-    {
+    fn copy(&self, alloc: Global) -> Result<FromTree, NoMemory> {
         match self {
             FromTree::Table(t, n) => Ok(FromTree::Table(*t, *n)),
             FromTree::Sub(q) => {
@@ -244,12 +217,9 @@ impl FromTree {
     }
 }
 
-impl Query {
-    /// An equal query.
+impl CopyTree for Query {
     #[cycle(query_copies)]
-    pub fn copy(&self, alloc: Global) -> Result<Query, NoMemory>
-        ensures { IfOk result (λ q. q ≡ self.now) }
-    {
+    fn copy(&self, alloc: Global) -> Result<Query, NoMemory> {
         let (ctes, subs) = both(
             copy_queries(alloc, self.ctes.as_slice()),
             copy_queries(alloc, self.subs.as_slice()),

@@ -1,0 +1,6 @@
+//! Copies of the trees of bound statements.
+#![tactic(auto)]
+
+mod copies;
+
+pub use copies::CopyTree;
