@@ -8,17 +8,10 @@ use Rattle.cq_value.specs.declared.schema.Column as schema
 use Rattle.cq_value.specs.declared.schema.With.{With}
 use Rattle.cq_catalog.specs.declared.info.TableInfo.{TableInfo}
 use Rattle.cq_catalog.specs.Contents.{number_of, shape_of}
-use Rattle.cq_grammar.specs.declared.name.Name.{Name}
+use Rattle.cq_grammar.specs.Types.{Name, ColumnDef, SetClause, CopyOption, RowValues, Ast, Argument, SettingValue}
 use Rattle.cq_grammar.specs.declared.query.Query as grammar
 use Rattle.cq_grammar.specs.declared.expr.Expr as grammar_expr
-use Rattle.cq_grammar.specs.declared.statement.ColumnDef.{ColumnDef}
-use Rattle.cq_grammar.specs.declared.statement.SetClause.{SetClause}
-use Rattle.cq_grammar.specs.declared.statement.CopyOption.{CopyOption}
-use Rattle.cq_grammar.specs.declared.statement.RowValues.{RowValues}
-use Rattle.cq_grammar.specs.declared.statement.Ast.{Ast}
 use Rattle.cq_grammar.specs.declared.statement.Ast.TheVariants as ast
-use Rattle.cq_grammar.specs.declared.statement.Argument.{Argument}
-use Rattle.cq_grammar.specs.declared.statement.SettingValue.{SettingValue}
 use Rattle.cq_grammar.specs.declared.statement.SettingValue.TheVariants as settings
 use Rattle.cq_tree.specs.declared.query.Query.{Query}
 use Rattle.cq_tree.specs.declared.write.ShardOp.{ShardOp}

@@ -2,10 +2,8 @@
 use Rattle.std.proofs.Common.{◌≡◌, ℕ, zero, suc, ◌≤◌, List, [], ◌∷◌, ◌++◌, length, Bool, true, false, cond, ◌&&◌, Option, Ok, Err, inl, inr, refl, sym, ◌∙◌, ap, ap₂, subst, arith, length-append, append_assoc}
 use Rattle.cq_value.proofs.Truths.{left_false, right_false, both_true}
 use Rattle.cq_token.specs.declared.token.Token.{Token}
-use Rattle.cq_grammar.specs.declared.kind.Kind.{Kind}
+use Rattle.cq_grammar.specs.Types.{Kind, Name, ColumnDef}
 use Rattle.cq_grammar.specs.declared.kind.Kind.TheVariants as k
-use Rattle.cq_grammar.specs.declared.name.Name.{Name}
-use Rattle.cq_grammar.specs.declared.statement.ColumnDef.{ColumnDef}
 use Rattle.cq_grammar.specs.Words.{kind, Kinds, of, starts, same_kind, names}
 use Rattle.cq_grammar.specs.Lang.{Lang, Both, Either, Made, Many, Optional, Behind}
 use Rattle.cq_grammar.specs.Terminals.{The, Commas}

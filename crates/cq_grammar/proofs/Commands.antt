@@ -2,12 +2,9 @@
 use Rattle.std.proofs.Common.{◌≡◌, ℕ, List, [], ◌∷◌, ◌++◌, true, None, inl, inr, refl, ◌∙◌, ap, ap₂, ◌&&◌}
 use Rattle.cq_value.proofs.Truths.{both_true}
 use Rattle.cq_token.specs.declared.token.Token.{Token}
-use Rattle.cq_grammar.specs.declared.kind.Kind.{Kind}
+use Rattle.cq_grammar.specs.Types.{Kind, Name, Ast, Argument}
 use Rattle.cq_grammar.specs.declared.kind.Kind.TheVariants as k
-use Rattle.cq_grammar.specs.declared.name.Name.{Name}
-use Rattle.cq_grammar.specs.declared.statement.Ast.{Ast}
 use Rattle.cq_grammar.specs.declared.statement.Ast.TheVariants as ast
-use Rattle.cq_grammar.specs.declared.statement.Argument.{Argument}
 use Rattle.cq_grammar.specs.Words.{kind, of, starts, same_kind, names}
 use Rattle.cq_grammar.specs.Lang.{Lang, Made}
 use Rattle.cq_grammar.specs.Terminals.{name_of, place_of}

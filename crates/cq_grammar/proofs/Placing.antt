@@ -4,14 +4,10 @@ use Rattle.std.specs.List.{list_any, list_all}
 use Rattle.cq_value.proofs.Lists.{none_is}
 use Rattle.cq_token.specs.declared.token.Token.{Token}
 use Rattle.cq_token.specs.declared.token.TokenKind.{TokenKind}
-use Rattle.cq_grammar.specs.declared.kind.Kind.{Kind}
+use Rattle.cq_grammar.specs.Types.{Kind, Name, Ast, Literal, Argument}
 use Rattle.cq_grammar.specs.declared.kind.Kind.TheVariants as k
-use Rattle.cq_grammar.specs.declared.name.Name.{Name}
-use Rattle.cq_grammar.specs.declared.statement.Ast.{Ast}
 use Rattle.cq_grammar.specs.declared.statement.Ast.TheVariants as ast
-use Rattle.cq_grammar.specs.declared.statement.Literal.{Literal}
 use Rattle.cq_grammar.specs.declared.statement.Literal.TheVariants as literals
-use Rattle.cq_grammar.specs.declared.statement.Argument.{Argument}
 use Rattle.cq_grammar.specs.Words.{kind, same_kind}
 use Rattle.cq_grammar.specs.Conditions.{
   second_primary,

@@ -2,23 +2,8 @@
 use Rattle.std.proofs.Common.{◌≡◌, ℕ, ◌+◌, ◌<◌, ◌≤◌, List, length, true, false, inl, inr, Ok, refl, ap, arith, length-append}
 use Rattle.cq_token.specs.declared.token.Token.{Token}
 use Rattle.cq_grammar.specs.declared.kind.Kind.TheVariants as k
-use Rattle.cq_grammar.specs.declared.name.Name.{Name}
-use Rattle.cq_grammar.specs.declared.expr.Expr.{Expr}
-use Rattle.cq_grammar.specs.declared.expr.Chained.{Chained}
-use Rattle.cq_grammar.specs.declared.expr.Added.{Added}
-use Rattle.cq_grammar.specs.declared.expr.Multiplied.{Multiplied}
-use Rattle.cq_grammar.specs.declared.expr.Arm.{Arm}
-use Rattle.cq_grammar.specs.declared.expr.NullTest.{NullTest}
-use Rattle.cq_grammar.specs.declared.query.Item.{Item}
-use Rattle.cq_grammar.specs.declared.query.From.{From}
-use Rattle.cq_grammar.specs.declared.query.Join.{Join}
-use Rattle.cq_grammar.specs.declared.query.OrderKey.{OrderKey}
-use Rattle.cq_grammar.specs.declared.query.CommonTable.{CommonTable}
-use Rattle.cq_grammar.specs.declared.statement.ColumnDef.{ColumnDef}
-use Rattle.cq_grammar.specs.declared.statement.RowValues.{RowValues}
-use Rattle.cq_grammar.specs.declared.statement.SetClause.{SetClause}
-use Rattle.cq_grammar.specs.declared.statement.CopyOption.{CopyOption}
-use Rattle.cq_grammar.specs.declared.statement.Argument.{Argument}
+use Rattle.cq_grammar.specs.Types.{Name, Expr, Chained, Added, Multiplied, Arm, NullTest, Item, From, Join, OrderKey, CommonTable, ColumnDef, RowValues}
+use Rattle.cq_grammar.specs.Types.{SetClause, CopyOption, Argument}
 use Rattle.cq_grammar.specs.Words.{of, starts, names}
 use Rattle.cq_grammar.specs.Lang.{Lang}
 use Rattle.cq_grammar.specs.Grammar as grammar

@@ -4,20 +4,12 @@ use Rattle.std.proofs.lemmas.List.{append-nil}
 use Rattle.cq_token.specs.declared.token.Token.{Token}
 use Rattle.cq_token.specs.declared.token.TokenKind.TheVariants as token
 use Rattle.cq_token.specs.declared.sign.Sign.TheVariants as s
-use Rattle.cq_grammar.specs.declared.kind.Kind.{Kind}
+use Rattle.cq_grammar.specs.Types.{Kind, Name, Expr, Test-F, Chained, Added, Multiplied, NullTest, Select}
 use Rattle.cq_grammar.specs.declared.kind.Kind.TheVariants as k
-use Rattle.cq_grammar.specs.declared.name.Name.{Name}
-use Rattle.cq_grammar.specs.declared.expr.Expr.{Expr}
 use Rattle.cq_grammar.specs.declared.expr.Expr.TheVariants as e
 use Rattle.cq_grammar.specs.declared.expr.Aggregate.TheVariants as aggregates
 use Rattle.cq_grammar.specs.declared.expr.Test.{Test, out-Test, the_lemmas}
-use Rattle.cq_grammar.specs.declared.expr.Expr.TheOpen.{Test-F}
 use Rattle.cq_grammar.specs.declared.expr.Test.TheVariants as tests
-use Rattle.cq_grammar.specs.declared.expr.Chained.{Chained}
-use Rattle.cq_grammar.specs.declared.expr.Added.{Added}
-use Rattle.cq_grammar.specs.declared.expr.Multiplied.{Multiplied}
-use Rattle.cq_grammar.specs.declared.expr.NullTest.{NullTest}
-use Rattle.cq_grammar.specs.declared.query.Select.{Select}
 use Rattle.cq_grammar.specs.Words.{of, same_kind}
 use Rattle.cq_grammar.specs.Lang.{Lang}
 use Rattle.cq_grammar.specs.Terminals.{The}

@@ -4,21 +4,12 @@ use Rattle.std.proofs.lemmas.List.{append-nil}
 use Rattle.cq_token.specs.declared.token.Token.{Token}
 use Rattle.cq_token.specs.declared.token.TokenKind.TheVariants as token
 use Rattle.cq_token.specs.declared.sign.Sign.TheVariants as s
-use Rattle.cq_grammar.specs.declared.kind.Kind.{Kind}
+use Rattle.cq_grammar.specs.Types.{Kind, Name, Expr, Count, Relation, roll-From, roll-GroupBy, roll-Having, OrderKey, roll-Select}
 use Rattle.cq_grammar.specs.declared.kind.Kind.TheVariants as k
-use Rattle.cq_grammar.specs.declared.name.Name.{Name}
 use Rattle.cq_grammar.specs.declared.rule.Rule.TheVariants.{Or as or_, And as and_, Not as not_, Term as term_, Unary as unary_}
-use Rattle.cq_grammar.specs.declared.expr.Expr.{Expr}
-use Rattle.cq_grammar.specs.declared.query.Count.{Count}
 use Rattle.cq_grammar.specs.declared.query.Item.TheVariants as items
-use Rattle.cq_grammar.specs.declared.query.Relation.{Relation}
 use Rattle.cq_grammar.specs.declared.query.Relation.TheVariants as relations
 use Rattle.cq_grammar.specs.declared.query.Join.TheVariants as joins
-use Rattle.cq_grammar.specs.declared.query.From.{roll-From}
-use Rattle.cq_grammar.specs.declared.query.GroupBy.{roll-GroupBy}
-use Rattle.cq_grammar.specs.declared.query.Having.{roll-Having}
-use Rattle.cq_grammar.specs.declared.query.OrderKey.{OrderKey}
-use Rattle.cq_grammar.specs.declared.query.Select.{roll-Select}
 use Rattle.cq_grammar.specs.Words.{of, same_kind}
 use Rattle.cq_grammar.specs.Lang.{Lang, Made, Optional, Behind}
 use Rattle.cq_grammar.specs.Terminals.{Some-of, Commas}

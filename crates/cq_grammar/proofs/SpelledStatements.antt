@@ -5,19 +5,13 @@ use Rattle.cq_token.specs.declared.token.Token.{Token}
 use Rattle.cq_token.specs.declared.token.TokenKind.{TokenKind}
 use Rattle.cq_token.specs.declared.token.TokenKind.TheVariants as token
 use Rattle.cq_token.specs.declared.sign.Sign.TheVariants as s
-use Rattle.cq_grammar.specs.declared.kind.Kind.{Kind}
+use Rattle.cq_grammar.specs.Types.{Kind, Name, Expr, CommonTable, Ast, CopyOption, Argument}
 use Rattle.cq_grammar.specs.declared.kind.Kind.TheVariants as k
-use Rattle.cq_grammar.specs.declared.name.Name.{Name}
 use Rattle.cq_grammar.specs.declared.rule.Rule.TheVariants.{Or as or_}
-use Rattle.cq_grammar.specs.declared.expr.Expr.{Expr}
-use Rattle.cq_grammar.specs.declared.query.CommonTable.{CommonTable}
-use Rattle.cq_grammar.specs.declared.statement.Ast.{Ast}
 use Rattle.cq_grammar.specs.declared.statement.Ast.TheVariants as ast
-use Rattle.cq_grammar.specs.declared.statement.CopyOption.{CopyOption}
 use Rattle.cq_grammar.specs.declared.statement.CopyOption.TheVariants as copies
 use Rattle.cq_grammar.specs.declared.statement.SettingValue.TheVariants as settings
 use Rattle.cq_grammar.specs.declared.statement.Literal.TheVariants as literals
-use Rattle.cq_grammar.specs.declared.statement.Argument.{Argument}
 use Rattle.cq_grammar.specs.Words.{of, same_kind}
 use Rattle.cq_grammar.specs.Lang.{Lang, Both, Made, Optional}
 use Rattle.cq_grammar.specs.Terminals.{The, Some-of, Commas}

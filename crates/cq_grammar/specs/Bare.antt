@@ -1,73 +1,20 @@
 -- Trees without their places: each place is 0.
 use Rattle.std.specs.Prelude.{map, Option, Some, None}
-use Rattle.cq_grammar.specs.declared.name.Name.{Name}
-use Rattle.cq_grammar.specs.declared.expr.NullTest.{NullTest}
-use Rattle.cq_grammar.specs.declared.expr.Expr.{Expr}
+use Rattle.cq_grammar.specs.Types.{Name, NullTest, Expr, Test, Chained, roll-Chained, Added, roll-Added, Multiplied, roll-Multiplied, Arm, roll-Arm, Count}
+use Rattle.cq_grammar.specs.Types.{Item, Relation, Join, From, roll-From, GroupBy, roll-GroupBy, Having, roll-Having, OrderKey, roll-OrderKey, Select}
+use Rattle.cq_grammar.specs.Types.{roll-Select, CommonTable, Query, Ast, ColumnDef, RowValues, SetClause, CopyOption, SettingValue, Literal, Argument, Expr-F}
+use Rattle.cq_grammar.specs.Types.{Test-F, Item-F, Join-F, Relation-F, Added-F, Arm-F, Chained-F, Multiplied-F, From-F, GroupBy-F, Having-F, OrderKey-F}
+use Rattle.cq_grammar.specs.Types.{Select-F, fold-Expr, fold-Test, fold-Item, fold-Join, fold-Relation, fold-Added, fold-Arm, fold-Chained, fold-Multiplied}
+use Rattle.cq_grammar.specs.Types.{fold-From, fold-GroupBy, fold-Having, fold-OrderKey, fold-Select}
 use Rattle.cq_grammar.specs.declared.expr.Expr.TheVariants as e
-use Rattle.cq_grammar.specs.declared.expr.Test.{Test}
 use Rattle.cq_grammar.specs.declared.expr.Test.TheVariants as tests
-use Rattle.cq_grammar.specs.declared.expr.Chained.{Chained, roll-Chained}
-use Rattle.cq_grammar.specs.declared.expr.Added.{Added, roll-Added}
-use Rattle.cq_grammar.specs.declared.expr.Multiplied.{Multiplied, roll-Multiplied}
-use Rattle.cq_grammar.specs.declared.expr.Arm.{Arm, roll-Arm}
-use Rattle.cq_grammar.specs.declared.query.Count.{Count}
-use Rattle.cq_grammar.specs.declared.query.Item.{Item}
 use Rattle.cq_grammar.specs.declared.query.Item.TheVariants as items
-use Rattle.cq_grammar.specs.declared.query.Relation.{Relation}
 use Rattle.cq_grammar.specs.declared.query.Relation.TheVariants as relations
-use Rattle.cq_grammar.specs.declared.query.Join.{Join}
 use Rattle.cq_grammar.specs.declared.query.Join.TheVariants as joins
-use Rattle.cq_grammar.specs.declared.query.From.{From, roll-From}
-use Rattle.cq_grammar.specs.declared.query.GroupBy.{GroupBy, roll-GroupBy}
-use Rattle.cq_grammar.specs.declared.query.Having.{Having, roll-Having}
-use Rattle.cq_grammar.specs.declared.query.OrderKey.{OrderKey, roll-OrderKey}
-use Rattle.cq_grammar.specs.declared.query.Select.{Select, roll-Select}
-use Rattle.cq_grammar.specs.declared.query.CommonTable.{CommonTable}
-use Rattle.cq_grammar.specs.declared.query.Query.{Query}
-use Rattle.cq_grammar.specs.declared.statement.Ast.{Ast}
 use Rattle.cq_grammar.specs.declared.statement.Ast.TheVariants as ast
-use Rattle.cq_grammar.specs.declared.statement.ColumnDef.{ColumnDef}
-use Rattle.cq_grammar.specs.declared.statement.RowValues.{RowValues}
-use Rattle.cq_grammar.specs.declared.statement.SetClause.{SetClause}
-use Rattle.cq_grammar.specs.declared.statement.CopyOption.{CopyOption}
 use Rattle.cq_grammar.specs.declared.statement.CopyOption.TheVariants as copies
-use Rattle.cq_grammar.specs.declared.statement.SettingValue.{SettingValue}
 use Rattle.cq_grammar.specs.declared.statement.SettingValue.TheVariants as settings
-use Rattle.cq_grammar.specs.declared.statement.Literal.{Literal}
 use Rattle.cq_grammar.specs.declared.statement.Literal.TheVariants as literals
-use Rattle.cq_grammar.specs.declared.statement.Argument.{Argument}
-use Rattle.cq_grammar.specs.declared.expr.Expr.TheOpen.{
-  Expr-F,
-  Test-F,
-  Item-F,
-  Join-F,
-  Relation-F,
-  Added-F,
-  Arm-F,
-  Chained-F,
-  Multiplied-F,
-  From-F,
-  GroupBy-F,
-  Having-F,
-  OrderKey-F,
-  Select-F,
-}
-use Rattle.cq_grammar.specs.declared.expr.Expr.TheFolds.{
-  fold-Expr,
-  fold-Test,
-  fold-Item,
-  fold-Join,
-  fold-Relation,
-  fold-Added,
-  fold-Arm,
-  fold-Chained,
-  fold-Multiplied,
-  fold-From,
-  fold-GroupBy,
-  fold-Having,
-  fold-OrderKey,
-  fold-Select,
-}
 
 abbrev pub bare_name : Name → Name
 bare_name name = record { text = name.text; at = 0 }

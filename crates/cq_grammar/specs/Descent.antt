@@ -1,29 +1,13 @@
 -- The reader of the grammar, a step for each rule.
 use Rattle.std.specs.Prelude.{ℕ, zero, suc, ◌+◌, List, [], ◌∷◌, Option, Some, None, is_some}
-use Rattle.cq_grammar.specs.declared.kind.Kind.{Kind}
+use Rattle.cq_grammar.specs.Types.{Kind, Name, Expr, Chained, Added, Multiplied, Arm, NullTest, Test, Select, roll-Select, Item, From, roll-From, Relation}
+use Rattle.cq_grammar.specs.Types.{Join, GroupBy, roll-GroupBy, Having, roll-Having, OrderKey, Count}
 use Rattle.cq_grammar.specs.declared.kind.Kind.TheVariants as k
-use Rattle.cq_grammar.specs.declared.name.Name.{Name}
-use Rattle.cq_grammar.specs.declared.expr.Expr.{Expr}
 use Rattle.cq_grammar.specs.declared.expr.Expr.TheVariants as e
-use Rattle.cq_grammar.specs.declared.expr.Chained.{Chained}
-use Rattle.cq_grammar.specs.declared.expr.Added.{Added}
-use Rattle.cq_grammar.specs.declared.expr.Multiplied.{Multiplied}
-use Rattle.cq_grammar.specs.declared.expr.Arm.{Arm}
-use Rattle.cq_grammar.specs.declared.expr.NullTest.{NullTest}
-use Rattle.cq_grammar.specs.declared.expr.Test.{Test}
 use Rattle.cq_grammar.specs.declared.expr.Test.TheVariants as tests
-use Rattle.cq_grammar.specs.declared.query.Select.{Select, roll-Select}
-use Rattle.cq_grammar.specs.declared.query.Item.{Item}
 use Rattle.cq_grammar.specs.declared.query.Item.TheVariants as item
-use Rattle.cq_grammar.specs.declared.query.From.{From, roll-From}
-use Rattle.cq_grammar.specs.declared.query.Relation.{Relation}
 use Rattle.cq_grammar.specs.declared.query.Relation.TheVariants as relations
-use Rattle.cq_grammar.specs.declared.query.Join.{Join}
 use Rattle.cq_grammar.specs.declared.query.Join.TheVariants as joins
-use Rattle.cq_grammar.specs.declared.query.GroupBy.{GroupBy, roll-GroupBy}
-use Rattle.cq_grammar.specs.declared.query.Having.{Having, roll-Having}
-use Rattle.cq_grammar.specs.declared.query.OrderKey.{OrderKey}
-use Rattle.cq_grammar.specs.declared.query.Count.{Count}
 use Rattle.cq_grammar.specs.Words.{names, column_names}
 use Rattle.cq_grammar.specs.Terminals.{place_of, kind_at, name_of, count_of, quoted_of}
 use Rattle.cq_grammar.specs.Grammar.{digits, Deeper, expr, select, Tree, or_, and_, not_, term_, unary_}

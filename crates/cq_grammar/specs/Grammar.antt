@@ -4,31 +4,15 @@
 -- list or a select, and for each open CASE, NOT and sign; in a chain of signs the number of signs before it; in a chain of
 -- AND or OR and in an IN list the binary digits of the number of parts before the present one.
 use Rattle.std.specs.Prelude.{ℕ, zero, suc, ◌+◌, ◌/◌, List, Option, Some, None, is_some}
-use Rattle.cq_grammar.specs.declared.rule.Rule.{Rule}
+use Rattle.cq_grammar.specs.Types.{Rule, Name, Expr, Chained, Added, Multiplied, Arm, NullTest, Test, Select, roll-Select, Item, From, roll-From, Relation}
+use Rattle.cq_grammar.specs.Types.{Join, GroupBy, roll-GroupBy, Having, roll-Having, OrderKey, Count}
 pub use Rattle.cq_grammar.specs.declared.rule.Rule.TheVariants.{Or as or_, And as and_, Not as not_, Term as term_, Unary as unary_}
 use Rattle.cq_grammar.specs.declared.kind.Kind.TheVariants as k
-use Rattle.cq_grammar.specs.declared.name.Name.{Name}
-use Rattle.cq_grammar.specs.declared.expr.Expr.{Expr}
 use Rattle.cq_grammar.specs.declared.expr.Expr.TheVariants as e
-use Rattle.cq_grammar.specs.declared.expr.Chained.{Chained}
-use Rattle.cq_grammar.specs.declared.expr.Added.{Added}
-use Rattle.cq_grammar.specs.declared.expr.Multiplied.{Multiplied}
-use Rattle.cq_grammar.specs.declared.expr.Arm.{Arm}
-use Rattle.cq_grammar.specs.declared.expr.NullTest.{NullTest}
-use Rattle.cq_grammar.specs.declared.expr.Test.{Test}
 use Rattle.cq_grammar.specs.declared.expr.Test.TheVariants as tests
-use Rattle.cq_grammar.specs.declared.query.Select.{Select, roll-Select}
-use Rattle.cq_grammar.specs.declared.query.Item.{Item}
 use Rattle.cq_grammar.specs.declared.query.Item.TheVariants as item
-use Rattle.cq_grammar.specs.declared.query.From.{From, roll-From}
-use Rattle.cq_grammar.specs.declared.query.Relation.{Relation}
 use Rattle.cq_grammar.specs.declared.query.Relation.TheVariants as relations
-use Rattle.cq_grammar.specs.declared.query.Join.{Join}
 use Rattle.cq_grammar.specs.declared.query.Join.TheVariants as joins
-use Rattle.cq_grammar.specs.declared.query.GroupBy.{GroupBy, roll-GroupBy}
-use Rattle.cq_grammar.specs.declared.query.Having.{Having, roll-Having}
-use Rattle.cq_grammar.specs.declared.query.OrderKey.{OrderKey}
-use Rattle.cq_grammar.specs.declared.query.Count.{Count}
 use Rattle.cq_grammar.specs.Lang.{Lang, Made, Many, Empty, Optional, Behind, Several, ◌then◌, ◌or◌}
 use Rattle.cq_grammar.specs.Terminals.{The, Some-of, a_name, a_column_name, a_number, a_quoted, Commas}
 use Rattle.cq_grammar.specs.Nodes as node

@@ -1,33 +1,17 @@
 -- The nodes of trees, made of what the parts of a rule give.
 use Rattle.std.specs.Prelude.{ℕ, List, [], ◌∷◌, Bool, true, false, Option, Some, None, is_some}
-use Rattle.cq_grammar.specs.declared.kind.Kind.{Kind}
+use Rattle.cq_grammar.specs.Types.{Kind, Name, AddOperator, MultiplyOperator, Comparison, Aggregate, Expr, Chained, roll-Chained, Added, roll-Added, Multiplied}
+use Rattle.cq_grammar.specs.Types.{roll-Multiplied, Arm, roll-Arm, NullTest, Test, Relation, Direction, OrderKey, roll-OrderKey, TypeName, ColumnDef}
+use Rattle.cq_grammar.specs.Types.{CopyOption}
 use Rattle.cq_grammar.specs.declared.kind.Kind.TheVariants as k
-use Rattle.cq_grammar.specs.declared.name.Name.{Name}
-use Rattle.cq_grammar.specs.declared.expr.AddOperator.{AddOperator}
 use Rattle.cq_grammar.specs.declared.expr.AddOperator.TheVariants as add
-use Rattle.cq_grammar.specs.declared.expr.MultiplyOperator.{MultiplyOperator}
 use Rattle.cq_grammar.specs.declared.expr.MultiplyOperator.TheVariants as multiply
-use Rattle.cq_grammar.specs.declared.expr.Comparison.{Comparison}
 use Rattle.cq_grammar.specs.declared.expr.Comparison.TheVariants as comparison
-use Rattle.cq_grammar.specs.declared.expr.Aggregate.{Aggregate}
 use Rattle.cq_grammar.specs.declared.expr.Aggregate.TheVariants as aggregate
-use Rattle.cq_grammar.specs.declared.expr.Expr.{Expr}
 use Rattle.cq_grammar.specs.declared.expr.Expr.TheVariants as e
-use Rattle.cq_grammar.specs.declared.expr.Chained.{Chained, roll-Chained}
-use Rattle.cq_grammar.specs.declared.expr.Added.{Added, roll-Added}
-use Rattle.cq_grammar.specs.declared.expr.Multiplied.{Multiplied, roll-Multiplied}
-use Rattle.cq_grammar.specs.declared.expr.Arm.{Arm, roll-Arm}
-use Rattle.cq_grammar.specs.declared.expr.NullTest.{NullTest}
-use Rattle.cq_grammar.specs.declared.expr.Test.{Test}
-use Rattle.cq_grammar.specs.declared.query.Relation.{Relation}
 use Rattle.cq_grammar.specs.declared.query.Relation.TheVariants as relation
-use Rattle.cq_grammar.specs.declared.query.Direction.{Direction}
 use Rattle.cq_grammar.specs.declared.query.Direction.TheVariants as direction
-use Rattle.cq_grammar.specs.declared.query.OrderKey.{OrderKey, roll-OrderKey}
-use Rattle.cq_grammar.specs.declared.statement.TypeName.{TypeName}
 use Rattle.cq_grammar.specs.declared.statement.TypeName.TheVariants as type
-use Rattle.cq_grammar.specs.declared.statement.ColumnDef.{ColumnDef}
-use Rattle.cq_grammar.specs.declared.statement.CopyOption.{CopyOption}
 use Rattle.cq_grammar.specs.declared.statement.CopyOption.TheVariants as copy
 
 -- ---- what words and signs stand for

@@ -1,23 +1,12 @@
 -- The reader of statements, a step for each rule.
 use Rattle.std.specs.Prelude.{ℕ, List, [], ◌∷◌, Option, Result, Ok, Err}
 use Rattle.cq_token.specs.declared.token.Token.{Token}
-use Rattle.cq_grammar.specs.declared.kind.Kind.{Kind}
+use Rattle.cq_grammar.specs.Types.{Kind, Name, CommonTable, Query, Ast, ColumnDef, RowValues, SetClause, CopyOption, SettingValue, Literal, Argument}
 use Rattle.cq_grammar.specs.declared.kind.Kind.TheVariants as k
-use Rattle.cq_grammar.specs.declared.name.Name.{Name}
-use Rattle.cq_grammar.specs.declared.query.CommonTable.{CommonTable}
-use Rattle.cq_grammar.specs.declared.query.Query.{Query}
-use Rattle.cq_grammar.specs.declared.statement.Ast.{Ast}
 use Rattle.cq_grammar.specs.declared.statement.Ast.TheVariants as ast
-use Rattle.cq_grammar.specs.declared.statement.ColumnDef.{ColumnDef}
-use Rattle.cq_grammar.specs.declared.statement.RowValues.{RowValues}
-use Rattle.cq_grammar.specs.declared.statement.SetClause.{SetClause}
-use Rattle.cq_grammar.specs.declared.statement.CopyOption.{CopyOption}
 use Rattle.cq_grammar.specs.declared.statement.CopyOption.TheVariants as copies
-use Rattle.cq_grammar.specs.declared.statement.SettingValue.{SettingValue}
 use Rattle.cq_grammar.specs.declared.statement.SettingValue.TheVariants as settings
-use Rattle.cq_grammar.specs.declared.statement.Literal.{Literal}
 use Rattle.cq_grammar.specs.declared.statement.Literal.TheVariants as literals
-use Rattle.cq_grammar.specs.declared.statement.Argument.{Argument}
 use Rattle.cq_grammar.specs.Words.{names}
 use Rattle.cq_grammar.specs.Nodes as node
 use Rattle.cq_grammar.specs.Grammar.{Deeper, expr, select, Tree, or_}

@@ -4,81 +4,22 @@ use Rattle.cq_token.specs.declared.token.TokenKind.{TokenKind}
 use Rattle.cq_token.specs.declared.token.TokenKind.TheVariants as token
 use Rattle.cq_token.specs.declared.sign.Sign.{Sign}
 use Rattle.cq_token.specs.declared.sign.Sign.TheVariants as s
-use Rattle.cq_grammar.specs.declared.name.Name.{Name}
-use Rattle.cq_grammar.specs.declared.expr.AddOperator.{AddOperator}
+use Rattle.cq_grammar.specs.Types.{Name, AddOperator, MultiplyOperator, Comparison, Aggregate, NullTest, Expr, Test, Chained, Added, Multiplied, Arm, Direction}
+use Rattle.cq_grammar.specs.Types.{Count, Item, Relation, Join, From, GroupBy, Having, OrderKey, Select, CommonTable, Query, Ast, TypeName, ColumnDef}
+use Rattle.cq_grammar.specs.Types.{RowValues, SetClause, CopyOption, SettingValue, Literal, Argument, Expr-F, Test-F, Item-F, Join-F, Relation-F, Added-F}
+use Rattle.cq_grammar.specs.Types.{Arm-F, Chained-F, Multiplied-F, From-F, GroupBy-F, Having-F, OrderKey-F, Select-F, fold-Expr, fold-Test, fold-Item}
+use Rattle.cq_grammar.specs.Types.{fold-Join, fold-Relation, fold-Added, fold-Arm, fold-Chained, fold-Multiplied, fold-From, fold-GroupBy, fold-Having}
+use Rattle.cq_grammar.specs.Types.{fold-OrderKey, fold-Select}
 use Rattle.cq_grammar.specs.declared.expr.AddOperator.TheVariants as add
-use Rattle.cq_grammar.specs.declared.expr.MultiplyOperator.{MultiplyOperator}
 use Rattle.cq_grammar.specs.declared.expr.MultiplyOperator.TheVariants as multiply
-use Rattle.cq_grammar.specs.declared.expr.Comparison.{Comparison}
 use Rattle.cq_grammar.specs.declared.expr.Comparison.TheVariants as comparison
-use Rattle.cq_grammar.specs.declared.expr.Aggregate.{Aggregate}
 use Rattle.cq_grammar.specs.declared.expr.Aggregate.TheVariants as aggregate
-use Rattle.cq_grammar.specs.declared.expr.NullTest.{NullTest}
-use Rattle.cq_grammar.specs.declared.expr.Expr.{Expr}
-use Rattle.cq_grammar.specs.declared.expr.Test.{Test}
-use Rattle.cq_grammar.specs.declared.expr.Chained.{Chained}
-use Rattle.cq_grammar.specs.declared.expr.Added.{Added}
-use Rattle.cq_grammar.specs.declared.expr.Multiplied.{Multiplied}
-use Rattle.cq_grammar.specs.declared.expr.Arm.{Arm}
-use Rattle.cq_grammar.specs.declared.query.Direction.{Direction}
 use Rattle.cq_grammar.specs.declared.query.Direction.TheVariants as direction
-use Rattle.cq_grammar.specs.declared.query.Count.{Count}
-use Rattle.cq_grammar.specs.declared.query.Item.{Item}
-use Rattle.cq_grammar.specs.declared.query.Relation.{Relation}
-use Rattle.cq_grammar.specs.declared.query.Join.{Join}
-use Rattle.cq_grammar.specs.declared.query.From.{From}
-use Rattle.cq_grammar.specs.declared.query.GroupBy.{GroupBy}
-use Rattle.cq_grammar.specs.declared.query.Having.{Having}
-use Rattle.cq_grammar.specs.declared.query.OrderKey.{OrderKey}
-use Rattle.cq_grammar.specs.declared.query.Select.{Select}
-use Rattle.cq_grammar.specs.declared.query.CommonTable.{CommonTable}
-use Rattle.cq_grammar.specs.declared.query.Query.{Query}
-use Rattle.cq_grammar.specs.declared.statement.Ast.{Ast}
 use Rattle.cq_grammar.specs.declared.statement.Ast.TheVariants as ast
-use Rattle.cq_grammar.specs.declared.statement.TypeName.{TypeName}
 use Rattle.cq_grammar.specs.declared.statement.TypeName.TheVariants as type
-use Rattle.cq_grammar.specs.declared.statement.ColumnDef.{ColumnDef}
-use Rattle.cq_grammar.specs.declared.statement.RowValues.{RowValues}
-use Rattle.cq_grammar.specs.declared.statement.SetClause.{SetClause}
-use Rattle.cq_grammar.specs.declared.statement.CopyOption.{CopyOption}
 use Rattle.cq_grammar.specs.declared.statement.CopyOption.TheVariants as copies
-use Rattle.cq_grammar.specs.declared.statement.SettingValue.{SettingValue}
 use Rattle.cq_grammar.specs.declared.statement.SettingValue.TheVariants as settings
-use Rattle.cq_grammar.specs.declared.statement.Literal.{Literal}
 use Rattle.cq_grammar.specs.declared.statement.Literal.TheVariants as literals
-use Rattle.cq_grammar.specs.declared.statement.Argument.{Argument}
-use Rattle.cq_grammar.specs.declared.expr.Expr.TheOpen.{
-  Expr-F,
-  Test-F,
-  Item-F,
-  Join-F,
-  Relation-F,
-  Added-F,
-  Arm-F,
-  Chained-F,
-  Multiplied-F,
-  From-F,
-  GroupBy-F,
-  Having-F,
-  OrderKey-F,
-  Select-F,
-}
-use Rattle.cq_grammar.specs.declared.expr.Expr.TheFolds.{
-  fold-Expr,
-  fold-Test,
-  fold-Item,
-  fold-Join,
-  fold-Relation,
-  fold-Added,
-  fold-Arm,
-  fold-Chained,
-  fold-Multiplied,
-  fold-From,
-  fold-GroupBy,
-  fold-Having,
-  fold-OrderKey,
-  fold-Select,
-}
 
 -- ---- pieces
 

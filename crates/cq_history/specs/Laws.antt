@@ -2,14 +2,10 @@
 use Rattle.std.specs.Prelude.{◌-◌, ◌%◌, slice_get, ◌≡◌, ◌≢◌, ◌⊎◌, ⊤, ℕ, Bool, map, ◌+◌, ◌≤◌, ◌<◌, true, false, List, [], ◌∷◌, ◌++◌, length, nat_eq, ◌&&◌, if◌then◌else◌, Option, Some, None, codes}
 use Rattle.std.specs.List.{AllByRecursion, sum_by}
 use Rattle.std.specs.List.Sorted.{IsPermutation}
-use Rattle.cq_tree.specs.declared.write.ShardOp.{ShardOp}
+use Rattle.cq_tree.specs.Types.{ShardOp, Reply, EntryKind, Table, Query, Query', out-Query, Who, Statement}
 use Rattle.cq_tree.specs.declared.write.ShardOp.TheVariants.{Insert, Update, Remove}
-use Rattle.cq_tree.specs.declared.write.Reply.{Reply}
 use Rattle.cq_tree.specs.declared.write.Reply.TheVariants.{Count, Duplicate, OutOfRange}
-use Rattle.cq_tree.specs.declared.journal.EntryKind.{EntryKind}
 use Rattle.cq_tree.specs.declared.journal.EntryKind.TheVariants as entry
-use Rattle.cq_tree.specs.declared.query.FromTree.{Table}
-use Rattle.cq_tree.specs.declared.query.Query.{Query, Query', out-Query}
 use Rattle.cq_tree.specs.declared.statement.Statement.TheVariants as statement
 use Rattle.cq_value.specs.Tables.{rows_of}
 use Rattle.cq_meaning.specs.Values.{Row, Tables, table_rows}
@@ -28,8 +24,6 @@ use Rattle.cq_journal.specs.Journals.{most_ids}
 use Rattle.cq_journal.specs.Replies.{IsRefusal}
 use Rattle.cq_journal.specs.Stations.{node_of, moving_of}
 use Rattle.cq_outline.specs.Texts.{explained}
-use Rattle.cq_tree.specs.declared.journal.Who.{Who}
-use Rattle.cq_tree.specs.declared.statement.Statement.{Statement}
 use Rattle.cq_answer.specs.declared.answer.Answer.{Answer}
 use Rattle.cq_answer.specs.declared.answer.Answer.TheVariants as answer
 use Rattle.cq_answer.specs.declared.fault.What.TheVariants as what

@@ -9,10 +9,7 @@ use Rattle.cq_grammar.specs.declared.expr.Comparison.{Comparison}
 use Rattle.cq_grammar.specs.declared.expr.Aggregate.{Aggregate}
 use Rattle.cq_grammar.specs.declared.name.Name.{Name}
 use Rattle.cq_grammar.specs.declared.expr.Expr.TheOpen.{Expr-F, Test-F, Added-F, Arm-F, Chained-F, Multiplied-F}
-use Rattle.cq_reading.specs.declared.bound.Found.{Found}
-use Rattle.cq_reading.specs.declared.bound.Output.{Output}
-use Rattle.cq_reading.specs.declared.bound.Bound.{Bound}
-use Rattle.cq_reading.specs.declared.bound.Block.{Block}
+use Rattle.cq_reading.specs.Types.{Found, Output, Bound, Block}
 use Rattle.cq_reading.specs.declared.bound.Bound.TheVariants.{Value, Truth}
 use Rattle.cq_reading.specs.declared.error.BindError.TheVariants as error
 use Rattle.cq_reading.specs.Steps.{Reading, give, ◌then◌, provided, with_next, each, through}

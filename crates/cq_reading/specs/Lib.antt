@@ -1,3 +1,4 @@
+pub mod Types
 pub mod Equal
 pub mod Expressions
 pub mod Outcomes

@@ -7,15 +7,12 @@ use Rattle.cq_grammar.specs.declared.expr.Expr.TheOpen.{Relation-F, Join-F, From
 use Rattle.cq_catalog.specs.declared.info.TableInfo.{TableInfo}
 use Rattle.cq_catalog.specs.Contents.{number_of, is_local}
 use Rattle.cq_grammar.specs.declared.name.Name.{Name}
-use Rattle.cq_reading.specs.declared.bound.Source.{Source}
-use Rattle.cq_reading.specs.declared.bound.Common.{Common}
-use Rattle.cq_reading.specs.declared.bound.Block.{Block}
+use Rattle.cq_reading.specs.Types.{Source, Common, Block, Relations}
 use Rattle.cq_reading.specs.declared.error.BindError.TheVariants as error
 use Rattle.cq_reading.specs.declared.error.Limited.TheVariants as limited
 use Rattle.cq_reading.specs.Steps.{Reading, give, refuse, ◌then◌, provided, through}
 use Rattle.cq_reading.specs.Widths.{is_truth, cond_of}
 use Rattle.cq_reading.specs.Scopes.{World, Context, table_sources, output_sources}
-use Rattle.cq_reading.specs.declared.bound.Relations.{Relations}
 use Rattle.cq_reading.specs.Parts.{Part, RelationPart, JoinPart, FromPart}
 use Rattle.cq_reading.specs.Expressions.{Layer, reads}
 

@@ -20,11 +20,9 @@ use Rattle.cq_grammar.specs.declared.expr.Comparison.TheVariants as comparison
 use Rattle.cq_grammar.specs.declared.expr.Aggregate.{Aggregate}
 use Rattle.cq_grammar.specs.declared.expr.Aggregate.TheVariants as aggregate
 pub use Rattle.cq_meaning.specs.Chains.{joined_by, halves, halved}
-use Rattle.cq_reading.specs.declared.bound.Found.{Found}
+use Rattle.cq_reading.specs.Types.{Found, Bound, BindError}
 use Rattle.cq_reading.specs.declared.bound.Type.TheVariants as type
-use Rattle.cq_reading.specs.declared.bound.Bound.{Bound}
 use Rattle.cq_reading.specs.declared.bound.Bound.TheVariants.{Value, Truth}
-use Rattle.cq_reading.specs.declared.error.BindError.{BindError}
 use Rattle.cq_reading.specs.declared.error.BindError.TheVariants as error
 use Rattle.cq_reading.specs.Steps.{Reading, give, refuse, ◌then◌, provided}
 use Rattle.cq_reading.specs.Widths.{null_expr, expr_of, type_of, width_of, cond_of, is_truth, is_value, is_number, common_of, agree, are_alike, is_some, literal_width, null_width, count_width, sum_width, product_width, total_width, greatest_width, fits_width, ValueType}

@@ -7,22 +7,14 @@ use Rattle.cq_grammar.specs.declared.query.Count.{Count}
 use Rattle.cq_grammar.specs.declared.query.Direction.{Direction}
 use Rattle.cq_grammar.specs.declared.query.Direction.TheVariants as direction
 use Rattle.cq_grammar.specs.declared.expr.Expr.TheOpen.{Item-F, GroupBy-F, Having-F, OrderKey-F}
-use Rattle.cq_reading.specs.declared.bound.Found.{Found}
-use Rattle.cq_reading.specs.declared.bound.Source.{Source}
-use Rattle.cq_reading.specs.declared.bound.Output.{Output}
-use Rattle.cq_reading.specs.declared.bound.Bound.{Bound}
-use Rattle.cq_reading.specs.declared.bound.Shown.{Shown}
-use Rattle.cq_reading.specs.declared.bound.Ordered.{Ordered}
-use Rattle.cq_reading.specs.declared.error.BindError.{BindError}
+use Rattle.cq_reading.specs.Types.{Found, Source, Output, Bound, Shown, Ordered, BindError, Limited, Relations}
 use Rattle.cq_reading.specs.declared.error.BindError.TheVariants as error
-use Rattle.cq_reading.specs.declared.error.Limited.{Limited}
 use Rattle.cq_reading.specs.declared.error.Limited.TheVariants as limited
 use Rattle.cq_reading.specs.Steps.{Reading, give, refuse, ◌then◌, provided, with_next, each, through}
 use Rattle.cq_reading.specs.Widths.{is_value, expr_of, type_of, width_of}
 use Rattle.cq_same.specs.Equal.{equal_exprs}
 use Rattle.cq_reading.specs.Scopes.{World, Context, Place, Nowhere, place_of, column_at, has_name, is_of}
 use Rattle.cq_reading.specs.Titles.{Form, Number, Name}
-use Rattle.cq_reading.specs.declared.bound.Relations.{Relations}
 use Rattle.cq_reading.specs.Parts.{Part, ItemPart, All, AllOf, One, GroupPart, HavingPart, OrderPart}
 use Rattle.cq_reading.specs.Expressions.{Layer, reads, behind_keys, named_in_group}
 use Rattle.cq_reading.specs.Relations.{condition_of}

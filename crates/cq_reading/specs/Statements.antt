@@ -21,33 +21,17 @@ use Rattle.cq_tree.specs.declared.write.ShardOp.{ShardOp}
 use Rattle.cq_tree.specs.declared.write.ShardOp.TheVariants.{Insert, Update, Remove}
 use Rattle.cq_tree.specs.declared.statement.Statement.{Statement}
 use Rattle.cq_tree.specs.declared.statement.Statement.TheVariants as statement
-use Rattle.cq_grammar.specs.declared.name.Name.{Name}
+use Rattle.cq_grammar.specs.Types.{Name, CommonTable, Ast, TypeName, ColumnDef, RowValues, SetClause, CopyOption, SettingValue, Literal, Argument}
 use Rattle.cq_grammar.specs.declared.expr.Expr as grammar
 use Rattle.cq_grammar.specs.declared.query.Query as written
-use Rattle.cq_grammar.specs.declared.query.CommonTable.{CommonTable}
-use Rattle.cq_grammar.specs.declared.statement.Ast.{Ast}
 use Rattle.cq_grammar.specs.declared.statement.Ast.TheVariants as ast
-use Rattle.cq_grammar.specs.declared.statement.TypeName.{TypeName}
 use Rattle.cq_grammar.specs.declared.statement.TypeName.TheVariants as type
-use Rattle.cq_grammar.specs.declared.statement.ColumnDef.{ColumnDef}
-use Rattle.cq_grammar.specs.declared.statement.RowValues.{RowValues}
-use Rattle.cq_grammar.specs.declared.statement.SetClause.{SetClause}
-use Rattle.cq_grammar.specs.declared.statement.CopyOption.{CopyOption}
 use Rattle.cq_grammar.specs.declared.statement.CopyOption.TheVariants as options
-use Rattle.cq_grammar.specs.declared.statement.SettingValue.{SettingValue}
 use Rattle.cq_grammar.specs.declared.statement.SettingValue.TheVariants as settings
-use Rattle.cq_grammar.specs.declared.statement.Literal.{Literal}
 use Rattle.cq_grammar.specs.declared.statement.Literal.TheVariants as literals
-use Rattle.cq_grammar.specs.declared.statement.Argument.{Argument}
 use Rattle.cq_meaning.specs.Effects.{in_bits}
 use Rattle.cq_meaning.specs.Expressions.{value_of}
-use Rattle.cq_reading.specs.declared.bound.Found.{Found}
-use Rattle.cq_reading.specs.declared.bound.Source.{Source}
-use Rattle.cq_reading.specs.declared.bound.Common.{Common}
-use Rattle.cq_reading.specs.declared.bound.Bound.{Bound}
-use Rattle.cq_reading.specs.declared.bound.Options.{Options}
-use Rattle.cq_reading.specs.declared.bound.Block.{Block}
-use Rattle.cq_reading.specs.declared.error.BindError.{BindError}
+use Rattle.cq_reading.specs.Types.{Found, Source, Common, Bound, Options, Block, BindError}
 use Rattle.cq_reading.specs.declared.error.BindError.TheVariants as error
 use Rattle.cq_reading.specs.declared.error.Limited.TheVariants as limited
 use Rattle.cq_reading.specs.Steps.{Reading, give, refuse, ◌then◌, provided, through}
