@@ -2,7 +2,8 @@ ghost use Rattle.std.specs.Prelude.{◌≡◌, ◌<◌, ◌≤◌, ◌+◌, [], 
 ghost use Rattle.cq_value.specs.Changes.{FitsOne, Fit, changed, applied};
 ghost use Rattle.cq_change.specs.Logs.{changes_in, logged};
 
-use cq_value::{Change, Changes, NoMemory, Numbered, Reserved};
+use cq_pages::Numbered;
+use cq_value::{Change, Changes, NoMemory, Reserved};
 use std::alloc::Global;
 use std::marker::Model;
 use std::mem;

@@ -1,7 +1,8 @@
 //! A log that is applied to a table.
 
 use crate::log::ChangeLog;
-use cq_value::{Change, NoMemory, Numbered, Row, Value, Values};
+use cq_pages::Numbered;
+use cq_value::{Change, NoMemory, Row, Value, Values};
 use std::alloc::Global;
 use std::test::Fail;
 

@@ -1,7 +1,8 @@
 ghost use Rattle.std.specs.Prelude.{◌≡◌, [], ◌∷◌, true, MatchOption};
 ghost use Rattle.cq_store.specs.Indexes.{is_in, named, Splits};
 
-use cq_value::{ReservedTable, Row};
+use cq_pages::ReservedTable;
+use cq_value::Row;
 
 /// Whether an id is found among ids that ascend. Where it gives true, it is there.
 pub(crate) fn finds(ids: &[u64], id: u64) -> bool

@@ -6,7 +6,8 @@ ghost use Rattle.cq_store.specs.Indexes.{row_number as number_of_row, wanted_num
 
 use crate::finding::{finds, place_of};
 use crate::numbers::{row_number, wanted_number};
-use cq_value::{Change, Changes, Items, NoMemory, Positions, ReservedTable, Row, Value};
+use cq_pages::ReservedTable;
+use cq_value::{Change, Changes, Items, NoMemory, Positions, Row, Value};
 use std::alloc::Global;
 
 /// Ids of rows, which ascend.

@@ -3,7 +3,8 @@ ghost use Rattle.cq_value.specs.Tables.{Pair};
 ghost use Rattle.cq_store.specs.Indexes.{Covers, HoldAll, NoteAll};
 
 use crate::index::Index;
-use cq_value::{Changes, ReservedTable, Value};
+use cq_pages::ReservedTable;
+use cq_value::{Changes, Value};
 use std::alloc::Global;
 use std::mem;
 

@@ -7,7 +7,8 @@ ghost use Rattle.cq_store.specs.Stores.{has_value, has_values, values_at};
 use crate::finding::find;
 use crate::index::Index;
 use crate::store::{ColumnValues, Pairs};
-use cq_value::{Duplicate, NoMemory, ReservedTable, Row, Value, order};
+use cq_pages::ReservedTable;
+use cq_value::{Duplicate, NoMemory, Row, Value, order};
 use std::alloc::Global;
 
 /// Whether a row has this value in a column, in which NULL stands past the row's end.

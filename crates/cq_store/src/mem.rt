@@ -1,13 +1,13 @@
 ghost use Rattle.std.specs.Prelude.{◌≡◌, [], filter, IfOk, OnOk, OnErr};
-ghost use Rattle.cq_value.specs.Changes.{Fit, adds_in};
+ghost use Rattle.cq_value.specs.Changes.{Fit};
+ghost use Rattle.cq_pages.specs.Roomy.{adds_in};
 ghost use Rattle.cq_store.specs.Stores.{has_values, meets_one, meets_any, steady_spare};
 
 use crate::indexes::Indexes;
 use crate::lookup::{copy_matches, copy_named, is_named, is_there, key_values};
 use crate::store::{ColumnValues, Pairs, Store, StoreError};
-use cq_value::{
-    Change, Changes, Duplicate, NoMemory, Numbered, Positions, ReservedTable, Row, Rows,
-};
+use cq_pages::{Numbered, ReservedTable};
+use cq_value::{Change, Changes, Duplicate, NoMemory, Positions, Row, Rows};
 use std::alloc::Global;
 use std::marker::Model;
 use std::mem;
@@ -26,7 +26,8 @@ pub struct MemStore {
 
 impl Model for MemStore {
     ghost use Rattle.std.specs.Prelude.{◌≤◌, true};
-    ghost use Rattle.cq_value.specs.Changes.{Fit, adds_in};
+    ghost use Rattle.cq_value.specs.Changes.{Fit};
+    ghost use Rattle.cq_pages.specs.Roomy.{adds_in};
     ghost use Rattle.cq_store.specs.Indexes.{HoldAll};
     ghost use Rattle.cq_store.specs.Stores.{StoreState};
 

@@ -1,4 +1,4 @@
-//! What every crate above works with: values and rows, their order and their tokens, numbered tables and row changes,
+//! What every crate above works with: values and rows, their order and their tokens, row changes,
 //! and the list and box types that trees and tables are made of.
 #![tactic(auto)]
 
@@ -7,10 +7,8 @@ mod change;
 mod comparison;
 mod duplicate;
 mod items;
-mod numbered;
 mod placement;
 mod reserved;
-mod reserved_table;
 mod row;
 mod schema;
 mod size;
@@ -22,10 +20,8 @@ pub use change::{Change, Changes};
 pub use comparison::{compare, order, order_laws, same};
 pub use duplicate::Duplicate;
 pub use items::Items;
-pub use numbered::Numbered;
 pub use placement::{shard_index, token};
 pub use reserved::Reserved;
-pub use reserved_table::ReservedTable;
 pub use row::{Row, finish};
 pub use schema::{Column, Columns, Kind, Kinds, Names, Positions, Shape, With};
 pub use size::row_size;

@@ -2,7 +2,7 @@ use Rattle.std.proofs.Common.{rules, ◌≡◌, ◌+◌, Bool, true, false, cond
 use Rattle.std.proofs.lemmas.List.Recursion.{is_count_by}
 use Rattle.cq_value.specs.declared.change.Change.{Change}
 use Rattle.cq_value.specs.declared.change.Change.TheVariants.{Add, Put, Drop}
-use Rattle.cq_value.specs.Changes.{adds_in}
+use Rattle.cq_pages.specs.Roomy.{adds_in}
 use Rattle.cq_store.proofs.mem.count_adds.Goals as goal
 
 abbrev is_add : Change → Bool

@@ -1,12 +1,10 @@
 ghost use Rattle.std.specs.Prelude.{◌≡◌, ◌<◌, ◌≤◌, ◌+◌, ◌^◌, [], ◌∷◌, ◌++◌, true, length, slice_index_or, IfOk, IsOk, OnOk};
-ghost use Rattle.cq_value.specs.Changes.{FitsOne, Fit, changed, applied, added, dropped, adds_in, drops_in, has_id};
+ghost use Rattle.cq_value.specs.Changes.{FitsOne, Fit, changed, applied, has_id};
+ghost use Rattle.cq_pages.specs.Roomy.{added, dropped, adds_in, drops_in};
 ghost use Rattle.cq_value.specs.Tables.{IsAscending, empty_table, with_row, with_new_row, without_row};
 
-use crate::change::{Change, Changes};
 use crate::numbered::Numbered;
-use crate::reserved::Reserved;
-use crate::row::Row;
-use crate::text::NoMemory;
+use cq_value::{Change, Changes, NoMemory, Reserved, Row};
 use std::alloc::Global;
 use std::marker::Model;
 
@@ -18,7 +16,8 @@ pub struct ReservedTable {
 }
 
 impl Model for ReservedTable {
-    ghost use Rattle.cq_value.specs.Tables.{RoomyTable, IsAscending};
+    ghost use Rattle.cq_value.specs.Tables.{IsAscending};
+    ghost use Rattle.cq_pages.specs.Roomy.{RoomyTable};
 
     ghost Value = { RoomyTable };
 

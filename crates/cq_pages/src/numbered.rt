@@ -3,8 +3,7 @@ ghost use Rattle.cq_value.specs.Changes.{has_id};
 ghost use Rattle.cq_value.specs.Tables.{IsAscending, empty_table, with_row, with_new_row, without_row};
 
 use crate::reserved_table::ReservedTable;
-use crate::row::Row;
-use crate::text::NoMemory;
+use cq_value::{NoMemory, Row};
 use std::alloc::Global;
 use std::marker::Model;
 
