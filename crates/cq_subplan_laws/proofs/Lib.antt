@@ -1,5 +1,4 @@
 pub mod Settling
 pub mod Orders
 pub mod LargeAgain
-pub mod Fitting
 pub mod TaskWidths

@@ -26,6 +26,7 @@ use Rattle.cq_meaning.specs.Queries.{columns_in, joins, from_rows, item_rows}
 use Rattle.cq_meaning.specs.Widths.{bits, input_bits, from_bits, output_bits, AreBoundItems, IsBoundFrom, IsBoundQuery, Within, AllWithin, Holds}
 use Rattle.cq_meaning.proofs.AnswerLaws.{mean_answers}
 use Rattle.cq_meaning.proofs.MapLaws.{has_mapped}
+use Rattle.cq_meaning.proofs.Reorder as reorder
 use Rattle.cq_meaning.proofs.Reorder.{Reordered, same}
 use Rattle.cq_meaning.proofs.RowLaws.{has_again, has_either}
 use Rattle.cq_meaning_laws.proofs.OrderFree.{groups_again}
@@ -42,7 +43,12 @@ use Rattle.cq_task_laws.proofs.LargeLaws.{any_at, any_from, count_of, sum_in}
 use Rattle.cq_task_laws.proofs.Opened.{from_of, from_is, over_from, counted_groups, large_opened}
 use Rattle.cq_task_laws.proofs.PartLaws.{flat_map_of_map, flat_map_same, groups_apart, mapped_has}
 use Rattle.cq_subplan_laws.specs.Laws.{TasksFit}
-use Rattle.cq_subplan_laws.proofs.Fitting.{within_again}
+
+within_again : (ks : List ℕ) {us vs : List Row} → Reordered us vs → AllWithin ks us → AllWithin ks vs
+within_again ks reorder.none h = h
+within_again ks (reorder.kept r) h = (h.0, within_again ks r h.1)
+within_again ks reorder.turned h = (h.1.0, (h.0, h.1.1))
+within_again ks (reorder.then r s) h = within_again ks s (within_again ks r h)
 
 has_in : {X : Type 0} (f : X → List Row) (xs : List X) (r : Row) → Has (flat_map f xs) r → (x : X) × Has xs x × Has (f x) r
 has_in f [] r h = absurd h

@@ -1,5 +1,5 @@
 -- The laws on subplans.
-use Rattle.std.specs.Prelude.{◌≡◌, List, length, map, true, false, slice_set}
+use Rattle.std.specs.Prelude.{◌≡◌, List, length, map, true, false}
 use Rattle.std.specs.List.{list_any, AllByRecursion}
 use Rattle.cq_tree.specs.declared.plan.Combine.{Combine}
 use Rattle.cq_tree.specs.declared.plan.Combine.TheVariants.{Nothing}
@@ -10,8 +10,8 @@ use Rattle.cq_meaning.specs.Queries.{from_rows, meaning, AnswersWith}
 use Rattle.cq_meaning.specs.Results.{results_of, Answers}
 use Rattle.cq_meaning.specs.Limits.{is_large}
 use Rattle.cq_meaning.specs.Widths.{output_bits, IsBoundQuery, AllWithin, Holds}
-use Rattle.cq_meaning_laws.specs.Settled.{IsSettled, AllSettled}
-use Rattle.cq_meaning_laws.specs.WholeRules.{Step, steps_of, no_results, has_large_step, IsBoundStep}
+use Rattle.cq_meaning_laws.specs.Settled.{AllSettled}
+use Rattle.cq_meaning_laws.specs.WholeRules.{steps_of, no_results, has_large_step}
 use Rattle.cq_task_laws.specs.Partial.{partial}
 use Rattle.cq_task_laws.specs.Merging.{GathersTo, has_large_together}
 use Rattle.cq_task_laws.specs.Gathering.{IsNonEmpty, Serves}
@@ -31,12 +31,7 @@ SubplansLarge = (q : Query) (db : Tables) (results : Results) → AllSettled q �
 abbrev pub StepsLarge : Type 0
 StepsLarge = (q : Query) (db : Tables) → AllSettled q → HasLarge db (no_results q) (steps_of q) → has_large_step db (no_results q) (steps_of q) ≡ true
 
--- the result of a subplan is within its widths, where the order of its rows isn't left open
-abbrev pub SubplansFit : Type 0
-SubplansFit = (cs : Columns) (db : Tables) (results : Results) (s : Step) (rows : List Row) → Holds cs db results → IsBoundStep cs s → IsSettled s.query → is_large s.query db results ≡ false →
-    AnswersWith s.query db results rows → Holds cs db (slice_set results s.number rows)
-
--- so is what the tasks of a block come to over tables and results within their widths, where no group of a task, or of all tasks together, is too large
+-- what the tasks of a block come to over tables and results within their widths is within the block's widths, where no group of a task, or of all tasks together, is too large
 abbrev pub TasksFit : Type 0
 TasksFit = (cs : Columns) (kind : Combine) (q : Query) (results : Results) (dbs : List Tables) (rows : List Row) → (kind ≡ Nothing → ⊥) → IsBoundQuery cs q → length results ≡ length cs.results → IsNonEmpty dbs →
     AllByRecursion (λ db. Holds cs db results) dbs → Serves kind q results (map (λ db. from_rows (out-Query q).from 0 db results) dbs) → list_any (λ db. is_large (partial kind q) db results) dbs ≡ false →

@@ -1,6 +1,5 @@
 use Rattle.cq_subplan_laws.proofs.Orders.{subplans_answer}
 use Rattle.cq_subplan_laws.proofs.LargeAgain.{subplans_large, steps_large}
-use Rattle.cq_subplan_laws.proofs.Fitting.{subplans_fit}
 use Rattle.cq_subplan_laws.proofs.TaskWidths.{tasks_fit}
 use Rattle.cq_subplan_laws.proofs.subplan_laws.Goals as goal
 
@@ -12,9 +11,6 @@ returns-clause-large c = subplans_large
 
 pub returns-clause-large_step : goal.returns-clause-large_step
 returns-clause-large_step c = steps_large
-
-pub returns-clause-fit : goal.returns-clause-fit
-returns-clause-fit c = subplans_fit
 
 pub returns-clause-tasks : goal.returns-clause-tasks
 returns-clause-tasks c = tasks_fit
