@@ -12,7 +12,7 @@ use Rattle.cq_reading.specs.Steps.{Reading, provided}
 use Rattle.cq_reading.specs.Outcomes.{Binds, Judges}
 use Rattle.cq_reading.specs.Scopes.{World, output_sources}
 use Rattle.cq_tree.specs.declared.expression.Expr.{Expr}
-use Rattle.cq_same.specs.Equal.{equal_exprs}
+use Rattle.cq_tree.specs.Equal.{equal_exprs}
 use Rattle.cq_reading.specs.Widths.{expr_of}
 use Rattle.cq_reading.specs.Selects.{key_at, key_by_value}
 use Rattle.cq_reading.specs.Relations.{table_under, table_by, common_under, common_by, relation_by, under, subquery_relation}

@@ -1,7 +1,7 @@
 ghost use Rattle.std.specs.Prelude.{◌≡◌, ◌<◌, ◌∷◌, ◌++◌, ◌||◌, not, [], map, length, position, slice_get, option_copied, IfOk, IfSome, Some};
 ghost use Rattle.std.specs.List.{list_all};
 ghost use Rattle.cq_reading.specs.Outcomes.{Judges};
-ghost use Rattle.cq_same.specs.Equal.{equal_exprs};
+ghost use Rattle.cq_tree.specs.Equal.{equal_exprs};
 ghost use Rattle.cq_reading.specs.Selects.{same_as, with_key as ordered_with, with_hidden as ordered_with_hidden, key_at as key_in, key_by_value as by_value, key_by_number as by_number, has_title as is_titled, alike_named, key_by_output as by_output, item_of as item_in, one_of as one_in};
 ghost use Rattle.cq_reading.specs.Widths.{expr_of as expr_in};
 ghost use Rattle.cq_bind_names.specs.Keys.{all_one};

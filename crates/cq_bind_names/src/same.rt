@@ -1,5 +1,5 @@
 ghost use Rattle.std.specs.Prelude.{◌≡◌};
-ghost use Rattle.cq_same.specs.Equal.{equal_exprs};
+ghost use Rattle.cq_tree.specs.Equal.{equal_exprs};
 ghost use Rattle.cq_reading.specs.Selects.{same_as};
 ghost use Rattle.cq_reading.specs.Widths.{null_expr, expr_of as expr_in, type_of as type_in, width_of as width_in};
 

@@ -1,6 +1,6 @@
 ghost use Rattle.std.specs.Prelude.{◌≡◌, position, MatchResult};
 ghost use Rattle.cq_reading.specs.declared.error.BindError.TheVariants.{Memory};
-ghost use Rattle.cq_same.specs.Equal.{equal_exprs};
+ghost use Rattle.cq_tree.specs.Equal.{equal_exprs};
 ghost use Rattle.cq_reading.specs.Rules as rule;
 
 use crate::columns::column_number;

@@ -2,7 +2,7 @@
 use Rattle.std.specs.Prelude.{Bool, true, false}
 use Rattle.cq_tree.specs.declared.query.Agg.{Agg}
 use Rattle.cq_tree.specs.declared.query.Agg.TheVariants as agg
-use Rattle.cq_same.specs.Equal.{equal_exprs}
+use Rattle.cq_tree.specs.Equal.{equal_exprs}
 
 abbrev pub equal_aggs : Agg → Agg → Bool
 equal_aggs agg.CountAll agg.CountAll = true

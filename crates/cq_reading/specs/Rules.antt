@@ -27,7 +27,7 @@ use Rattle.cq_reading.specs.declared.error.BindError.TheVariants as error
 use Rattle.cq_reading.specs.Steps.{Reading, give, refuse, ◌then◌, provided}
 use Rattle.cq_reading.specs.Widths.{null_expr, expr_of, type_of, width_of, cond_of, is_truth, is_value, is_number, common_of, agree, are_alike, is_some, literal_width, null_width, count_width, sum_width, product_width, total_width, greatest_width, fits_width, ValueType}
 use Rattle.cq_reading.specs.Equal.{equal_aggs}
-use Rattle.cq_same.specs.Equal.{equal_exprs}
+use Rattle.cq_tree.specs.Equal.{equal_exprs}
 use Rattle.cq_reading.specs.Scopes.{Context}
 
 -- ---- literals

@@ -12,7 +12,7 @@ use Rattle.cq_reading.specs.declared.error.BindError.TheVariants as error
 use Rattle.cq_reading.specs.declared.error.Limited.TheVariants as limited
 use Rattle.cq_reading.specs.Steps.{Reading, give, refuse, ◌then◌, provided, with_next, each, through}
 use Rattle.cq_reading.specs.Widths.{is_value, expr_of, type_of, width_of}
-use Rattle.cq_same.specs.Equal.{equal_exprs}
+use Rattle.cq_tree.specs.Equal.{equal_exprs}
 use Rattle.cq_reading.specs.Scopes.{World, Context, Place, Nowhere, place_of, column_at, has_name, is_of}
 use Rattle.cq_reading.specs.Titles.{Form, Number, Name}
 use Rattle.cq_reading.specs.Parts.{Part, ItemPart, All, AllOf, One, GroupPart, HavingPart, OrderPart}

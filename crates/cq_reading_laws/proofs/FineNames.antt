@@ -13,7 +13,7 @@ use Rattle.cq_reading.specs.declared.bound.Type.TheVariants as type
 use Rattle.cq_reading.specs.declared.error.BindError.TheVariants as error
 use Rattle.cq_reading.specs.Steps.{Reading, give, provided}
 use Rattle.cq_reading.specs.Widths.{ValueType, expr_of, type_of, width_of, is_value, is_number, is_number_type, fits_width, count_width}
-use Rattle.cq_same.specs.Equal.{equal_exprs}
+use Rattle.cq_tree.specs.Equal.{equal_exprs}
 use Rattle.cq_reading.specs.Scopes.{Context, Place, Nowhere, Once, Repeated, place_of, column_bound, column_at, found_column, named, named_of, has_name, has_full_name}
 use Rattle.cq_reading.specs.Rules as rule
 use Rattle.cq_reading.specs.Expressions.{named_in_group}

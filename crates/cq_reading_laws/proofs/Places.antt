@@ -10,7 +10,7 @@ use Rattle.cq_reading.specs.Widths.{is_some}
 use Rattle.std.proofs.Common.{if◌then◌else◌}
 use Rattle.cq_value.proofs.Lists.{append_nil}
 use Rattle.cq_reading.specs.Equal.{equal_aggs}
-use Rattle.cq_same.specs.Equal.{equal_exprs}
+use Rattle.cq_tree.specs.Equal.{equal_exprs}
 use Rattle.cq_reading.specs.Rules.{place_among, with_aggregate}
 use Rattle.cq_same.proofs.Equals.{exprs_same}
 use Rattle.cq_reading_laws.proofs.Equals.{aggs_same}

@@ -9,7 +9,7 @@ use Rattle.cq_reading.specs.declared.error.BindError.TheVariants as error
 use Rattle.cq_reading.specs.declared.error.Limited.TheVariants as limited
 use Rattle.cq_reading.specs.Steps.{give}
 use Rattle.cq_reading.specs.Widths.{expr_of}
-use Rattle.cq_same.specs.Equal.{equal_exprs}
+use Rattle.cq_tree.specs.Equal.{equal_exprs}
 use Rattle.cq_reading.specs.Scopes.{Context}
 use Rattle.cq_reading.specs.Titles as title
 use Rattle.cq_reading.specs.Titles.{Form}

@@ -9,7 +9,7 @@ use Rattle.cq_tree.specs.declared.query.Agg.{Agg}
 use Rattle.cq_reading.specs.declared.bound.Type.TheVariants as type
 use Rattle.cq_reading.specs.Widths.{ValueType, is_some}
 use Rattle.cq_reading.specs.Equal.{equal_aggs}
-use Rattle.cq_same.specs.Equal.{equal_exprs}
+use Rattle.cq_tree.specs.Equal.{equal_exprs}
 use Rattle.cq_reading.specs.Rules.{place_among, with_aggregate}
 use Rattle.cq_reading_laws.specs.Typing.{type_over, type_of_aggregate, group_types}
 use Rattle.cq_same.proofs.Equals.{exprs_same}

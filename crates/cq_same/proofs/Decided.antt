@@ -4,7 +4,7 @@ use Rattle.std.proofs.lemmas.Bool.Decides.{same_from_decides}
 use Rattle.cq_value.specs.declared.value.Value.{Value}
 use Rattle.cq_tree.specs.declared.expression.Expr.{Expr}
 use Rattle.cq_tree.specs.declared.expression.Cond.{Cond}
-use Rattle.cq_same.specs.Equal.{equal_values, equal_exprs, equal_conds}
+use Rattle.cq_tree.specs.Equal.{equal_values, equal_exprs, equal_conds}
 use Rattle.cq_same.proofs.Equals.{values_same, exprs_same, conds_same}
 use Rattle.cq_same.proofs.Owned.{values_own, exprs_own, conds_own}
 

@@ -1,6 +1,6 @@
 -- Lists of two lengths aren't equal.
 use Rattle.std.proofs.Common.{◌≡◌, ◌≢◌, Bool, true, false, ◌&&◌, List, [], ◌∷◌, map, length, refl, ap, suc}
-use Rattle.cq_same.specs.Equal.{equal_each}
+use Rattle.cq_tree.specs.Equal.{equal_each}
 
 and_false : (b : Bool) → (b && false) ≡ false
 and_false true = refl

@@ -13,7 +13,7 @@ use Rattle.cq_tree.specs.declared.expression.Arm.{Arm, out-Arm, roll-Arm, out-ro
 use Rattle.cq_tree.specs.declared.expression.Cond.{Cond, out-Cond, roll-Cond, out-roll-Cond}
 use Rattle.cq_tree.specs.declared.expression.Cond.TheOpen.{Expr-F, Cond-F, Arm-F}
 use Rattle.cq_tree.specs.declared.expression.Cond.TheFolds.{map-Expr, map-Cond, map-Arm, fold-roll-Expr, fold-roll-Cond, fold-roll-Arm, ind-Cond, ind-Expr}
-use Rattle.cq_same.specs.Equal.{equal_values, equal_ops, equal_each, expr_layer, arm_layer, cond_layer, equal_exprs, equal_conds, equal_arms}
+use Rattle.cq_tree.specs.Equal.{equal_values, equal_ops, equal_each, expr_layer, arm_layer, cond_layer, equal_exprs, equal_conds, equal_arms}
 
 value_own : (v : Value) → equal_values v v ≡ true
 value_own Null = refl

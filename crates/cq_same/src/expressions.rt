@@ -3,7 +3,7 @@
 ghost use Rattle.std.specs.Prelude.{◌≡◌, ◌↔◌, map, IsTrue};
 ghost use Rattle.cq_tree.specs.declared.expression.Cond.{Cond};
 ghost use Rattle.cq_tree.specs.declared.expression.Expr.{Expr};
-ghost use Rattle.cq_same.specs.Equal.{equal_values, equal_ops, equal_each, equal_exprs, equal_conds, equal_arms};
+ghost use Rattle.cq_tree.specs.Equal.{equal_values, equal_ops, equal_each, equal_exprs, equal_conds, equal_arms};
 
 use cq_tree::{Arm, Cond, Expr, Op};
 use cq_value::{Value, same};

@@ -1,4 +1,4 @@
-//! What the layers hand to each other: the trees of bound statements (expressions, conditions, queries, writes), plans, and
+//! What the layers hand to each other: the trees of bound statements (expressions, conditions, queries, writes), tasks, and
 //! entries of journals.
 #![tactic(auto)]
 
@@ -15,7 +15,7 @@ mod write;
 pub use expression::{Arm, Arms, Cond, Expr, Exprs, Op};
 pub use journal::{Entries, Entry, EntryKind, Who};
 pub use limit::What;
-pub use plan::{Combine, Plan, Planner, Plans, Step, Steps, Task, Tasks};
+pub use plan::{Combine, Planner, Step, Steps, Task, Tasks};
 pub use query::{Agg, Aggs, FromTree, Key, Keys, Queries, Query, QueryError};
 pub use statement::Statement;
 pub use unsupported::Unsupported;

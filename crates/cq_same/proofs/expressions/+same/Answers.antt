@@ -1,6 +1,6 @@
 use Rattle.std.proofs.Common.{◌≢◌, length, arith, sym}
 use Rattle.std.proofs.lemmas.Bool.Decides.{nat_tests}
-use Rattle.cq_same.specs.Equal.{equal_exprs, equal_arms}
+use Rattle.cq_tree.specs.Equal.{equal_exprs, equal_arms}
 use Rattle.cq_same.proofs.EqualLaws.{each_false}
 use Rattle.cq_same.proofs.expressions.+same.Goals as goal
 

@@ -1,5 +1,5 @@
 use Rattle.std.proofs.Common.{◌≡◌, map, drop}
-use Rattle.cq_same.specs.Equal.{equal_each, equal_exprs, equal_arms}
+use Rattle.cq_tree.specs.Equal.{equal_each, equal_exprs, equal_arms}
 use Rattle.cq_same.proofs.expressions.+same.Given as goal
 
 abbrev pub invariant-same_exprs-loop-i : goal.invariant-same_exprs-loop-i
