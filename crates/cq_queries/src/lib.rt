@@ -10,6 +10,7 @@ mod logic;
 mod members;
 mod nulls;
 mod operand;
+mod prune;
 mod query;
 mod rows;
 mod select;
