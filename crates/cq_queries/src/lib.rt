@@ -19,4 +19,4 @@ mod ties;
 
 pub use expression::{eval, test};
 pub use members::{Listed, Lookups};
-pub use query::{Tables, run_query};
+pub use query::{Tables, finish, run_query};
