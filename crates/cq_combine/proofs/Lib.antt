@@ -1,2 +1,3 @@
 pub mod LargeLaws
+pub mod MergeLaws
 pub mod StepLaws

@@ -1,3 +1,4 @@
+pub mod AscendLaws
 pub mod BegunLaws
 pub mod NumberLaws
 pub mod PlaceLaws

@@ -33,7 +33,7 @@ passes p g s (suc k) l h = look (λ m. passes p g (s + 1) k m (omega arith)) (de
           | false ↦ (λ e. none_before p g (s + 1) k (omega arith) ∙ sym (ap p same ∙ e))
         ] refl
 
-alike : (p q : ℕ → Bool) (s k : ℕ) → ((g : ℕ) → s ≤ g → g < s + k → p g ≡ q g) → filter p (numbers s k) ≡ filter q (numbers s k)
+pub alike : (p q : ℕ → Bool) (s k : ℕ) → ((g : ℕ) → s ≤ g → g < s + k → p g ≡ q g) → filter p (numbers s k) ≡ filter q (numbers s k)
 alike p q s zero h = refl
 alike p q s (suc k) h = let e : p s ≡ q s = h s (omega arith) (omega arith) in
     let rest : filter p (numbers (s + 1) k) ≡ filter q (numbers (s + 1) k) = alike p q (s + 1) k (λ g l m. h g (omega arith) (omega arith)) in

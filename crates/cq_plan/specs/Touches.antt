@@ -1,5 +1,5 @@
 -- What an occurrence touches, and the parts of the walk over a query.
-use Rattle.std.specs.Prelude.{ℕ, List, [], map, Option, None, Some}
+use Rattle.std.specs.Prelude.{ℕ, ◌+◌, Bool, true, ◌&&◌, nat_le, nat_lt, List, [], ◌∷◌, map, Option, None, Some}
 use Rattle.cq_value.specs.declared.value.Value.{Value}
 use Rattle.cq_tree.specs.declared.query.FromTree.{FromTree, Cross', Inner', Left'}
 use Rattle.cq_tree.specs.declared.query.Query.{Query}
@@ -31,3 +31,8 @@ as_one _ start relations = relations
 -- what the occurrences of a query touch, without its CTEs and IN subqueries
 abbrev pub touched_alone : Contents → Query → List (ℕ × List ℕ)
 touched_alone c q = map (touches c) (occurrences_in c q [])
+
+-- whether groups ascend, each once, from a number on and below a bound
+abbrev pub ascends : ℕ → List ℕ → ℕ → Bool
+ascends bound [] low = true
+ascends bound (g ∷ gs) low = nat_le low g && (nat_lt g bound && ascends bound gs (g + 1))

@@ -2,6 +2,7 @@ ghost use Rattle.std.specs.Prelude.{◌≡◌, ◌+◌, ◌^◌, ◌<◌, IfOk, 
 ghost use Rattle.cq_catalog.specs.Contents.{first_group_in, count_in};
 ghost use Rattle.cq_catalog.specs.Placement.{place_at, IsDistributed, group_of as group_in_table};
 ghost use Rattle.cq_planning.specs.Touched.{numbers, among as among_by_rule, in_order as in_order_by_rule, groups_at};
+ghost use Rattle.cq_plan.specs.Touches.{ascends};
 
 use cq_catalog::{Catalog, Place};
 use cq_relations::place_of;
@@ -29,8 +30,8 @@ fn is_among(groups: &[u32], group: u32) -> bool
     groups.iter().any(|other| group == *other)
 }
 
-/// Groups in ascending order, each once.
-pub fn in_order(alloc: Global, catalog: &Catalog, groups: &[u32]) -> Result<Positions, NoMemory>
+/// Groups in ascending order, each once, of any groups.
+fn sort_groups(alloc: Global, catalog: &Catalog, groups: &[u32]) -> Result<Positions, NoMemory>
     ensures { IfOk result (λ v. v ≡ in_order_by_rule catalog.now groups.now) }
 {
     let mut list = Positions::new(alloc);
@@ -40,6 +41,38 @@ pub fn in_order(alloc: Global, catalog: &Catalog, groups: &[u32]) -> Result<Posi
         }
     }
     Ok(list)
+}
+
+/// Whether groups ascend, each once, from `low` on and below a bound.
+fn ascend(groups: &[u32], low: u32, bound: u32) -> bool
+    ensures { result ≡ ascends bound groups.now low }
+{
+    match groups {
+        [] => true,
+        [group, others @ ..] => low <= *group && (*group < bound && ascend(others, *group + 1, bound)),
+    }
+}
+
+fn copied(alloc: Global, groups: &[u32]) -> Result<Positions, NoMemory>
+    ensures { IfOk result (λ v. v ≡ groups.now) }
+{
+    let mut list = Positions::new(alloc);
+    for group in groups {
+        list.put(*group)?;
+    }
+    Ok(list)
+}
+
+/// Groups in ascending order, each once.
+#[tactic(auto, using(crate::proofs::AscendLaws::in_order_already))]
+pub fn in_order(alloc: Global, catalog: &Catalog, groups: &[u32]) -> Result<Positions, NoMemory>
+    ensures { IfOk result (λ v. v ≡ in_order_by_rule catalog.now groups.now) }
+{
+    if ascend(groups, 0, catalog.groups()) {
+        copied(alloc, groups)
+    } else {
+        sort_groups(alloc, catalog, groups)
+    }
 }
 
 /// The groups of values of a distributed table's distribution column.

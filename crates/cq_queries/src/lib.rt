@@ -10,6 +10,7 @@ mod logic;
 mod members;
 mod nulls;
 mod operand;
+mod prune;
 mod query;
 mod rows;
 mod select;
@@ -18,4 +19,4 @@ mod ties;
 
 pub use expression::{eval, test};
 pub use members::{Listed, Lookups};
-pub use query::{Tables, run_query};
+pub use query::{Tables, finish, run_query};

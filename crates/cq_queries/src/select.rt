@@ -14,6 +14,9 @@ pub fn select(alloc: Global, c: &Cond, rows: Rows, results: &Lookups<'_>) -> Res
     requires { All (λ row. IsSafeCondition c.now row results.now) rows }
     ensures { IfOk result (λ kept. kept ≡ filter (keeps c.now results.now) rows) }
 {
+    if matches!(c, Cond::Always) {
+        return Ok(rows);
+    }
     let mut kept = Rows::new(alloc);
     for row in rows.into_vec() {
         if is_true(test(c, &row, results)) {

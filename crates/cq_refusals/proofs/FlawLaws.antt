@@ -9,26 +9,16 @@ use Rattle.cq_planning.specs.Pushable.{relations}
 use Rattle.cq_planning.specs.Routing.{fits_fast_path, fits_router}
 use Rattle.cq_planning.specs.Blocks.{is_taken_whole}
 use Rattle.cq_planning.specs.Joins.{equalities_of, relations_of, width_of}
-use Rattle.cq_router.specs.declared.planners.Routed.{Routed}
-use Rattle.cq_router.specs.Planned.{fast_path_of, router_of}
 use Rattle.cq_refusals.specs.declared.flaws.Flaws.{Flaws}
 use Rattle.cq_refusals.specs.Flaws.{flaws_of, flaws_over, no_flaws}
 
 -- ---- what is taken whole
 
-some_if : {X : Type 0} (b : Bool) (x : X) → is_some (if b then Some x else None) ≡ b
-some_if true x = refl
-some_if false x = refl
+pub taken_fast : (c : Contents) (q : Query) (b : Bool) → b ≡ fits_fast_path c q → b ≡ true → true ≡ is_taken_whole c q
+taken_fast c q b e y = ap (λ (b : Bool). b || fits_router c q) (sym y ∙ e)
 
-pub taken_fast : (c : Contents) (q : Query) (r : Option Routed) → r ≡ fast_path_of c q → is_some r ≡ true → true ≡ is_taken_whole c q
-taken_fast c q r e y =
-    let fits : fits_fast_path c q ≡ true = sym (some_if (fits_fast_path c q) _) ∙ (sym (ap is_some e) ∙ y) in
-    ap (λ (b : Bool). b || fits_router c q) (sym fits)
-
-pub taken_otherwise : (c : Contents) (q : Query) (r s : Option Routed) → r ≡ fast_path_of c q → is_some r ≡ false → s ≡ router_of c q → is_some s ≡ is_taken_whole c q
-taken_otherwise c q r s e n f =
-    let not : fits_fast_path c q ≡ false = sym (some_if (fits_fast_path c q) _) ∙ (sym (ap is_some e) ∙ n) in
-    ap is_some f ∙ (some_if (fits_router c q) _ ∙ ap (λ (b : Bool). b || fits_router c q) (sym not))
+pub taken_otherwise : (c : Contents) (q : Query) (a b : Bool) → a ≡ fits_fast_path c q → a ≡ false → b ≡ fits_router c q → b ≡ is_taken_whole c q
+taken_otherwise c q a b e n f = f ∙ ap (λ (b : Bool). b || fits_router c q) (sym n ∙ e)
 
 -- ---- flaws
 

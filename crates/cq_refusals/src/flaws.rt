@@ -5,7 +5,7 @@ ghost use Rattle.cq_refusals.specs.Flaws.{flaws_over, flaws_of as flaws_by_rule}
 use crate::joins::{are_connected, are_several, is_one_loose};
 use cq_catalog::Catalog;
 use cq_relations::{Relation, count_columns, plain, put_relations};
-use cq_router::{fast_path, router};
+use cq_router::{fits_fast_path, fits_router};
 use cq_shape::{equalities_in, labels_of};
 use cq_tree::Query;
 use cq_value::{Items, NoMemory};
@@ -24,10 +24,10 @@ pub struct Flaws {
 pub fn is_taken_whole(alloc: Global, catalog: &Catalog, q: &Query) -> Result<bool, NoMemory>
     ensures { IfOk result (λ b. b ≡ is_taken_whole_by_rule catalog.now q.now) }
 {
-    if fast_path(alloc, q, catalog)?.is_some() {
+    if fits_fast_path(alloc, catalog, q)? {
         Ok(true)
     } else {
-        Ok(router(alloc, q, catalog)?.is_some())
+        fits_router(alloc, catalog, q)
     }
 }
 

@@ -24,7 +24,7 @@ routed_query c planner q reads e =
     ap (λ (ts : List (ℕ × List ℕ)). routed_by planner (tasks_among c ts) (groups_among c ts)) e
     ∙ (λ i. routed_by planner (tasks_same c (occurrences_in c q []) i) (groups_same c (occurrences_in c q []) i))
 
-taken : (c : Contents) (q : Query) (reads : List (ℕ × List ℕ)) → reads ≡ touched_alone c q → are_routed_among c reads ≡ fits_router c q
+pub taken : (c : Contents) (q : Query) (reads : List (ℕ × List ℕ)) → reads ≡ touched_alone c q → are_routed_among c reads ≡ fits_router c q
 taken c q reads e = ap (are_routed_among c) e ∙ routed_same c (occurrences_in c q [])
 
 pub router_taken : (c : Contents) (q : Query) (reads : List (ℕ × List ℕ)) (b : Bool) (r : Routed) → reads ≡ touched_alone c q → b ≡ are_routed_among c reads → b ≡ true →

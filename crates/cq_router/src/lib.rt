@@ -9,6 +9,8 @@ mod reads;
 mod writes;
 
 pub use insertion::{Part, Parts};
-pub use planners::{Routed, fast_path, is_one_value, is_routed, router};
+pub use planners::{
+    Routed, fast_path, fits_fast_path, fits_router, is_one_value, is_routed, router,
+};
 pub use reads::{first_group, groups_of_distributed, has_reference, tasks_by};
 pub use writes::parts;

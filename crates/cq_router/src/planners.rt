@@ -2,7 +2,7 @@ ghost use Rattle.std.specs.Prelude.{◌≡◌, [], IfOk};
 ghost use Rattle.cq_plan.specs.Touches.{touched_alone};
 ghost use Rattle.cq_planning.specs.Conjuncts.{conjuncts_of};
 ghost use Rattle.cq_planning.specs.ValueSets.{value_set};
-ghost use Rattle.cq_planning.specs.Routing.{is_one_value as is_one_by_rule, is_one_table as is_one_table_by_rule, fits_fast_path as fits_fast_path_by_rule, tasks_of, touched_in_block};
+ghost use Rattle.cq_planning.specs.Routing.{is_one_value as is_one_by_rule, is_one_table as is_one_table_by_rule, fits_fast_path as fits_fast_path_by_rule, fits_router as fits_router_by_rule, tasks_of, touched_in_block};
 ghost use Rattle.cq_router.specs.Reads.{groups_among, tasks_among, are_routed_among};
 ghost use Rattle.cq_router.specs.Planned.{routed_by, fast_path_of, router_of, is_alone as is_alone_by_rule};
 
@@ -67,6 +67,16 @@ pub fn is_routed(alloc: Global, catalog: &Catalog, reads: &[Touch]) -> Result<bo
     Ok(!reads.is_empty() && is_of_one_colocation(catalog, reads) && groups.len() < 2)
 }
 
+/// Whether the router takes a query: its FROM, subqueries included, has a table, and its distributed tables are of one co-location group and
+/// touch at most one index of it.
+#[tactic(auto, using(crate::proofs::RoutedLaws::taken))]
+pub fn fits_router(alloc: Global, catalog: &Catalog, q: &Query) -> Result<bool, NoMemory>
+    ensures { IfOk result (λ b. b ≡ fits_router_by_rule catalog.now q.now) }
+{
+    let reads = reads_of(alloc, catalog, q)?;
+    is_routed(alloc, catalog, reads.as_slice())
+}
+
 /// The plan of a query by a planner that takes it.
 fn plan_of_query(
     alloc: Global,
@@ -121,7 +131,7 @@ fn is_alone(q: &Query) -> bool
 
 /// Whether the fast path takes a query.
 #[tactic(auto, using(crate::proofs::RoutedLaws::fits_alone, crate::proofs::RoutedLaws::fits_not))]
-fn fits_fast_path(alloc: Global, catalog: &Catalog, q: &Query) -> Result<bool, NoMemory>
+pub fn fits_fast_path(alloc: Global, catalog: &Catalog, q: &Query) -> Result<bool, NoMemory>
     ensures { IfOk result (λ b. b ≡ fits_fast_path_by_rule catalog.now q.now) }
 {
     if is_alone(q) {

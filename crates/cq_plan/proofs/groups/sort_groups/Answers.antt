@@ -1,7 +1,7 @@
 use Rattle.std.proofs.Common.{sym, ◌∙◌}
 use Rattle.cq_plan.proofs.NumberLaws.{kept_group, left_group}
-use Rattle.cq_plan.proofs.groups.in_order.Goals as goal
-use Rattle.cq_plan.proofs.groups.in_order.Goals.{then-is_among+in_ok-put, else-is_among}
+use Rattle.cq_plan.proofs.groups.sort_groups.Goals as goal
+use Rattle.cq_plan.proofs.groups.sort_groups.Goals.{then-is_among+in_ok-put, else-is_among}
 
 pub loop-group-preserved : goal.loop-group-preserved
 loop-group-preserved c = elim c.if-is_among.branch [
