@@ -1,15 +1,15 @@
-//! Each call of each store fails in turn under a script that moves shard groups: the stores hold what the journals leave, whatever failed.
+//! Each call of each store fails in turn under a script that moves shard groups: the stores hold what they do where the statements that
+//! didn't fail run alone.
 
 ghost use Rattle.std.specs.Prelude.{IfOk, All};
 ghost use Rattle.cq_store.specs.Faults.{held};
 ghost use Rattle.cq_cluster.specs.Cluster.{AreIdle, IsWaiting};
 
+use crate::running::{Outcome, run_script};
 use cq_answer::{Answer, Answered, Fault};
-use cq_journal::Journal;
 use cq_script::{MemSink, MemSource};
 use cq_store::{FaultStore, Store, Worker};
-use cq_top::{IdleGate, Retired, RunLog, run_over};
-use cq_tree::{Cond, EntryKind, Expr, Op, Reply, ShardOp};
+use cq_top::{Retired, RunLog};
 use cq_value::Value;
 use std::alloc::{AllocError, Global};
 use std::process::Abort;
@@ -18,26 +18,27 @@ use std::test::Fail;
 use std::thread::Threads;
 
 /// Two tables side by side in two shard groups, one on each node. One group is moved to the other node, and the rebalance moves a group back.
-const SCRIPT: &[u8] = b"CREATE TABLE t (k bigint, v bigint, PRIMARY KEY (k));
-SELECT create_distributed_table('t', 'k', shard_count => 2);
-CREATE TABLE u (k bigint, v bigint);
-SELECT create_distributed_table('u', 'k', colocate_with => 't');
-INSERT INTO t VALUES (1, 10), (2, 20), (3, 30), (4, 40), (5, 50);
-INSERT INTO u VALUES (1, 11), (1, 12), (4, 13);
-SELECT citus_move_shard_placement(102008, 1, 2);
-UPDATE t SET v = 21 WHERE k = 2;
-DELETE FROM u WHERE k = 1;
-SELECT rebalance_table_shards();
-INSERT INTO t VALUES (6, 60), (7, 70);
-UPDATE u SET v = 14 WHERE k = 4;
-DELETE FROM t WHERE k = 3;";
+const SCRIPT: [&str; 13] = [
+    "CREATE TABLE t (k bigint, v bigint, PRIMARY KEY (k));",
+    "SELECT create_distributed_table('t', 'k', shard_count => 2);",
+    "CREATE TABLE u (k bigint, v bigint);",
+    "SELECT create_distributed_table('u', 'k', colocate_with => 't');",
+    "INSERT INTO t VALUES (1, 10), (2, 20), (3, 30), (4, 40), (5, 50);",
+    "INSERT INTO u VALUES (1, 11), (1, 12), (4, 13);",
+    "SELECT citus_move_shard_placement(102008, 1, 2);",
+    "UPDATE t SET v = 21 WHERE k = 2;",
+    "DELETE FROM u WHERE k = 1;",
+    "SELECT rebalance_table_shards();",
+    "INSERT INTO t VALUES (6, 60), (7, 70);",
+    "UPDATE u SET v = 14 WHERE k = 4;",
+    "DELETE FROM t WHERE k = 3;",
+];
 
 /// The shard of the first table in the first group. Those of a table follow one another, and so do the tables.
 const FIRST_SHARD: u64 = 102008;
 
-const GROUPS: u32 = 2;
-
-const TABLES: u32 = 2;
+/// Two tables of two shards.
+const SHARDS: u64 = 4;
 
 const NODES: u32 = 2;
 
@@ -47,7 +48,7 @@ const STORES: u64 = 6;
 /// More calls than a store has in the script.
 const MOST_CALLS: u64 = 60;
 
-/// The call of this number of a store fails: the store is on this node, in this place among the node's.
+/// The call of this number of a store fails, 0 for none: the store is on this node, in this place among the node's.
 #[derive(Clone, Copy)]
 struct Failing {
     node: u32,
@@ -57,13 +58,6 @@ struct Failing {
 
 /// The key and the other value of a row.
 type Pair = (i128, i128);
-
-/// What a run left.
-#[derive(Drop)]
-struct Outcome {
-    log: RunLog<FaultStore>,
-    stores: Vec<FaultStore>,
-}
 
 /// A store of a node, at this place among the node's.
 fn store_of(
@@ -104,34 +98,61 @@ fn workers_of(alloc: Global, failing: Failing) -> Result<Vec<Worker<FaultStore>>
     Ok(workers)
 }
 
-/// Runs the script.
-fn run_script<R: Threads + Wait + Sync>(
+/// The script.
+fn script(alloc: Global) -> Result<Vec<u8>, AllocError> {
+    let mut script = Vec::new(alloc);
+    for statement in SCRIPT {
+        script.extend_from_slice(statement.as_bytes())?;
+    }
+    Ok(script)
+}
+
+/// The statements of the script that didn't fail.
+fn done(alloc: Global, answers: &[Answered]) -> Result<Vec<u8>, Fail> {
+    let mut script = Vec::new(alloc);
+    for answered in answers {
+        if !matches!(&answered.answer, Answer::Failed(_)) {
+            let place = answered.statement.saturating_sub(1) as usize;
+            let statement = SCRIPT
+                .as_slice()
+                .get(place)
+                .ok_or("an answer to no statement")?;
+            script.extend_from_slice(statement.as_bytes())?;
+        }
+    }
+    Ok(script)
+}
+
+/// Runs a script.
+fn run_failing<R: Threads + Wait + Sync>(
     rt: &R,
     alloc: Global,
+    script: Vec<u8>,
     failing: Failing,
 ) -> Result<Outcome, AllocError> {
-    let mut workers = workers_of(alloc, failing)?;
-    let words: Vec<String> = Vec::new(alloc);
-    let mut source = MemSource::new(SCRIPT.to_vec(alloc)?, Vec::new(alloc));
-    let mut sink = MemSink::new(alloc, Vec::new(alloc));
-    let mut log = RunLog::new(alloc);
-    let _ = run_over(
+    let workers = workers_of(alloc, failing)?;
+    let source = MemSource::new(script, Vec::new(alloc));
+    run_script(
         rt,
         alloc,
-        &words,
-        &mut source,
-        &mut sink,
-        &IdleGate,
-        &mut workers,
-        &mut log,
-    );
+        workers,
+        source,
+        MemSink::new(alloc, Vec::new(alloc)),
+    )
+}
+
+/// The stores of the workers, one behind the other.
+fn stores_in(
+    alloc: Global,
+    workers: Vec<Worker<FaultStore>>,
+) -> Result<Vec<FaultStore>, AllocError> {
     let mut stores = Vec::new(alloc);
     for worker in workers {
         for store in worker.into_stores() {
             stores.push(store)?;
         }
     }
-    Ok(Outcome { log, stores })
+    Ok(stores)
 }
 
 /// The numbers of a row.
@@ -140,67 +161,6 @@ fn pair_of(row: &[Value]) -> Result<Pair, Fail> {
         [Value::Int(key), Value::Int(value)] => Ok((*key, *value)),
         _ => Err(Fail::from("a row of other values")),
     }
-}
-
-/// The key that a WHERE asks for.
-fn key_in(filter: &Cond) -> Result<i128, Fail> {
-    match filter {
-        Cond::Compare(Op::Eq, Expr::Column(0), Expr::Literal(Value::Int(key))) => Ok(*key),
-        _ => Err(Fail::from("another condition")),
-    }
-}
-
-/// The value that an UPDATE sets.
-fn value_in(value: &Expr) -> Result<i128, Fail> {
-    match value {
-        Expr::Literal(Value::Int(value)) => Ok(*value),
-        _ => Err(Fail::from("another value")),
-    }
-}
-
-/// Makes a write of the table in its rows.
-fn replay(rows: &mut Vec<Pair>, op: &ShardOp, table: u32) -> Result<(), Fail> {
-    match op {
-        ShardOp::Insert {
-            table: own,
-            rows: inserted,
-        } if *own == table => {
-            for row in inserted.as_slice() {
-                rows.push(pair_of(row.as_slice())?)?;
-            }
-        }
-        ShardOp::Update {
-            table: own,
-            filter,
-            sets,
-        } if *own == table => {
-            let key = key_in(filter)?;
-            let set = sets.get(0).ok_or("an UPDATE without a value")?;
-            let value = value_in(&set.value)?;
-            for row in rows.iter_mut() {
-                if row.0 == key {
-                    row.1 = value;
-                }
-            }
-        }
-        ShardOp::Remove { table: own, filter } if *own == table => {
-            let key = key_in(filter)?;
-            rows.retain(|row| row.0 != key);
-        }
-        _ => {}
-    }
-    Ok(())
-}
-
-/// The rows of a table that a group's journal leaves.
-fn replayed(alloc: Global, journal: &Journal, table: u32) -> Result<Vec<Pair>, Fail> {
-    let mut rows = Vec::new(alloc);
-    for entry in journal.entries.as_slice() {
-        if let EntryKind::Write(op, Reply::Count(_)) = &entry.kind {
-            replay(&mut rows, op, table)?;
-        }
-    }
-    Ok(rows)
 }
 
 /// The rows of the stores of a shard, one store after the other.
@@ -237,31 +197,46 @@ fn tells_of(answered: &Answered, retired: &Retired<FaultStore>) -> bool {
     }
 }
 
-/// Whether a store failed.
-fn has_failed(outcome: &Outcome) -> bool {
-    outcome.stores.iter().any(|store| store.faults() > 0) || outcome.log.retired.len() > 0
+/// The stores hold the same rows of each shard.
+fn expect_same<R: Abort>(
+    rt: &R,
+    alloc: Global,
+    stores: &mut Vec<FaultStore>,
+    others: &mut Vec<FaultStore>,
+) -> Result<(), Fail> {
+    for shard in FIRST_SHARD..FIRST_SHARD + SHARDS {
+        let rows = kept(alloc, stores, shard)?;
+        assert!(rt; rows == kept(alloc, others, shard)?);
+    }
+    Ok(())
 }
 
-/// The stores hold what the journals leave, and the retired ones are told of.
-fn expect_kept<R: Abort>(rt: &R, alloc: Global, outcome: Outcome) -> Result<(), Fail> {
-    let Outcome { log, mut stores } = outcome;
-    for group in 0..GROUPS {
-        let journal = log
-            .journals
-            .as_slice()
-            .get(group as usize)
-            .ok_or("a group has no journal")?;
-        for table in 0..TABLES {
-            let shard = FIRST_SHARD + u64::from(table * GROUPS + group);
-            let rows = kept(alloc, &mut stores, shard)?;
-            assert_eq!(rt; rows, replayed(alloc, journal, table)?);
-        }
-    }
+/// The retired stores are told of.
+fn expect_told<R: Abort>(rt: &R, log: &RunLog<FaultStore>) {
     for retired in log.retired.as_slice() {
         let told = log.answers.as_slice().iter().any(|a| tells_of(a, retired));
         assert!(rt; told);
     }
-    Ok(())
+}
+
+/// Runs the script, and gives whether a store failed. Then the stores hold what they do where the statements that didn't fail run alone.
+fn fails<R: Threads + Wait + Sync + Abort>(
+    rt: &R,
+    alloc: Global,
+    failing: Failing,
+) -> Result<bool, Fail> {
+    let outcome = run_failing(rt, alloc, script(alloc)?, failing)?;
+    let mut stores = stores_in(alloc, outcome.workers)?;
+    let retired = outcome.log.retired.len() > 0;
+    if !retired && !stores.iter().any(|store| store.faults() > 0) {
+        return Ok(false);
+    }
+    expect_told(rt, &outcome.log);
+    let script = done(alloc, outcome.log.answers.as_slice())?;
+    let alone = run_failing(rt, alloc, script, Failing { call: 0, ..failing })?;
+    let mut others = stores_in(alloc, alone.workers)?;
+    expect_same(rt, alloc, &mut stores, &mut others)?;
+    Ok(true)
 }
 
 #[test]
@@ -270,14 +245,11 @@ fn moves_lose_nothing(rt: HostRuntime) -> Result<(), Fail> {
     let mut failed = 0u64;
     for node in 1..NODES + 1 {
         for place in 0..STORES {
-            for call in 0..MOST_CALLS {
-                let outcome = run_script(&rt, alloc, Failing { node, place, call })?;
-                if has_failed(&outcome) {
-                    failed = failed.saturating_add(1);
-                } else if call > 0 {
+            for call in 1..MOST_CALLS {
+                if !fails(&rt, alloc, Failing { node, place, call })? {
                     break;
                 }
-                expect_kept(&rt, alloc, outcome)?;
+                failed = failed.saturating_add(1);
             }
         }
     }

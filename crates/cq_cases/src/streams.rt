@@ -1,12 +1,8 @@
 //! Each call of a source, and each of a sink, fails in turn: what is written is the beginning of what is written where none fails.
 
-ghost use Rattle.std.specs.Prelude.{IfOk};
-ghost use Rattle.cq_store.specs.Faults.{held};
-ghost use Rattle.cq_cluster.specs.Cluster.{IsWaiting};
-
+use crate::running::{Outcome, failing_workers, run_script};
 use cq_script::{MemSink, MemSource};
-use cq_store::FaultStore;
-use cq_top::{IdleGate, RunLog, Status, make_workers, run_over};
+use cq_top::Status;
 use std::alloc::{AllocError, Global};
 use std::process::Abort;
 use std::sync::Wait;
@@ -24,23 +20,17 @@ const MOST_CALLS: u64 = 1000;
 /// What is written last where the source failed.
 const LAST: &[u8] = b"FATAL read\n";
 
-/// The numbers of the calls that fail, 0 for none.
-#[derive(Clone, Copy)]
-struct Failing {
-    take: u64,
-    put: u64,
+/// Whose calls fail.
+#[derive(Clone, Copy, PartialEq, Eq)]
+enum Side {
+    Source,
+    Sink,
 }
 
-/// How a run ended, and what it wrote.
-#[derive(Drop)]
-struct Outcome {
-    status: Status,
-    written: Vec<u8>,
-}
-
-fn listed(alloc: Global, call: u64) -> Result<Vec<u64>, AllocError> {
+/// The number of a side's call that fails, 0 for none.
+fn listed(alloc: Global, failing: Side, side: Side, call: u64) -> Result<Vec<u64>, AllocError> {
     let mut calls = Vec::new(alloc);
-    if call > 0 {
+    if failing == side && call > 0 {
         calls.push(call)?;
     }
     Ok(calls)
@@ -54,78 +44,53 @@ fn script(alloc: Global) -> Result<Vec<u8>, AllocError> {
     Ok(script)
 }
 
-/// Runs the script.
-fn run_script<R: Threads + Wait + Sync>(
+/// Runs the script, with a call of one side that fails.
+fn run_failing<R: Threads + Wait + Sync>(
     rt: &R,
     alloc: Global,
-    failing: Failing,
+    failing: Side,
+    call: u64,
 ) -> Result<Outcome, AllocError> {
-    let words: Vec<String> = Vec::new(alloc);
-    let mut source = MemSource::new(script(alloc)?, listed(alloc, failing.take)?);
-    let mut sink = MemSink::new(alloc, listed(alloc, failing.put)?);
-    let make = |node: u32| -> Result<FaultStore, AllocError>
-        ensures { IfOk result (λ s. IsWaiting node (held s)) }
-    { Ok(FaultStore::new(alloc, node, Vec::new(alloc))) };
-    let mut workers = make_workers(alloc, 2, 0, &make)?;
-    let mut log = RunLog::new(alloc);
-    let status = run_over(
-        rt,
-        alloc,
-        &words,
-        &mut source,
-        &mut sink,
-        &IdleGate,
-        &mut workers,
-        &mut log,
-    );
-    Ok(Outcome {
-        status,
-        written: sink.bytes,
-    })
+    let takes = listed(alloc, failing, Side::Source, call)?;
+    let puts = listed(alloc, failing, Side::Sink, call)?;
+    let script = script(alloc)?;
+    let workers = failing_workers(alloc, 2, 0, &[])?;
+    let (source, sink) = (MemSource::new(script, takes), MemSink::new(alloc, puts));
+    run_script(rt, alloc, workers, source, sink)
 }
 
-/// Each call of the source fails, until one is none of its.
-fn takes_fail<R: Threads + Wait + Sync + Abort>(
-    rt: &R,
-    alloc: Global,
-    whole: &[u8],
-) -> Result<(), Fail> {
-    for take in 1..MOST_CALLS {
-        let ran = run_script(rt, alloc, Failing { take, put: 0 })?;
-        if ran.status == Status::Done {
-            assert_eq!(rt; ran.written.as_slice(), whole);
-            return Ok(());
-        }
-        assert_eq!(rt; ran.status, Status::ReadFault);
-        let answers = ran.written.strip_suffix(LAST).ok_or("another last line")?;
-        assert!(rt; whole.starts_with(answers));
+/// The status of a run with a side's call that failed, and the answers that were written.
+fn cut_off(failing: Side, written: &[u8]) -> Option<(Status, &[u8])> {
+    match failing {
+        Side::Source => Some((Status::ReadFault, written.strip_suffix(LAST)?)),
+        Side::Sink => Some((Status::WriteFault, written)),
     }
-    Err(Fail::from("the source has more calls"))
 }
 
-/// Each call of the sink fails, until one is none of its.
-fn puts_fail<R: Threads + Wait + Sync + Abort>(
+/// Each call of a side fails, until one is none of its.
+fn calls_fail<R: Threads + Wait + Sync + Abort>(
     rt: &R,
     alloc: Global,
+    failing: Side,
     whole: &[u8],
 ) -> Result<(), Fail> {
-    for put in 1..MOST_CALLS {
-        let ran = run_script(rt, alloc, Failing { take: 0, put })?;
+    for call in 1..MOST_CALLS {
+        let ran = run_failing(rt, alloc, failing, call)?;
         if ran.status == Status::Done {
-            assert_eq!(rt; ran.written.as_slice(), whole);
+            assert!(rt; ran.written.as_slice() == whole);
             return Ok(());
         }
-        assert_eq!(rt; ran.status, Status::WriteFault);
-        assert!(rt; whole.starts_with(ran.written.as_slice()));
+        let (status, answers) = cut_off(failing, ran.written.as_slice()).ok_or("another end")?;
+        assert!(rt; ran.status == status && whole.starts_with(answers));
     }
-    Err(Fail::from("the sink has more calls"))
+    Err(Fail::from("there are more calls"))
 }
 
 #[test]
 fn streams_fail(rt: HostRuntime) -> Result<(), Fail> {
     let alloc = rt.alloc();
-    let whole = run_script(&rt, alloc, Failing { take: 0, put: 0 })?;
-    assert_eq!(&rt; whole.status, Status::Done);
-    takes_fail(&rt, alloc, whole.written.as_slice())?;
-    puts_fail(&rt, alloc, whole.written.as_slice())
+    let whole = run_failing(&rt, alloc, Side::Source, 0)?;
+    assert!(&rt; whole.status == Status::Done);
+    calls_fail(&rt, alloc, Side::Source, whole.written.as_slice())?;
+    calls_fail(&rt, alloc, Side::Sink, whole.written.as_slice())
 }

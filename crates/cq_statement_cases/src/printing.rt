@@ -3,8 +3,6 @@
 use crate::tables::{bound, catalog};
 use cq_catalog::Catalog;
 use cq_reprint::print;
-use cq_tree::Statement;
-use cq_value::Text;
 use std::alloc::Global;
 use std::test::Fail;
 
@@ -42,24 +40,30 @@ const STATEMENTS: [&str; 31] = [
     "SELECT get_rebalance_table_shards_plan()",
 ];
 
-/// How a statement is printed.
-fn printed(alloc: Global, catalog: &Catalog, statement: Statement) -> Option<Text> {
-    print(alloc, &statement, catalog).ok()
+/// Whether what a text is read as is printed.
+fn is_printed(alloc: Global, catalog: &Catalog, text: &str) -> bool {
+    let Some(statement) = bound(alloc, catalog, text) else {
+        return false;
+    };
+    let printed = print(alloc, &statement, catalog).is_ok();
+    drop(statement);
+    printed
 }
 
-/// How what a text is read as is printed.
-fn printed_again(alloc: Global, catalog: &Catalog, text: &str) -> Option<Text> {
-    printed(alloc, catalog, bound(alloc, catalog, text)?)
-}
-
-#[test]
-fn statements_are_printed(rt: HostRuntime) -> Result<(), Fail> {
-    let alloc = rt.alloc();
-    let catalog = catalog(alloc)?;
+/// Each statement is printed.
+fn print_all(alloc: Global, catalog: &Catalog) -> Result<(), Fail> {
     for text in STATEMENTS {
-        if printed_again(alloc, &catalog, text).is_none() {
+        if !is_printed(alloc, catalog, text) {
             return Err(Fail::from(text));
         }
     }
     Ok(())
+}
+
+#[test]
+fn statements_are_printed(rt: HostRuntime) -> Result<(), Fail> {
+    let catalog = catalog(rt.alloc())?;
+    let printed = print_all(rt.alloc(), &catalog);
+    drop(catalog);
+    printed
 }

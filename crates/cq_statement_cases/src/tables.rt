@@ -37,25 +37,30 @@ fn create(alloc: Global, catalog: &mut Catalog, text: &'static str) -> Result<()
 fn distribute(
     alloc: Global,
     catalog: &mut Catalog,
-    table: &Text,
+    table: &str,
     count: Option<u32>,
 ) -> Result<(), CatalogError> {
-    let column = Text::of_str(alloc, "k")?;
-    catalog.distribute(table, &column, count, &With::Default, 4)?;
+    let (table, column) = (Text::of_str(alloc, table)?, Text::of_str(alloc, "k")?);
+    catalog.distribute(&table, &column, count, &With::Default, 4)?;
+    Ok(())
+}
+
+fn fill(alloc: Global, catalog: &mut Catalog) -> Result<(), Fail> {
+    for text in TABLES {
+        create(alloc, catalog, text)?;
+    }
+    distribute(alloc, catalog, "t", None)?;
+    distribute(alloc, catalog, "a", None)?;
+    distribute(alloc, catalog, "b", None)?;
+    catalog.reference(&Text::of_str(alloc, "r")?)?;
+    distribute(alloc, catalog, "c", Some(3))?;
+    distribute(alloc, catalog, "n", Some(2))?;
     Ok(())
 }
 
 /// The distributed tables t, a and b of 4 shards, the reference table r, and the distributed tables c of 3 shards and n of 2.
 pub fn catalog(alloc: Global) -> Result<Catalog, Fail> {
     let mut catalog = Catalog::new(alloc);
-    for text in TABLES {
-        create(alloc, &mut catalog, text)?;
-    }
-    distribute(alloc, &mut catalog, &Text::of_str(alloc, "t")?, None)?;
-    distribute(alloc, &mut catalog, &Text::of_str(alloc, "a")?, None)?;
-    distribute(alloc, &mut catalog, &Text::of_str(alloc, "b")?, None)?;
-    catalog.reference(&Text::of_str(alloc, "r")?)?;
-    distribute(alloc, &mut catalog, &Text::of_str(alloc, "c")?, Some(3))?;
-    distribute(alloc, &mut catalog, &Text::of_str(alloc, "n")?, Some(2))?;
+    fill(alloc, &mut catalog)?;
     Ok(catalog)
 }
