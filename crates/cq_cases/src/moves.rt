@@ -219,7 +219,27 @@ fn expect_told<R: Abort>(rt: &R, log: &RunLog<FaultStore>) {
     }
 }
 
-/// Runs the script, and gives whether a store failed. Then the stores hold what they do where the statements that didn't fail run alone.
+/// Whether a store failed. Then the retired ones are told of, and the stores hold what they do where the statements that didn't fail run alone.
+fn has_failed<R: Threads + Wait + Sync + Abort>(
+    rt: &R,
+    alloc: Global,
+    log: &RunLog<FaultStore>,
+    stores: &mut Vec<FaultStore>,
+    failing: Failing,
+) -> Result<bool, Fail> {
+    let retired = log.retired.len() > 0;
+    if !retired && !stores.iter().any(|store| store.faults() > 0) {
+        return Ok(false);
+    }
+    expect_told(rt, log);
+    let script = done(alloc, log.answers.as_slice())?;
+    let alone = run_failing(rt, alloc, script, Failing { call: 0, ..failing })?;
+    let mut others = stores_in(alloc, alone.workers)?;
+    expect_same(rt, alloc, stores, &mut others)?;
+    Ok(true)
+}
+
+/// Runs the script, looks at what it left, and gives whether a store failed.
 fn fails<R: Threads + Wait + Sync + Abort>(
     rt: &R,
     alloc: Global,
@@ -227,16 +247,7 @@ fn fails<R: Threads + Wait + Sync + Abort>(
 ) -> Result<bool, Fail> {
     let outcome = run_failing(rt, alloc, script(alloc)?, failing)?;
     let mut stores = stores_in(alloc, outcome.workers)?;
-    let retired = outcome.log.retired.len() > 0;
-    if !retired && !stores.iter().any(|store| store.faults() > 0) {
-        return Ok(false);
-    }
-    expect_told(rt, &outcome.log);
-    let script = done(alloc, outcome.log.answers.as_slice())?;
-    let alone = run_failing(rt, alloc, script, Failing { call: 0, ..failing })?;
-    let mut others = stores_in(alloc, alone.workers)?;
-    expect_same(rt, alloc, &mut stores, &mut others)?;
-    Ok(true)
+    has_failed(rt, alloc, &outcome.log, &mut stores, failing)
 }
 
 #[test]

@@ -1,6 +1,6 @@
 //! A run over a source, a sink and stores of which listed calls fail.
 
-ghost use Rattle.std.specs.Prelude.{IfOk, ◌<◌, ◌^◌};
+ghost use Rattle.std.specs.Prelude.{IfOk};
 ghost use Rattle.cq_cluster.specs.Cluster.{AreIdle, IsWaiting};
 ghost use Rattle.cq_store.specs.Faults.{held};
 
@@ -39,11 +39,10 @@ fn fails_of(alloc: Global, node: u32, failing: u32, calls: &[u64]) -> Result<Vec
 /// So many workers of a few stores; of each store of one node the listed calls fail.
 pub fn failing_workers(
     alloc: Global,
-    count: u32,
+    count: u16,
     failing: u32,
     calls: &[u64],
 ) -> Result<Vec<Worker<FaultStore>>, AllocError>
-    requires { count < 2 ^ 16 }
     ensures { IfOk result (λ workers. AreIdle held workers.items) }
 {
     let make = |node: u32| -> Result<FaultStore, AllocError>
@@ -52,7 +51,7 @@ pub fn failing_workers(
         let fails = fails_of(alloc, node, failing, calls)?;
         Ok(FaultStore::new(alloc, node, fails))
     };
-    make_workers(alloc, count, 8, &make)
+    make_workers(alloc, u32::from(count), 8, &make)
 }
 
 /// Runs a source's script over the workers. The journals are written at the end.
@@ -83,4 +82,18 @@ pub fn run_script<R: Threads + Wait + Sync>(
         log,
         workers,
     })
+}
+
+/// What `run_script` came to, without its log and its workers: how the run ended, and what it wrote.
+pub fn run_written<R: Threads + Wait + Sync>(
+    rt: &R,
+    alloc: Global,
+    workers: Vec<Worker<FaultStore>>,
+    source: MemSource,
+    sink: MemSink,
+) -> Result<(Status, Vec<u8>), AllocError>
+    requires idle { AreIdle held workers.items }
+{
+    let ran = run_script(rt, alloc, workers, source, sink)?;
+    Ok((ran.status, ran.written))
 }

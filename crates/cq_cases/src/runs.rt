@@ -1,7 +1,7 @@
 //! Scripts over stores of which calls fail, and over too few workers and one too many, with what is written worked out by hand: the
 //! answers, and behind them the journals.
 
-use crate::running::{failing_workers, run_script};
+use crate::running::{failing_workers, run_written};
 use cq_script::{MemSink, MemSource};
 use cq_top::Status;
 use std::alloc::Global;
@@ -99,16 +99,11 @@ const ONE: Case = Case {
 /// The run leaves what it must.
 fn pass<R: Threads + Wait + Sync + Abort>(rt: &R, alloc: Global, case: Case) -> Result<(), Fail> {
     let script = case.script.to_vec(alloc)?;
-    let workers = failing_workers(alloc, u32::from(case.workers), case.failing, case.calls)?;
+    let workers = failing_workers(alloc, case.workers, case.failing, case.calls)?;
     let source = MemSource::new(script, Vec::new(alloc));
-    let ran = run_script(
-        rt,
-        alloc,
-        workers,
-        source,
-        MemSink::new(alloc, Vec::new(alloc)),
-    )?;
-    assert!(rt; ran.status == case.status && ran.written.as_slice() == case.written);
+    let sink = MemSink::new(alloc, Vec::new(alloc));
+    let (status, written) = run_written(rt, alloc, workers, source, sink)?;
+    assert!(rt; status == case.status && written.as_slice() == case.written);
     Ok(())
 }
 

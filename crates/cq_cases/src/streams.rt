@@ -1,6 +1,6 @@
 //! Each call of a source, and each of a sink, fails in turn: what is written is the beginning of what is written where none fails.
 
-use crate::running::{Outcome, failing_workers, run_script};
+use crate::running::{failing_workers, run_written};
 use cq_script::{MemSink, MemSource};
 use cq_top::Status;
 use std::alloc::{AllocError, Global};
@@ -50,13 +50,13 @@ fn run_failing<R: Threads + Wait + Sync>(
     alloc: Global,
     failing: Side,
     call: u64,
-) -> Result<Outcome, AllocError> {
+) -> Result<(Status, Vec<u8>), AllocError> {
     let takes = listed(alloc, failing, Side::Source, call)?;
     let puts = listed(alloc, failing, Side::Sink, call)?;
     let script = script(alloc)?;
     let workers = failing_workers(alloc, 2, 0, &[])?;
-    let (source, sink) = (MemSource::new(script, takes), MemSink::new(alloc, puts));
-    run_script(rt, alloc, workers, source, sink)
+    let source = MemSource::new(script, takes);
+    run_written(rt, alloc, workers, source, MemSink::new(alloc, puts))
 }
 
 /// The status of a run with a side's call that failed, and the answers that were written.
@@ -75,13 +75,13 @@ fn calls_fail<R: Threads + Wait + Sync + Abort>(
     whole: &[u8],
 ) -> Result<(), Fail> {
     for call in 1..MOST_CALLS {
-        let ran = run_failing(rt, alloc, failing, call)?;
-        if ran.status == Status::Done {
-            assert!(rt; ran.written.as_slice() == whole);
+        let (status, written) = run_failing(rt, alloc, failing, call)?;
+        if status == Status::Done {
+            assert!(rt; written.as_slice() == whole);
             return Ok(());
         }
-        let (status, answers) = cut_off(failing, ran.written.as_slice()).ok_or("another end")?;
-        assert!(rt; ran.status == status && whole.starts_with(answers));
+        let (wanted, answers) = cut_off(failing, written.as_slice()).ok_or("another end")?;
+        assert!(rt; status == wanted && whole.starts_with(answers));
     }
     Err(Fail::from("there are more calls"))
 }
@@ -89,8 +89,8 @@ fn calls_fail<R: Threads + Wait + Sync + Abort>(
 #[test]
 fn streams_fail(rt: HostRuntime) -> Result<(), Fail> {
     let alloc = rt.alloc();
-    let whole = run_failing(&rt, alloc, Side::Source, 0)?;
-    assert!(&rt; whole.status == Status::Done);
-    calls_fail(&rt, alloc, Side::Source, whole.written.as_slice())?;
-    calls_fail(&rt, alloc, Side::Sink, whole.written.as_slice())
+    let (status, whole) = run_failing(&rt, alloc, Side::Source, 0)?;
+    assert!(&rt; status == Status::Done);
+    calls_fail(&rt, alloc, Side::Source, whole.as_slice())?;
+    calls_fail(&rt, alloc, Side::Sink, whole.as_slice())
 }
