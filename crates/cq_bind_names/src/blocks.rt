@@ -7,10 +7,10 @@ ghost use Rattle.cq_bind_names.specs.Blocks.{entered, left, query_from, block_fr
 
 use crate::memory::{both, small};
 use crate::same::{type_of, width_of};
+use cq_copies::CopyTree;
 use cq_reading::{
     BindError, Block, Bound, Found, Limited, Ordered, Output, Outputs, Relations, Shown,
 };
-use cq_copies::CopyTree;
 use cq_tree::{Aggs, Cond, Expr, Exprs, Keys, Queries, Query};
 use cq_value::{Names, NoMemory, Value};
 use std::alloc::Global;

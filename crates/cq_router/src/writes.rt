@@ -5,9 +5,9 @@ ghost use Rattle.cq_router.specs.Piles.{as_part, part_by};
 
 use crate::insertion::{Part, Parts, Pile, divide, home_of, parts_by, put_part};
 use cq_catalog::{Catalog, Place};
+use cq_copies::CopyTree;
 use cq_plan::groups_of_where;
 use cq_relations::place_of;
-use cq_copies::CopyTree;
 use cq_tree::ShardOp;
 use cq_value::{NoMemory, Rows};
 use std::alloc::Global;
