@@ -49,7 +49,8 @@ fn ascend(groups: &[u32], low: u32, bound: u32) -> bool
 {
     match groups {
         [] => true,
-        [group, others @ ..] => low <= *group && (*group < bound && ascend(others, *group + 1, bound)),
+        [group, others @ ..] => low <= *group
+            && (*group < bound && ascend(others, *group + 1, bound)),
     }
 }
 
