@@ -121,7 +121,10 @@ impl Numbered {
                 self.next = id + 1;
                 Ok(())
             }
-            Change::Put(id, row) => pages::put(&mut self.pages, id, row),
+            Change::Put(id, row) => {
+                pages::put(&mut self.pages, id, row)?;
+                Ok(())
+            }
             Change::Drop(id) => {
                 pages::remove(&mut self.pages, id)?;
                 self.count -= 1;
@@ -130,13 +133,13 @@ impl Numbered {
         }
     }
 
-    /// Applies copies of changes, in order.
-    pub fn apply_all(&mut self, changes: &Changes) -> Result<(), NoMemory>
-        requires { Fit self.old changes.now }
-        ensures { OnOk result (self.new ≡ applied self.old changes.now) }
+    /// Applies changes in order.
+    pub fn apply_all(&mut self, changes: Changes) -> Result<(), NoMemory>
+        requires { Fit self.old changes }
+        ensures { OnOk result (self.new ≡ applied self.old changes) }
     {
-        for change in changes.as_slice() {
-            self.apply(change.copy(self.alloc)?)?;
+        for change in changes.into_vec() {
+            self.apply(change)?;
         }
         Ok(())
     }

@@ -105,6 +105,19 @@ pub(crate) fn add(
     }
 }
 
+/// The place of an id's page, and its place there.
+fn place_in(pages: &[Page], id: u64) -> (usize, usize)
+    requires laid { AreLaid pages.now }
+    requires there { has (pairs_of pages.now) id ≡ true }
+    ensures page { result.0 < length pages.now }
+    ensures row { result.1 < length (slice_index_or pages.now result.0 []) }
+    ensures here { (slice_index_or (slice_index_or pages.now result.0 []) result.1 (0, [])).0 ≡ id }
+    ensures stands { Stands pages.now id result.0 }
+{
+    let place = page_place(pages, id);
+    (place, spot(pages[place].pairs(), id))
+}
+
 /// Puts another row under an id.
 pub(crate) fn put(pages: &mut Vec<Page>, id: u64, row: Row) -> Result<(), NoMemory>
     requires laid { AreLaid pages.old.items }
@@ -113,12 +126,11 @@ pub(crate) fn put(pages: &mut Vec<Page>, id: u64, row: Row) -> Result<(), NoMemo
     ensures err { OnErr result (pages.new.items ≡ pages.old.items) }
     ensures full { AllByRecursion IsPage pages.new.items }
 {
-    let place = page_place(pages, id);
-    let spot = spot(pages[place].pairs(), id);
+    let (place, spot) = place_in(pages, id);
     pages[place].set(spot, id, row)
 }
 
-/// Takes an id's row out, and the page that has no other.
+/// Takes an id's row out, and its page where that has no other.
 pub(crate) fn remove(pages: &mut Vec<Page>, id: u64) -> Result<(), NoMemory>
     requires laid { AreLaid pages.old.items }
     requires there { has (pairs_of pages.old.items) id ≡ true }
@@ -126,11 +138,10 @@ pub(crate) fn remove(pages: &mut Vec<Page>, id: u64) -> Result<(), NoMemory>
     ensures err { OnErr result (pages.new.items ≡ pages.old.items) }
     ensures full { AllByRecursion IsPage pages.new.items }
 {
-    let place = page_place(pages, id);
+    let (place, spot) = place_in(pages, id);
     if pages[place].pairs().len() == 1 {
         pages.remove(place);
         return Ok(());
     }
-    let spot = spot(pages[place].pairs(), id);
     pages[place].remove(spot)
 }

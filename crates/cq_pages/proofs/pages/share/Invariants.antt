@@ -2,4 +2,4 @@ use Rattle.std.proofs.Common.{◌≡◌, take}
 use Rattle.cq_pages.proofs.pages.share.Given as goal
 
 abbrev pub invariant-loop-page : goal.invariant-loop-page
-invariant-loop-page l = l.shared.items ≡ take l.page-index l.page-items
+invariant-loop-page l = l.shared.items ≡ take l.page-index l.pages
