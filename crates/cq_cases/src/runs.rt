@@ -276,9 +276,11 @@ fn entries(alloc: Global, log: &RunLog) -> Result<Vec<Noted>, AllocError> {
 fn put_rows(store: &mut BoxedStore, all: &mut Vec<Held>) -> Result<(), Fail> {
     let (node, shard) = (store.node(), store.shard());
     let rows = store.scan()?;
-    for (_, row) in rows.pairs() {
-        if let [Value::Int(key), Value::Int(value)] = row.as_slice() {
-            all.push((node, shard, *key, *value))?;
+    for page in rows.pages() {
+        for (_, row) in page.pairs() {
+            if let [Value::Int(key), Value::Int(value)] = row.as_slice() {
+                all.push((node, shard, *key, *value))?;
+            }
         }
     }
     Ok(())

@@ -1,7 +1,8 @@
 //! A log that is applied to a table.
 
 use crate::log::ChangeLog;
-use cq_value::{Change, NoMemory, Numbered, Row, Value};
+use cq_pages::Numbered;
+use cq_value::{Change, NoMemory, Row, Value};
 use std::alloc::Global;
 use std::test::Fail;
 
