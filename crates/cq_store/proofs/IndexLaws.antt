@@ -350,28 +350,56 @@ page_more (page ∷ pages) (suc i) d l =
     rw one (ap (λ ps. page ++ ps) (page_more pages i d (omega (arith, l))) ∙ sym (append_assoc page (pairs_of (take i pages)) (get_or pages i d)))
 
 -- a page among the last ones of all
-pub page_among : (ps before : List Pair) (pages : List (List Pair)) (i : ℕ) (d : List Pair) → ps ≡ before ++ pairs_of pages → i < length pages →
+page_among : (ps before : List Pair) (pages : List (List Pair)) (i : ℕ) (d : List Pair) → ps ≡ before ++ pairs_of pages → i < length pages →
     ps ≡ (before ++ pairs_of (take i pages)) ++ get_or pages i d ++ pairs_of (drop (i + 1) pages)
 page_among ps before pages i d e l =
     e ∙ ap (λ qs. before ++ qs) (page_at pages i d l)
     ∙ sym (append_assoc before (pairs_of (take i pages)) (get_or pages i d ++ pairs_of (drop (i + 1) pages)))
     ∙ sym (append_assoc (before ++ pairs_of (take i pages)) (get_or pages i d) (pairs_of (drop (i + 1) pages)))
 
-pub page_next : (P : Pair → Type 0) (before : List Pair) (pages : List (List Pair)) (i : ℕ) (d : List Pair) → i < length pages →
+page_next : (P : Pair → Type 0) (before : List Pair) (pages : List (List Pair)) (i : ℕ) (d : List Pair) → i < length pages →
     AllByRecursion P ((before ++ pairs_of (take i pages)) ++ get_or pages i d) → AllByRecursion P (before ++ pairs_of (take (i + 1) pages))
 page_next P before pages i d l all =
     subst (λ ps. AllByRecursion P ps) (append_assoc before (pairs_of (take i pages)) (get_or pages i d) ∙ ap (λ ps. before ++ ps) (sym (page_more pages i d l))) all
 
-pub page_stands : (ps before page after : List Pair) (next upto : ℕ) → ps ≡ before ++ page ++ after → IsAscending ps next → AllByRecursion (λ (p : Pair). p.0 < upto) before → StandsIn page upto before after
+page_stands : (ps before page after : List Pair) (next upto : ℕ) → ps ≡ before ++ page ++ after → IsAscending ps next → AllByRecursion (λ (p : Pair). p.0 < upto) before → StandsIn page upto before after
 page_stands ps before page after next upto e up low = record { next = next; up = subst (λ qs. IsAscending qs next) e up; below = low }
 
 -- the ids of a page are below the next id
-pub page_fits : (before page after : List Pair) (next : ℕ) → IsAscending (before ++ page ++ after) next → next < 18446744073709551616 → All (λ (p : Pair). p.0 + 1 < 18446744073709551616) page
+page_fits : (before page after : List Pair) (next : ℕ) → IsAscending (before ++ page ++ after) next → next < 18446744073709551616 → All (λ (p : Pair). p.0 + 1 < 18446744073709551616) page
 page_fits before page after next up range = All-from_recursion (λ (p : Pair). p.0 + 1 < 18446744073709551616) page (fits page (ascending_right before page next (ascending_left (before ++ page) after next up)))
   where
     fits : (qs : List Pair) → IsAscending qs next → AllByRecursion (λ (p : Pair). p.0 + 1 < 18446744073709551616) qs
     fits [] h = tt
     fits (q ∷ qs) h = (omega (arith, h.0, range), fits qs h.2)
+
+catch_at : (ps before page : List Pair) (items : List (List Pair)) (i : ℕ) (d : List Pair) → ps ≡ before ++ pairs_of items → i < length items → page ≡ get_or items i d →
+    ps ≡ (before ++ pairs_of (take i items)) ++ page ++ pairs_of (drop (i + 1) items)
+catch_at ps before page items i d whole l is = subst (λ qs. ps ≡ (before ++ pairs_of (take i items)) ++ qs ++ pairs_of (drop (i + 1) items)) (sym is) (page_among ps before items i d whole l)
+
+-- the next page is gone through
+pub holds_next : (ps before page : List Pair) (items : List (List Pair)) (i next : ℕ) (d : List Pair) (index new : Index) → ps ≡ before ++ pairs_of items → i < length items → page ≡ get_or items i d →
+    IsAscending ps next → AllByRecursion (λ (p : Pair). p.0 < index.upto) (before ++ pairs_of (take i items)) → GoesOn index new page → Holds index ps → Holds new ps
+holds_next ps before page items i next d index new whole l is up low goes holds =
+    let e = catch_at ps before page items i d whole l is in
+    let b = before ++ pairs_of (take i items) in
+    let a = pairs_of (drop (i + 1) items) in
+    subst (λ qs. Holds new qs) (sym e) (goes b a (page_stands ps b page a next index.upto e up low) (subst (λ qs. Holds index qs) e holds))
+
+pub low_next : (ps before page : List Pair) (items : List (List Pair)) (i next : ℕ) (d : List Pair) (index new : Index) → ps ≡ before ++ pairs_of items → i < length items → page ≡ get_or items i d →
+    IsAscending ps next → AllByRecursion (λ (p : Pair). p.0 < index.upto) (before ++ pairs_of (take i items)) → AllBelow index new page page →
+    AllByRecursion (λ (p : Pair). p.0 < new.upto) (before ++ pairs_of (take (i + 1) items))
+low_next ps before page items i next d index new whole l is up low all =
+    let e = catch_at ps before page items i d whole l is in
+    let b = before ++ pairs_of (take i items) in
+    let a = pairs_of (drop (i + 1) items) in
+    page_next (λ (p : Pair). p.0 < new.upto) before items i d l
+    (subst (λ qs. AllByRecursion (λ (p : Pair). p.0 < new.upto) (b ++ qs)) is (all b a (page_stands ps b page a next index.upto e up low)))
+
+pub fits_next : (ps before page : List Pair) (items : List (List Pair)) (i next : ℕ) (d : List Pair) → ps ≡ before ++ pairs_of items → i < length items → page ≡ get_or items i d →
+    IsAscending ps next → next < 18446744073709551616 → All (λ (p : Pair). p.0 + 1 < 18446744073709551616) page
+fits_next ps before page items i next d whole l is up range =
+    page_fits (before ++ pairs_of (take i items)) page (pairs_of (drop (i + 1) items)) next (subst (λ qs. IsAscending qs next) (catch_at ps before page items i d whole l is) up) range
 
 -- a test of the rows, page by page
 pub any_pages : (q : Pair → Bool) (pages : List (List Pair)) → list_any (λ page. list_any q page) pages ≡ list_any q (pairs_of pages)

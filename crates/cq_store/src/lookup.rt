@@ -114,11 +114,23 @@ fn is_in_page(page: &[(u64, Row)], wanted: &[(u32, Value)]) -> bool
     page.iter().any(|(_, row)| has_wanted(row, wanted))
 }
 
+/// Whether one of the pages has a row with each of these values.
+fn is_in_pages(pages: &[Page], wanted: &[(u32, Value)]) -> bool
+    ensures { result ≡ list_any (λ page. list_any (λ p. has_values wanted.now p.1) page) pages.now }
+{
+    for page in pages {
+        if is_in_page(page.pairs(), wanted) {
+            return true;
+        }
+    }
+    false
+}
+
 /// Whether one of the rows has each of these values. Each row is looked at.
 pub(crate) fn is_there(pages: &[Page], wanted: &[(u32, Value)]) -> bool
     ensures { result ≡ list_any (λ p. has_values wanted.now p.1) (pairs_of pages.now) }
 {
-    pages.iter().any(|page| is_in_page(page.pairs(), wanted))
+    is_in_pages(pages, wanted)
 }
 
 /// Whether the row with an id has each of these values.
