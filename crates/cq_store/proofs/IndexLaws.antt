@@ -1,5 +1,5 @@
 -- What an index names: all rows that have the values which are looked for, in order, also after rows came, changed and went.
-use Rattle.std.proofs.Common.{◌≡◌, ◌≢◌, ◌⊎◌, inl, inr, ℕ, zero, suc, ◌+◌, ◌%◌, ◌<◌, ◌≤◌, Bool, true, false, cond, not, ltb, nat_eq, ◌||◌, ◌&&◌, List, [], ◌∷◌, ◌++◌, take, drop, map, filter, length, append_assoc, append-nil, get_or, set, All, refl, sym, ap, ◌∙◌, ⊎_elim, arith, subst, zero-le, ltb-true, ltb-false, eq-eqb, ne_eqb, le_refl, le_of_lt, eq-or-lt_of_le, Equal}
+use Rattle.std.proofs.Common.{◌≡◌, ◌≢◌, ◌⊎◌, inl, inr, ℕ, zero, suc, ◌+◌, ◌%◌, ◌<◌, ◌≤◌, Bool, true, false, cond, not, ltb, nat_eq, ◌||◌, List, [], ◌∷◌, ◌++◌, take, drop, map, filter, length, append_assoc, append-nil, get_or, set, All, refl, sym, ap, ◌∙◌, ⊎_elim, arith, subst, zero-le, ltb-true, ltb-false, eq-eqb, ne_eqb, le_refl, le_of_lt, eq-or-lt_of_le, Equal}
 use Rattle.std.specs.List.{AllByRecursion, list_any, list_all, fold, flat_map}
 use Rattle.std.specs.Ordering.{is_eq}
 use Rattle.std.specs.declared.cmp.Ordering.{Ordering}
