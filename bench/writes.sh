@@ -1,6 +1,7 @@
 #!/bin/sh
 # How long writes of several rows and shards take, and joins of one tenant, over 4 shards, in citus_run, sqlite3 and psql: INSERTs of a row
-# of each tenant, UPDATEs and DELETEs of one row by its key and of all rows of a tenant, and joins of a tenant's rows among themselves.
+# of each tenant, UPDATEs and DELETEs of one row by its key, UPDATEs of all rows of a tenant, an UPDATE and a DELETE of half of all rows, and joins of a
+# tenant's rows among themselves.
 # Usage: bench/writes.sh [tenants, 20 if left out] [rows of each, 500 if left out]
 set -eu
 top=$(cd "$(dirname "$0")/.." && pwd)
@@ -28,6 +29,7 @@ awk -v tenants="$tenants" -v rows="$rows" 'BEGIN {
 for_each 400 'UPDATE orders SET amount = amount + 1 WHERE tenant = %d AND id = %d' >"$work/updates"
 for_each 10 'UPDATE orders SET amount = amount + 1 WHERE tenant = %d AND id >= %d' >"$work/wide_updates"
 for_each 400 'DELETE FROM orders WHERE tenant = %d AND id = %d' >"$work/deletes"
+printf 'UPDATE orders SET amount = amount + 1 WHERE id > %d;\nDELETE FROM orders WHERE id <= %d;\n' $((rows / 2)) $((rows / 2)) >"$work/halves"
 for_each 400 'SELECT a.amount, b.customer FROM orders a JOIN orders b ON b.tenant = a.tenant AND b.id = a.id WHERE a.tenant = %d AND a.id = %d' \
     >"$work/joins"
 
@@ -36,4 +38,5 @@ compare "INSERTs of $tenants rows" "$work/nothing" "$work/inserts"
 compare 'UPDATEs by the key' "$work/inserts" "$work/updates"
 compare 'UPDATEs of a tenant' "$work/inserts" "$work/wide_updates"
 compare 'DELETEs by the key' "$work/inserts" "$work/deletes"
+compare 'an UPDATE and a DELETE of half' "$work/inserts" "$work/halves"
 compare 'joins of a tenant' "$work/inserts" "$work/joins"

@@ -169,8 +169,10 @@ fn kept(alloc: Global, stores: &mut Vec<FaultStore>, shard: u64) -> Result<Vec<P
     for store in stores.iter_mut() {
         if store.shard() == shard {
             let table = store.scan()?;
-            for (_, row) in table.pairs() {
-                rows.push(pair_of(row.as_slice())?)?;
+            for page in table.pages() {
+                for (_, row) in page.pairs() {
+                    rows.push(pair_of(row.as_slice())?)?;
+                }
             }
         }
     }

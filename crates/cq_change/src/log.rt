@@ -1,5 +1,5 @@
 ghost use Rattle.std.specs.Prelude.{◌≡◌, ◌<◌, ◌≤◌, ◌+◌, [], ◌∷◌, ◌++◌, length, IfOk, IsOk, OnOk};
-ghost use Rattle.cq_value.specs.Changes.{FitsOne, Fit, changed, applied};
+ghost use Rattle.cq_value.specs.Changes.{Fit, applied};
 ghost use Rattle.cq_change.specs.Logs.{changes_in, logged};
 
 use cq_pages::Numbered;
@@ -30,18 +30,6 @@ impl Model for ChangeLog {
     ghost Value = { Room TableChange };
 
     ghost view = { λ l. l.changes };
-}
-
-/// Makes a change in a table.
-fn apply_to(table: &mut Numbered, change: Change) -> Result<(), NoMemory>
-    requires { FitsOne table.old change }
-    ensures { OnOk result (table.new ≡ changed table.old change) }
-{
-    match change {
-        Change::Add(id, row) => table.add(id, row),
-        Change::Put(id, row) => table.put(id, row),
-        Change::Drop(id) => table.remove(id),
-    }
 }
 
 impl ChangeLog {
@@ -121,9 +109,7 @@ impl ChangeLog {
         ensures { IfOk result (λ after. after ≡ applied rows (changes_in table self.now.list)) }
     {
         let mut rows = rows;
-        for change in self.changes_of(table)?.into_vec() {
-            apply_to(&mut rows, change)?;
-        }
+        rows.apply_all(self.changes_of(table)?)?;
         Ok(rows)
     }
 }

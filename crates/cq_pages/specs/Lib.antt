@@ -1,1 +1,1 @@
-pub mod Roomy
+pub mod Pages

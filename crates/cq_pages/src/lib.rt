@@ -1,8 +1,9 @@
-//! Numbered tables.
+//! Numbered tables whose rows stand in pages, which tables share.
 #![tactic(auto)]
 
 mod numbered;
-mod reserved_table;
+mod page;
+mod pages;
 
 pub use numbered::Numbered;
-pub use reserved_table::ReservedTable;
+pub use page::Page;

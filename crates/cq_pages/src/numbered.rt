@@ -1,133 +1,146 @@
-ghost use Rattle.std.specs.Prelude.{◌≡◌, ◌<◌, ◌≤◌, ◌+◌, ◌^◌, [], true, length, slice_index_or, IfOk, IsOk, OnOk, OnErr};
-ghost use Rattle.cq_value.specs.Changes.{has_id};
-ghost use Rattle.cq_value.specs.Tables.{IsAscending, empty_table, with_row, with_new_row, without_row};
+ghost use Rattle.std.specs.Prelude.{◌≡◌, ◌≤◌, [], ◌∷◌, length, MatchOption, IfOk, OnOk, OnErr};
+ghost use Rattle.cq_value.specs.Changes.{FitsOne, Fit, changed, applied};
+ghost use Rattle.cq_value.specs.Tables.{IsAscending, empty_table};
+ghost use Rattle.cq_pages.specs.Pages.{pairs_of, named, EndsWith};
 
-use crate::reserved_table::ReservedTable;
-use cq_value::{NoMemory, Row};
+use crate::page::Page;
+use crate::pages;
+use cq_value::{Change, Changes, NoMemory, Row};
 use std::alloc::Global;
 use std::marker::Model;
 
-/// A numbered table: rows with ids, which ascend and are below the next id.
+/// A numbered table: rows with ids, which ascend and are below the next id. The rows stand in pages of at most 64, which tables
+/// share until one of them changes.
 #[derive(Debug, Drop)]
 pub struct Numbered {
-    inner: ReservedTable,
+    alloc: Global,
+    next: u64,
+    count: u64,
+    pages: Vec<Page>,
 }
 
 impl Model for Numbered {
-    ghost use Rattle.cq_value.specs.Tables.{Table};
+    ghost use Rattle.std.specs.Prelude.{◌≡◌, length};
+    ghost use Rattle.std.specs.List.{AllByRecursion};
+    ghost use Rattle.cq_value.specs.Tables.{Table, IsAscending};
+    ghost use Rattle.cq_pages.specs.Pages.{pairs_of, IsPage};
 
     ghost Value = { Table };
 
-    ghost view = { λ t. t.inner.table };
+    ghost view = { λ t. record { next = t.next; pairs = pairs_of t.pages.items } };
+
+    ghost invariant = { λ t. IsAscending (pairs_of t.pages.items) t.next × AllByRecursion IsPage t.pages.items × (t.count ≡ length (pairs_of t.pages.items)) };
 }
 
 impl Numbered {
-    /// No rows, and the next id 0.
+    /// No rows, and the next id 0. Takes no memory.
     pub fn new(alloc: Global) -> Numbered
         ensures { result ≡ empty_table }
     {
         Numbered {
-            inner: ReservedTable::new(alloc),
+            alloc,
+            next: 0,
+            count: 0,
+            pages: Vec::new(alloc),
         }
-    }
-
-    /// The same table, whose room contracts no longer see.
-    pub fn from_reserved(inner: ReservedTable) -> Numbered
-        ensures { result ≡ inner.table }
-    {
-        Numbered { inner }
     }
 
     /// The next id.
     pub fn next(&self) -> u64
         ensures { result ≡ self.now.next }
     {
-        self.inner.next()
+        self.next
     }
 
     /// How many rows there are.
     pub fn len(&self) -> u64
         ensures { result ≡ length self.now.pairs }
     {
-        self.inner.len()
+        self.count
     }
 
-    /// The ids with their rows, in order.
-    pub fn pairs(&self) -> &[(u64, Row)]
-        ensures { result.now ≡ self.now.pairs }
+    /// The pages, in order.
+    pub fn pages(&self) -> &[Page]
+        ensures { pairs_of result.now ≡ self.now.pairs }
     {
-        self.inner.pairs()
+        &self.pages
     }
 
-    /// The id at a place, from 0.
-    pub fn id(&self, place: u64) -> u64
-        requires { place < length self.now.pairs }
-        ensures { result ≡ (slice_index_or self.now.pairs place (0, [])).0 }
+    /// The pages from one on, before which all ids are below an id.
+    pub fn pages_from(&self, id: u64) -> &[Page]
+        ensures { EndsWith self.now.pairs id (pairs_of result.now) }
     {
-        self.inner.pairs()[place as usize].0
+        pages::pages_from(&self.pages, id)
     }
 
-    /// The row at a place, from 0.
-    pub fn row(&self, place: u64) -> &Row
-        requires { place < length self.now.pairs }
-        ensures { result.now ≡ (slice_index_or self.now.pairs place (0, [])).1 }
+    /// The row with an id, with its id.
+    pub fn find(&self, id: u64) -> Option<&(u64, Row)>
+        ensures { MatchOption result (named id self.now.pairs ≡ []) (λ p. named id self.now.pairs ≡ p.now ∷ []) }
     {
-        &self.inner.pairs()[place as usize].1
+        pages::find(&self.pages, id)
     }
 
     /// What the ids promise: they ascend, and are below the next id. Does nothing.
     pub fn ids_ascend(&self)
         ensures { IsAscending self.now.pairs self.now.next }
     {
-        self.inner.ids_ascend();
+        let _ = &self.next;
     }
 
-    /// An equal table.
-    pub fn copy(&self, alloc: Global) -> Result<Numbered, NoMemory>
+    /// An equal table, of the same pages. Copies no row.
+    pub fn share(&self) -> Result<Numbered, NoMemory>
         ensures { IfOk result (λ t. t ≡ self.now) }
     {
-        self.inner.copy(alloc)
+        let pages = pages::share(&self.pages, self.alloc)?;
+        Ok(Numbered {
+            alloc: self.alloc,
+            next: self.next,
+            count: self.count,
+            pages,
+        })
     }
 
-    /// Sets the next id, which doesn't fall.
+    /// Sets the next id, which doesn't fall. Takes no memory.
     pub fn raise(&mut self, next: u64)
         requires { self.old.next ≤ next }
         ensures { self.new ≡ record { next = next; pairs = self.old.pairs } }
     {
-        self.inner.raise(next);
+        self.next = next;
     }
 
-    /// Puts a row last under a new id. The next id is the one after it.
-    pub fn add(&mut self, id: u64, row: Row) -> Result<(), NoMemory>
-        requires fresh { self.old.next ≤ id }
-        requires fits { id + 1 < 2 ^ 64 }
-        ensures ok { OnOk result (self.new ≡ with_row self.old id row) }
+    /// Applies a change. Only a page that changes and has other owners is copied.
+    pub fn apply(&mut self, change: Change) -> Result<(), NoMemory>
+        requires { FitsOne self.old change }
+        ensures ok { OnOk result (self.new ≡ changed self.old change) }
         ensures err { OnErr result (self.new ≡ self.old) }
     {
-        self.inner.reserve(1)?;
-        self.inner.add(id, row);
-        Ok(())
+        match change {
+            Change::Add(id, row) => {
+                pages::add(self.alloc, &mut self.pages, id, row)?;
+                self.count += 1;
+                self.next = id + 1;
+                Ok(())
+            }
+            Change::Put(id, row) => {
+                pages::put(&mut self.pages, id, row)?;
+                Ok(())
+            }
+            Change::Drop(id) => {
+                pages::remove(&mut self.pages, id)?;
+                self.count -= 1;
+                Ok(())
+            }
+        }
     }
 
-    /// Puts another row under an id. Takes no memory, and so succeeds.
-    pub fn put(&mut self, id: u64, row: Row) -> Result<(), NoMemory>
-        requires { has_id self.old id ≡ true }
-        ensures succeeds { IsOk result }
-        ensures ok { OnOk result (self.new ≡ with_new_row self.old id row) }
-        ensures err { OnErr result (self.new ≡ self.old) }
+    /// Applies changes in order.
+    pub fn apply_all(&mut self, changes: Changes) -> Result<(), NoMemory>
+        requires { Fit self.old changes }
+        ensures { OnOk result (self.new ≡ applied self.old changes) }
     {
-        self.inner.put(id, row);
-        Ok(())
-    }
-
-    /// Takes an id's row out. Takes no memory, and so succeeds.
-    pub fn remove(&mut self, id: u64) -> Result<(), NoMemory>
-        requires { has_id self.old id ≡ true }
-        ensures succeeds { IsOk result }
-        ensures ok { OnOk result (self.new ≡ without_row self.old id) }
-        ensures err { OnErr result (self.new ≡ self.old) }
-    {
-        self.inner.remove(id);
+        for change in changes.into_vec() {
+            self.apply(change)?;
+        }
         Ok(())
     }
 }

@@ -1,5 +1,5 @@
 -- What an index names: all rows that have the values which are looked for, in order, also after rows came, changed and went.
-use Rattle.std.proofs.Common.{◌≡◌, ◌≢◌, ◌⊎◌, inl, inr, ℕ, zero, suc, ◌+◌, ◌%◌, ◌<◌, ◌≤◌, Bool, true, false, cond, not, ltb, nat_eq, ◌||◌, ◌&&◌, List, [], ◌∷◌, ◌++◌, take, map, filter, length, get_or, set, All, refl, sym, ap, ◌∙◌, ⊎_elim, arith, subst, zero-le, ltb-true, ltb-false, eq-eqb, ne_eqb, le_refl, le_of_lt, eq-or-lt_of_le, Equal}
+use Rattle.std.proofs.Common.{◌≡◌, ◌≢◌, ◌⊎◌, inl, inr, ℕ, zero, suc, ◌+◌, ◌%◌, ◌<◌, ◌≤◌, Bool, true, false, cond, not, ltb, nat_eq, ◌||◌, List, [], ◌∷◌, ◌++◌, take, drop, map, filter, length, append_assoc, append-nil, get_or, set, All, refl, sym, ap, ◌∙◌, ⊎_elim, arith, subst, zero-le, ltb-true, ltb-false, eq-eqb, ne_eqb, le_refl, le_of_lt, eq-or-lt_of_le, Equal}
 use Rattle.std.specs.List.{AllByRecursion, list_any, list_all, fold, flat_map}
 use Rattle.std.specs.Ordering.{is_eq}
 use Rattle.std.specs.declared.cmp.Ordering.{Ordering}
@@ -15,10 +15,13 @@ use Rattle.cq_value.specs.declared.change.Change.{Change}
 use Rattle.cq_value.specs.Changes.{changed, applied}
 use Rattle.cq_value.specs.Tables.{Pair, Table, IsAscending, with_row, with_new_row, without_row}
 use Rattle.cq_value.proofs.OrderLaws.{value_cmp_same}
+use Rattle.cq_value.proofs.Lists.{all_more, all_weaker}
 use Rattle.cq_value.proofs.TableLaws.{rising}
+use Rattle.cq_pages.proofs.PageLaws.{ascending_left, ascending_right, page_at}
 use Rattle.cq_store.specs.declared.index.Index.{Index}
 use Rattle.cq_store.specs.Stores.{has_value, has_values}
-use Rattle.cq_store.specs.Indexes.{mixed, row_number, wanted_number, bucket, is_in, Rises, Holds, Covers, with_id, Notes, named, Splits}
+use Rattle.cq_pages.specs.Pages.{pairs_of, named, Splits}
+use Rattle.cq_store.specs.Indexes.{mixed, row_number, wanted_number, bucket, is_in, Rises, Holds, Covers, with_id, Notes, StandsIn, GoesOn, AllBelow}
 
 -- values that are found make the number of the row that has them
 equal : (o : Ordering) → is_eq o ≡ true → o ≡ Equal
@@ -50,45 +53,6 @@ below_at n (p ∷ ps) h = (h 0 p zero-le (omega arith), below_at n ps (λ k d z 
 raised : (m n : ℕ) (ps : List Pair) → AllByRecursion (λ (q : Pair). n < q.0) ps → m ≤ n → AllByRecursion (λ (q : Pair). m < q.0) ps
 raised m n [] h le = tt
 raised m n (p ∷ ps) h le = (omega (arith, h.0, le), raised m n ps h.1 le)
-
-split_rest : (p : Pair) (ps : List Pair) (id place : ℕ) → Splits (p ∷ ps) id (suc place) → Splits ps id place
-split_rest p ps id place s = record {
-  within = omega (arith, s.within);
-  below = λ k d lt. s.below (suc k) d (omega (arith, lt));
-  above = λ k d le l. s.above (suc k) d (omega (arith, le)) (omega (arith, l));
-}
-
--- the row at the place where the ids below an id end is the one with the id, if there is one
-pub named_here : (ps : List Pair) (next id place : ℕ) (d : Pair) → IsAscending ps next → Splits ps id place → place < length ps → (get_or ps place d).0 ≡ id →
-    named id ps ≡ get_or ps place d ∷ []
-named_here [] next id place d h s within here = absurd (omega (arith, within))
-named_here (p ∷ ps) next id zero d h s within here =
-    rw (eq-eqb p.0 id here) (ap (λ qs. p ∷ qs) (none_named id ps (subst (λ n. AllByRecursion (λ (q : Pair). n < q.0) ps) here h.1)))
-named_here (p ∷ ps) next id (suc place) d h s within here =
-    let e : nat_eq p.0 id ≡ false = ne_eqb p.0 id (λ e. absurd (omega (arith, s.below 0 p (omega arith), e))) in
-    rw e (named_here ps next id place d h.2 (split_rest p ps id place s) (omega (arith, within)) here)
-
-pub none_here : (ps : List Pair) (next id place : ℕ) → IsAscending ps next → Splits ps id place → ((d : Pair) → place < length ps → (get_or ps place d).0 ≢ id) →
-    named id ps ≡ []
-none_here [] next id place h s other = refl
-none_here (p ∷ ps) next id zero h s other =
-    let up : id ≤ p.0 = s.above 0 p zero-le (omega arith) in
-    let ne : p.0 ≢ id = other p (omega arith) in
-    let lt : id < p.0 = ⊎_elim (λ same. absurd (ne (sym same))) (λ l. l) (eq-or-lt_of_le up) in
-    none_named id (p ∷ ps) (lt, raised id p.0 ps h.1 (le_of_lt lt))
-none_here (p ∷ ps) next id (suc place) h s other =
-    let e : nat_eq p.0 id ≡ false = ne_eqb p.0 id (λ e. absurd (omega (arith, s.below 0 p (omega arith), e))) in
-    rw e (none_here ps next id place h.2 (split_rest p ps id place s) (λ d l. other d (omega (arith, l))))
-
--- the same of the row that was read there
-pub found_here : (ps : List Pair) (next id place : ℕ) (p : Pair) → IsAscending ps next → Splits ps id place → place < length ps → p ≡ get_or ps place p → p.0 ≡ id →
-    named id ps ≡ p ∷ []
-found_here ps next id place p h s within read here = named_here ps next id place p h s within (ap (λ (q : Pair). q.0) (sym read) ∙ here) ∙ ap (λ q. q ∷ []) (sym read)
-
-pub other_here : (ps : List Pair) (next id place : ℕ) (p : Pair) → IsAscending ps next → Splits ps id place → place < length ps → p ≡ get_or ps place p → p.0 ≢ id →
-    named id ps ≡ []
-other_here ps next id place p h s within read other =
-    none_here ps next id place h s (λ d l e. other (ap (λ (q : Pair). q.0) (read ∙ get_or_default ps place p d within) ∙ e))
 
 -- the rows with ids that ascend, one id after the other, are the rows whose id is among them
 not_in : (n m : ℕ) (ids : List ℕ) → AllByRecursion (λ i. n < i) ids → m ≤ n → is_in ids m ≡ false
@@ -306,27 +270,144 @@ holds_more index ps next place p up h some s within read =
           (λ ne. rw (get_or-set_other index.buckets b k ids d ne) (rises_up (get_or index.buckets k d) index.upto (p.0 + 1) (h.rises k d l') (omega (arith, above)))) (same_or_not k b);
     }
 
--- after it the ids below its next end one place further
-pub splits_more : (ps : List Pair) (next upto place : ℕ) (p : Pair) → IsAscending ps next → Splits ps upto place → place < length ps → p ≡ get_or ps place p → Splits ps (p.0 + 1) (place + 1)
-splits_more ps next upto place p up s within read =
-    let here : (d : Pair) → p ≡ get_or ps place d = λ d. read ∙ get_or_default ps place p d within in
-    let high : upto ≤ p.0 = subst (λ (q : Pair). upto ≤ q.0) (sym read) (s.above place p (le_refl place) within) in
-    record {
-      within = omega (arith, within);
-      below = λ k d lt. ⊎_elim (λ before. let low = s.below k d before in omega (arith, low, high))
-          (λ after. let e : k ≡ place = omega (arith, after, lt) in let same : (get_or ps k d).0 ≡ p.0 = ap (λ j. (get_or ps j d).0) e ∙ ap (λ (q : Pair). q.0) (sym (here d)) in omega (arith, same))
-          (order k place);
-      above = λ k d le l. let rise : (get_or ps place d).0 < (get_or ps k d).0 = rising ps next place k d up (omega (arith, le)) l in
-          let same : p.0 ≡ (get_or ps place d).0 = ap (λ (q : Pair). q.0) (here d) in omega (arith, rise, same);
-    }
-
-pub below_next : (ps : List Pair) (next place : ℕ) (p : Pair) → IsAscending ps next → place < length ps → p ≡ get_or ps place p → p.0 < next
-below_next ps next place p up within read = subst (λ (q : Pair). q.0 < next) (sym read) (at ps place up within)
+-- where the ids below a bound end, in two parts
+splits_here : (ps : List Pair) (p : Pair) (qs : List Pair) (next upto : ℕ) → IsAscending (ps ++ p ∷ qs) next → AllByRecursion (λ (q : Pair). q.0 < upto) ps → upto ≤ p.0 → Splits (ps ++ p ∷ qs) upto (length ps)
+splits_here [] p qs next upto up low high = record {
+  within = zero-le;
+  below = λ k d lt. absurd (omega (arith, lt));
+  above = λ k d le l. later k d l;
+}
   where
-    at : (qs : List Pair) (k : ℕ) → IsAscending qs next → k < length qs → (get_or qs k p).0 < next
-    at [] k h l = absurd (omega (arith, l))
-    at (q ∷ qs) zero h l = h.0
-    at (q ∷ qs) (suc k) h l = at qs k h.2 (omega (arith, l))
+    later : (k : ℕ) (d : Pair) → k < length (p ∷ qs) → upto ≤ (get_or (p ∷ qs) k d).0
+    later zero d l = high
+    later (suc k) d l = let lt : p.0 < (get_or qs k d).0 = rising (p ∷ qs) next 0 (suc k) d up (omega arith) l in omega (arith, lt, high)
+splits_here (a ∷ ps) p qs next upto up low high =
+    let rest = splits_here ps p qs next upto up.2 low.1 high in
+    record { within = omega (arith, rest.within); below = earlier rest; above = later rest }
+  where
+    earlier : Splits (ps ++ p ∷ qs) upto (length ps) → (k : ℕ) (d : Pair) → k < length (a ∷ ps) → (get_or (a ∷ (ps ++ p ∷ qs)) k d).0 < upto
+    earlier s zero d lt = low.0
+    earlier s (suc k) d lt = s.below k d (omega (arith, lt))
+    later : Splits (ps ++ p ∷ qs) upto (length ps) → (k : ℕ) (d : Pair) → length (a ∷ ps) ≤ k → k < length (a ∷ (ps ++ p ∷ qs)) → upto ≤ (get_or (a ∷ (ps ++ p ∷ qs)) k d).0
+    later s zero d le l = absurd (omega (arith, le))
+    later s (suc k) d le l = s.above k d (omega (arith, le)) (omega (arith, l))
+
+here : (ps : List Pair) (p : Pair) (qs : List Pair) (d : Pair) → (length ps < length (ps ++ p ∷ qs)) × (p ≡ get_or (ps ++ p ∷ qs) (length ps) d)
+here [] p qs d = (omega arith, refl)
+here (a ∷ ps) p qs d = let rest = here ps p qs d in (omega (arith, rest.0), rest.1)
+
+page_parts : (page : List Pair) (i : ℕ) (p : Pair) → i < length page → p ≡ get_or page i p → (page ≡ take i page ++ p ∷ drop (i + 1) page) × (take (i + 1) page ≡ take i page ++ p ∷ [])
+page_parts [] i p l read = absurd (omega (arith, l))
+page_parts (q ∷ page) zero p l read = (ap (λ r. r ∷ page) (sym read), ap (λ r. r ∷ []) (sym read))
+page_parts (q ∷ page) (suc i) p l read =
+    let one : suc i + 1 ≡ suc (i + 1) = omega arith in
+    let rest = page_parts page i p (omega (arith, l)) read in
+    rw one (ap (λ ps. q ∷ ps) rest.0, ap (λ ps. q ∷ ps) rest.1)
+
+-- a page among all pairs, in two parts
+all_parts : (before page after : List Pair) (i : ℕ) (p : Pair) → i < length page → p ≡ get_or page i p →
+    before ++ page ++ after ≡ (before ++ take i page) ++ p ∷ (drop (i + 1) page ++ after)
+all_parts before page after i p l read =
+    ap (λ ps. before ++ ps ++ after) (page_parts page i p l read).0
+    ∙ ap (λ ps. ps ++ after) (sym (append_assoc before (take i page) (p ∷ drop (i + 1) page)))
+    ∙ append_assoc (before ++ take i page) (p ∷ drop (i + 1) page) after
+
+low_more : (upto : ℕ) (before page : List Pair) (i : ℕ) (p : Pair) → i < length page → p ≡ get_or page i p → AllByRecursion (λ (q : Pair). q.0 < upto) (before ++ take i page) → p.0 < upto →
+    AllByRecursion (λ (q : Pair). q.0 < upto) (before ++ take (i + 1) page)
+low_more upto before page i p l read low lt =
+    subst (λ ps. AllByRecursion (λ (q : Pair). q.0 < upto) ps) (append_assoc before (take i page) (p ∷ []) ∙ ap (λ ps. before ++ ps) (sym (page_parts page i p l read).1))
+    (all_more (λ (q : Pair). q.0 < upto) (before ++ take i page) p low lt)
+
+-- a row of a page that is named already
+pub page_passed : (old index : Index) (page : List Pair) (i : ℕ) (p : Pair) → i < length page → p ≡ get_or page i p → AllBelow old index page (take i page) → p.0 < index.upto → AllBelow old index page (take (i + 1) page)
+page_passed old index page i p l read low lt before after s = low_more index.upto before page i p l read (low before after s) lt
+
+-- and one that is named now
+pub page_named : (old index : Index) (page : List Pair) (i : ℕ) (p : Pair) → i < length page → p ≡ get_or page i p → 0 < length index.buckets → index.upto ≤ p.0 →
+    GoesOn old index page → AllBelow old index page (take i page) → GoesOn old (with_id index p.0 p.1) page
+page_named old index page i p l read some high goes low before after s holds =
+    let e = all_parts before page after i p l read in
+    let ps = before ++ take i page in
+    let qs = drop (i + 1) page ++ after in
+    let up : IsAscending (ps ++ p ∷ qs) s.next = subst (λ rs. IsAscending rs s.next) e s.up in
+    let there = here ps p qs p in
+    subst (λ rs. Holds (with_id index p.0 p.1) rs) (sym e)
+    (holds_more index (ps ++ p ∷ qs) s.next (length ps) p up (subst (λ rs. Holds index rs) e (goes before after s holds)) some
+    (splits_here ps p qs s.next index.upto up (low before after s) high) there.0 there.1)
+
+pub page_goes_on : (old index : Index) (page : List Pair) (i : ℕ) (p : Pair) → i < length page → p ≡ get_or page i p → index.upto ≤ p.0 → AllBelow old index page (take i page) →
+    AllBelow old (with_id index p.0 p.1) page (take (i + 1) page)
+page_goes_on old index page i p l read high low before after s =
+    low_more (p.0 + 1) before page i p l read (all_weaker (λ (q : Pair). q.0 < index.upto) (λ (q : Pair). q.0 < p.0 + 1) (λ q lt. omega (arith, lt, high)) (before ++ take i page) (low before after s)) (omega arith)
+
+-- ---- all pages
+
+page_more : (pages : List (List Pair)) (i : ℕ) (d : List Pair) → i < length pages → pairs_of (take (i + 1) pages) ≡ pairs_of (take i pages) ++ get_or pages i d
+page_more [] i d l = absurd (omega (arith, l))
+page_more (page ∷ pages) zero d l = append-nil page
+page_more (page ∷ pages) (suc i) d l =
+    let one : suc i + 1 ≡ suc (i + 1) = omega arith in
+    rw one (ap (λ ps. page ++ ps) (page_more pages i d (omega (arith, l))) ∙ sym (append_assoc page (pairs_of (take i pages)) (get_or pages i d)))
+
+-- a page among the last ones of all
+page_among : (ps before : List Pair) (pages : List (List Pair)) (i : ℕ) (d : List Pair) → ps ≡ before ++ pairs_of pages → i < length pages →
+    ps ≡ (before ++ pairs_of (take i pages)) ++ get_or pages i d ++ pairs_of (drop (i + 1) pages)
+page_among ps before pages i d e l =
+    e ∙ ap (λ qs. before ++ qs) (page_at pages i d l)
+    ∙ sym (append_assoc before (pairs_of (take i pages)) (get_or pages i d ++ pairs_of (drop (i + 1) pages)))
+    ∙ sym (append_assoc (before ++ pairs_of (take i pages)) (get_or pages i d) (pairs_of (drop (i + 1) pages)))
+
+page_next : (P : Pair → Type 0) (before : List Pair) (pages : List (List Pair)) (i : ℕ) (d : List Pair) → i < length pages →
+    AllByRecursion P ((before ++ pairs_of (take i pages)) ++ get_or pages i d) → AllByRecursion P (before ++ pairs_of (take (i + 1) pages))
+page_next P before pages i d l all =
+    subst (λ ps. AllByRecursion P ps) (append_assoc before (pairs_of (take i pages)) (get_or pages i d) ∙ ap (λ ps. before ++ ps) (sym (page_more pages i d l))) all
+
+page_stands : (ps before page after : List Pair) (next upto : ℕ) → ps ≡ before ++ page ++ after → IsAscending ps next → AllByRecursion (λ (p : Pair). p.0 < upto) before → StandsIn page upto before after
+page_stands ps before page after next upto e up low = record { next = next; up = subst (λ qs. IsAscending qs next) e up; below = low }
+
+-- the ids of a page are below the next id
+page_fits : (before page after : List Pair) (next : ℕ) → IsAscending (before ++ page ++ after) next → next < 18446744073709551616 → All (λ (p : Pair). p.0 + 1 < 18446744073709551616) page
+page_fits before page after next up range = All-from_recursion (λ (p : Pair). p.0 + 1 < 18446744073709551616) page (fits page (ascending_right before page next (ascending_left (before ++ page) after next up)))
+  where
+    fits : (qs : List Pair) → IsAscending qs next → AllByRecursion (λ (p : Pair). p.0 + 1 < 18446744073709551616) qs
+    fits [] h = tt
+    fits (q ∷ qs) h = (omega (arith, h.0, range), fits qs h.2)
+
+catch_at : (ps before page : List Pair) (items : List (List Pair)) (i : ℕ) (d : List Pair) → ps ≡ before ++ pairs_of items → i < length items → page ≡ get_or items i d →
+    ps ≡ (before ++ pairs_of (take i items)) ++ page ++ pairs_of (drop (i + 1) items)
+catch_at ps before page items i d whole l is = subst (λ qs. ps ≡ (before ++ pairs_of (take i items)) ++ qs ++ pairs_of (drop (i + 1) items)) (sym is) (page_among ps before items i d whole l)
+
+-- the next page is gone through
+pub holds_next : (ps before page : List Pair) (items : List (List Pair)) (i next : ℕ) (d : List Pair) (index new : Index) → ps ≡ before ++ pairs_of items → i < length items → page ≡ get_or items i d →
+    IsAscending ps next → AllByRecursion (λ (p : Pair). p.0 < index.upto) (before ++ pairs_of (take i items)) → GoesOn index new page → Holds index ps → Holds new ps
+holds_next ps before page items i next d index new whole l is up low goes holds =
+    let e = catch_at ps before page items i d whole l is in
+    let b = before ++ pairs_of (take i items) in
+    let a = pairs_of (drop (i + 1) items) in
+    subst (λ qs. Holds new qs) (sym e) (goes b a (page_stands ps b page a next index.upto e up low) (subst (λ qs. Holds index qs) e holds))
+
+pub low_next : (ps before page : List Pair) (items : List (List Pair)) (i next : ℕ) (d : List Pair) (index new : Index) → ps ≡ before ++ pairs_of items → i < length items → page ≡ get_or items i d →
+    IsAscending ps next → AllByRecursion (λ (p : Pair). p.0 < index.upto) (before ++ pairs_of (take i items)) → AllBelow index new page page →
+    AllByRecursion (λ (p : Pair). p.0 < new.upto) (before ++ pairs_of (take (i + 1) items))
+low_next ps before page items i next d index new whole l is up low all =
+    let e = catch_at ps before page items i d whole l is in
+    let b = before ++ pairs_of (take i items) in
+    let a = pairs_of (drop (i + 1) items) in
+    page_next (λ (p : Pair). p.0 < new.upto) before items i d l
+    (subst (λ qs. AllByRecursion (λ (p : Pair). p.0 < new.upto) (b ++ qs)) is (all b a (page_stands ps b page a next index.upto e up low)))
+
+pub fits_next : (ps before page : List Pair) (items : List (List Pair)) (i next : ℕ) (d : List Pair) → ps ≡ before ++ pairs_of items → i < length items → page ≡ get_or items i d →
+    IsAscending ps next → next < 18446744073709551616 → All (λ (p : Pair). p.0 + 1 < 18446744073709551616) page
+fits_next ps before page items i next d whole l is up range =
+    page_fits (before ++ pairs_of (take i items)) page (pairs_of (drop (i + 1) items)) next (subst (λ qs. IsAscending qs next) (catch_at ps before page items i d whole l is) up) range
+
+-- a test of the rows, page by page
+pub any_pages : (q : Pair → Bool) (pages : List (List Pair)) → list_any (λ page. list_any q page) pages ≡ list_any q (pairs_of pages)
+any_pages q [] = refl
+any_pages q (page ∷ pages) = ap (λ b. list_any q page || b) (any_pages q pages) ∙ sym (list_any-append q page (pairs_of pages))
+
+pub filter_more : (q : Pair → Bool) (pages : List (List Pair)) (i : ℕ) (d : List Pair) → i < length pages → filter q (pairs_of (take (i + 1) pages)) ≡ filter q (pairs_of (take i pages)) ++ filter q (get_or pages i d)
+filter_more q pages i d l = ap (λ ps. filter q ps) (page_more pages i d l) ∙ filter-append q (pairs_of (take i pages)) (get_or pages i d)
 
 -- changes one after the other
 pub notes_none : (index : Index) → Notes index index []

@@ -1,5 +1,5 @@
 -- An index of rows by their values in chosen columns: ids in buckets, each row's in the bucket of a number that its values make.
-use Rattle.std.specs.Prelude.{◌≡◌, ◌<◌, ◌≤◌, ◌+◌, ◌*◌, ◌%◌, ◌^◌, ⊤, ℕ, Bool, true, List, [], ◌∷◌, ◌++◌, fold, filter, length, map, nat_eq, slice_index_or, slice_set}
+use Rattle.std.specs.Prelude.{◌≡◌, ◌<◌, ◌+◌, ◌*◌, ◌%◌, ◌^◌, ⊤, ℕ, Bool, true, List, [], ◌∷◌, ◌++◌, fold, length, map, nat_eq, slice_index_or, slice_set}
 use Rattle.std.specs.List.{All, AllByRecursion, list_any}
 use Rattle.std.specs.Int.{w32, cast_unsigned}
 use Rattle.cq_value.specs.declared.value.Value.{Value}
@@ -7,7 +7,7 @@ use Rattle.cq_value.specs.declared.value.Value.TheVariants.{Null}
 use Rattle.cq_value.specs.Placement.{token_of}
 use Rattle.cq_value.specs.declared.change.Change.{Change}
 use Rattle.cq_value.specs.Changes.{applied}
-use Rattle.cq_value.specs.Tables.{Pair, Table}
+use Rattle.cq_value.specs.Tables.{Pair, Table, IsAscending}
 use Rattle.cq_store.specs.declared.index.Index.{Index}
 use Rattle.cq_store.specs.declared.indexes.Indexes.{Indexes}
 
@@ -65,12 +65,16 @@ pub record HoldAll (indexes : Indexes) (pairs : List Pair) : Type 0 where
 abbrev pub NoteAll : Indexes → Indexes → List Change → Type 0
 NoteAll before after changes = (t : Table) → HoldAll before t.pairs → HoldAll after (applied t changes).pairs
 
--- the rows with an id
-abbrev pub named : ℕ → List Pair → List Pair
-named id pairs = filter (λ (p : Pair). nat_eq p.0 id) pairs
+-- a page among all pairs, whose ids ascend and before which all ids are below a bound
+pub record StandsIn (page : List Pair) (upto : ℕ) (before after : List Pair) : Type 0 where
+  pub next : ℕ
+  pub up : IsAscending (before ++ page ++ after) next
+  pub below : AllByRecursion (λ (p : Pair). p.0 < upto) before
 
--- where the ids below one end
-pub record Splits (pairs : List Pair) (id : ℕ) (place : ℕ) : Type 0 where
-  pub within : place ≤ length pairs
-  pub below : (k : ℕ) (d : Pair) → k < place → (slice_index_or pairs k d).0 < id
-  pub above : (k : ℕ) (d : Pair) → place ≤ k → k < length pairs → id ≤ (slice_index_or pairs k d).0
+-- what held of all pairs before a page was gone through holds after it
+abbrev pub GoesOn : Index → Index → List Pair → Type 0
+GoesOn old new page = (before after : List Pair) → StandsIn page old.upto before after → Holds old (before ++ page ++ after) → Holds new (before ++ page ++ after)
+
+-- the bound is then above the ids before the page and above those of its first rows
+abbrev pub AllBelow : Index → Index → List Pair → List Pair → Type 0
+AllBelow old new page done = (before after : List Pair) → StandsIn page old.upto before after → AllByRecursion (λ (p : Pair). p.0 < new.upto) (before ++ done)

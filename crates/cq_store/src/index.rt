@@ -2,11 +2,11 @@ ghost use Rattle.std.specs.Prelude.{◌≡◌, ◌<◌, ◌+◌, ◌^◌, [], �
 ghost use Rattle.std.specs.List.{All};
 ghost use Rattle.cq_value.specs.declared.value.Value.{Value};
 ghost use Rattle.cq_value.specs.Tables.{Pair};
-ghost use Rattle.cq_store.specs.Indexes.{row_number as number_of_row, wanted_number as number_of_wanted, bucket, is_in, Holds, Covers, with_id, Notes};
+ghost use Rattle.cq_store.specs.Indexes.{row_number as number_of_row, wanted_number as number_of_wanted, bucket, is_in, Holds, Covers, with_id, Notes, GoesOn, AllBelow};
 
-use crate::finding::{finds, place_of};
+use crate::finding::finds;
 use crate::numbers::{row_number, wanted_number};
-use cq_pages::ReservedTable;
+use cq_pages::Numbered;
 use cq_value::{Change, Changes, Items, NoMemory, Positions, Row, Value};
 use std::alloc::Global;
 
@@ -140,24 +140,37 @@ impl Index {
         Ok(())
     }
 
-    /// Names the rows from the bound on.
-    fn catch_up(&mut self, rows: &ReservedTable) -> Result<(), NoMemory>
-        requires holds { Holds self.old rows.now.table.pairs }
+    /// Names the rows of a page from the bound on: of pairs whose ids ascend, before which all ids are below the bound.
+    fn add_page(&mut self, page: &[(u64, Row)]) -> Result<(), NoMemory>
         requires some { 0 < length self.old.buckets }
-        ensures holds { Holds self.new rows.now.table.pairs }
+        requires fits { All (λ (p : Pair). p.0 + 1 < 2 ^ 64) page.now }
+        ensures holds { GoesOn self.old self.new page.now }
         ensures columns { self.new.columns ≡ self.old.columns }
         ensures some { length self.new.buckets ≡ length self.old.buckets }
-        ensures all { OnOk result (All (λ (p : Pair). p.0 < self.new.upto) rows.now.table.pairs) }
+        ensures all { OnOk result (AllBelow self.old self.new page.now page.now) }
+    {
+        for (id, row) in page {
+            if *id >= self.upto {
+                self.add(*id, row)?;
+            }
+        }
+        Ok(())
+    }
+
+    /// Names the rows from the bound on.
+    fn catch_up(&mut self, rows: &Numbered) -> Result<(), NoMemory>
+        requires holds { Holds self.old rows.now.pairs }
+        requires some { 0 < length self.old.buckets }
+        ensures holds { Holds self.new rows.now.pairs }
+        ensures columns { self.new.columns ≡ self.old.columns }
+        ensures some { length self.new.buckets ≡ length self.old.buckets }
+        ensures all { OnOk result (All (λ (p : Pair). p.0 < self.new.upto) rows.now.pairs) }
     {
         rows.ids_ascend();
         // The next id bounds the ids, so that there is one above each.
         let _next = rows.next();
-        let pairs = rows.pairs();
-        let mut place = place_of(rows, self.upto);
-        while place < pairs.len() {
-            let pair = &pairs[place];
-            self.add(pair.0, &pair.1)?;
-            place += 1;
+        for page in rows.pages_from(self.upto) {
+            self.add_page(page.pairs())?;
         }
         Ok(())
     }
@@ -166,7 +179,7 @@ impl Index {
     fn renew(
         &mut self,
         alloc: Global,
-        rows: &ReservedTable,
+        rows: &Numbered,
         wanted: &[(u32, Value)],
     ) -> Result<(), NoMemory>
         requires { self.old.columns ≡ map (λ (p : ℕ × Value). p.0) wanted.now }
@@ -204,12 +217,12 @@ impl Index {
     pub(crate) fn cover(
         &mut self,
         alloc: Global,
-        rows: &ReservedTable,
+        rows: &Numbered,
         wanted: &[(u32, Value)],
     ) -> bool
-        requires { Holds self.old rows.now.table.pairs }
-        ensures holds { Holds self.new rows.now.table.pairs }
-        ensures covers { result ≡ true → Covers self.new wanted.now rows.now.table.pairs }
+        requires { Holds self.old rows.now.pairs }
+        ensures holds { Holds self.new rows.now.pairs }
+        ensures covers { result ≡ true → Covers self.new wanted.now rows.now.pairs }
     {
         if !self.is_of(wanted) {
             self.start(alloc, wanted);

@@ -3,7 +3,7 @@ ghost use Rattle.cq_value.specs.Tables.{Pair};
 ghost use Rattle.cq_store.specs.Indexes.{Covers, HoldAll, NoteAll};
 
 use crate::index::Index;
-use cq_pages::ReservedTable;
+use cq_pages::Numbered;
 use cq_value::{Changes, Value};
 use std::alloc::Global;
 use std::mem;
@@ -54,12 +54,12 @@ impl Indexes {
     pub(crate) fn cover(
         &mut self,
         alloc: Global,
-        rows: &ReservedTable,
+        rows: &Numbered,
         wanted: &[(u32, Value)],
     ) -> bool
-        requires { HoldAll self.old rows.now.table.pairs }
-        ensures hold { HoldAll self.new rows.now.table.pairs }
-        ensures covers { result ≡ true → Covers self.new.first wanted.now rows.now.table.pairs }
+        requires { HoldAll self.old rows.now.pairs }
+        ensures hold { HoldAll self.new rows.now.pairs }
+        ensures covers { result ≡ true → Covers self.new.first wanted.now rows.now.pairs }
     {
         if rows.len() < 16 || wanted.is_empty() {
             return false;

@@ -1,52 +1,39 @@
 ghost use Rattle.std.specs.Prelude.{◌≡◌, [], filter, IfOk, OnOk, OnErr};
 ghost use Rattle.cq_value.specs.Changes.{Fit};
-ghost use Rattle.cq_pages.specs.Roomy.{adds_in};
 ghost use Rattle.cq_store.specs.Stores.{has_values, meets_one, meets_any, steady_spare};
 
 use crate::indexes::Indexes;
 use crate::lookup::{copy_matches, copy_named, is_named, is_there, key_values};
 use crate::store::{ColumnValues, Pairs, Store, StoreError};
-use cq_pages::{Numbered, ReservedTable};
-use cq_value::{Change, Changes, Duplicate, NoMemory, Positions, Row, Rows};
+use cq_pages::Numbered;
+use cq_value::{Changes, Duplicate, NoMemory, Positions, Row, Rows};
 use std::alloc::Global;
 use std::marker::Model;
-use std::mem;
 
-/// A store in memory, which never fails. While changes are staged its table has room for the rows that they add, so that
-/// a commit takes no memory. Rows are found by indexes of the columns that were looked for last.
+/// A store in memory, which never fails. While changes are staged it has the table that they make, which shares the pages that
+/// stay, so that a commit takes no memory. Rows are found by indexes of the columns that were looked for last.
 #[derive(Drop)]
 pub struct MemStore {
     alloc: Global,
     node: u32,
     shard: u64,
-    rows: ReservedTable,
+    rows: Numbered,
     indexes: Indexes,
     staged: Changes,
+    built: Option<Numbered>,
 }
 
 impl Model for MemStore {
-    ghost use Rattle.std.specs.Prelude.{◌≤◌, true};
-    ghost use Rattle.cq_value.specs.Changes.{Fit};
-    ghost use Rattle.cq_pages.specs.Roomy.{adds_in};
+    ghost use Rattle.std.specs.Prelude.{◌≡◌, [], true, MatchOption};
+    ghost use Rattle.cq_value.specs.Changes.{applied};
     ghost use Rattle.cq_store.specs.Indexes.{HoldAll};
     ghost use Rattle.cq_store.specs.Stores.{StoreState};
 
     ghost Value = { StoreState };
 
-    ghost view = { λ s. record { node = s.node; shard = s.shard; rows = s.rows.table; staged = s.staged; faults = 0; steady = true } };
+    ghost view = { λ s. record { node = s.node; shard = s.shard; rows = s.rows; staged = s.staged; faults = 0; steady = true } };
 
-    ghost invariant = { λ s. Fit s.rows.table s.staged × (adds_in s.staged ≤ s.rows.room) × HoldAll s.indexes s.rows.table.pairs };
-}
-
-/// How many of the changes add a row.
-fn count_adds(changes: &Changes) -> u64
-    ensures { result ≡ adds_in changes.now }
-{
-    changes
-        .as_slice()
-        .iter()
-        .filter(|change| matches!(change, Change::Add(..)))
-        .count() as u64
+    ghost invariant = { λ s. MatchOption s.built (s.staged ≡ []) (λ t. t ≡ applied s.rows s.staged) × HoldAll s.indexes s.rows.pairs };
 }
 
 impl MemStore {
@@ -58,17 +45,18 @@ impl MemStore {
             alloc,
             node,
             shard: 0,
-            rows: ReservedTable::new(alloc),
+            rows: Numbered::new(alloc),
             indexes: Indexes::new(alloc),
             staged: Changes::new(alloc),
+            built: None,
         }
     }
 
-    /// A copy of the rows, without the changes staged.
+    /// The rows, in the store's own pages, without the changes staged.
     pub(crate) fn read(&self) -> Result<Numbered, NoMemory>
         ensures { IfOk result (λ t. t ≡ self.now.rows) }
     {
-        self.rows.copy(self.alloc)
+        self.rows.share()
     }
 
     /// Copies of the rows that have each of these values, with their ids, in order, without the changes staged.
@@ -80,7 +68,7 @@ impl MemStore {
         if self.indexes.cover(self.alloc, &self.rows, wanted) {
             return copy_named(self.alloc, &self.rows, self.indexes.first(), wanted);
         }
-        copy_matches(self.alloc, self.rows.pairs(), wanted)
+        copy_matches(self.alloc, self.rows.pages(), wanted)
     }
 
     /// Whether a row has a row's values in the columns of a key, without the changes staged.
@@ -93,7 +81,7 @@ impl MemStore {
         if self.indexes.cover(self.alloc, &self.rows, wanted) {
             return Ok(is_named(&self.rows, self.indexes.first(), wanted));
         }
-        Ok(is_there(self.rows.pairs(), wanted))
+        Ok(is_there(self.rows.pages(), wanted))
     }
 
     /// Whether a row has the values of one of these rows in the columns of a key, without the changes staged.
@@ -109,7 +97,7 @@ impl MemStore {
         Ok(false)
     }
 
-    /// Stages a copy of changes, and makes room for the rows that they add.
+    /// Stages a copy of changes, and builds the table that they make.
     pub(crate) fn stage_copy(&mut self, changes: &Changes) -> Result<(), NoMemory>
         requires nothing { self.old.staged ≡ [] }
         requires fits { Fit self.old.rows changes.now }
@@ -117,8 +105,10 @@ impl MemStore {
         ensures err { OnErr result (self.new ≡ self.old) }
     {
         let staged = changes.copy(self.alloc)?;
-        self.rows.reserve(count_adds(changes))?;
+        let mut built = self.rows.share()?;
+        built.apply_all(changes.copy(self.alloc)?)?;
         self.staged = staged;
+        self.built = Some(built);
         Ok(())
     }
 }
@@ -161,19 +151,23 @@ impl Store for MemStore {
     }
 
     fn commit(&mut self) {
-        let staged = mem::replace(&mut self.staged, Changes::new(self.alloc));
-        self.indexes.note_all(self.alloc, &staged);
-        self.rows.apply_all(staged);
+        if let Some(built) = self.built.take() {
+            self.indexes.note_all(self.alloc, &self.staged);
+            self.rows = built;
+            self.staged = Changes::new(self.alloc);
+        }
     }
 
     fn discard(&mut self) {
         self.staged = Changes::new(self.alloc);
+        self.built = None;
     }
 
     fn release(&mut self) {
         self.shard = 0;
         self.staged = Changes::new(self.alloc);
-        self.rows = ReservedTable::new(self.alloc);
+        self.built = None;
+        self.rows = Numbered::new(self.alloc);
         self.indexes = Indexes::new(self.alloc);
     }
 }
