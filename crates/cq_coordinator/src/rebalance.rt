@@ -52,11 +52,11 @@ fn draft(alloc: Global, moves: Moves) -> Result<Plan, NoMemory>
     ensures moves { IfOk result (λ p. p.moves ≡ moves) }
     ensures rows { IfOk result (λ p. p.rows ≡ map zero_row moves) }
     ensures empty { IfOk result (λ p. p.room.list ≡ []) }
-    ensures room { IfOk result (λ p. length moves ≤ p.room.room) }
+    ensures room { IfOk result (λ p. length p.rows ≤ p.room.room) }
 {
     let rows = zero_rows(alloc, moves.as_slice())?;
     let mut room = Reserved::new(alloc);
-    room.reserve(moves.len())?;
+    room.reserve(rows.len())?;
     Ok(Plan { moves, rows, room })
 }
 
@@ -79,7 +79,7 @@ fn begin_moves<S: Store>(
     ensures begun { IfOk result (λ p. IsBegun S.state who by_size (journals_of_cluster cluster.old) (node_in cluster.old.groups.items) (sizes_in by_size cluster.old.catalog cluster.old.groups.items) cluster.new p.moves) }
     ensures rows { IfOk result (λ p. p.rows ≡ map zero_row p.moves) }
     ensures empty { IfOk result (λ p. p.room.list ≡ []) }
-    ensures room { IfOk result (λ p. length p.moves ≤ p.room.room) }
+    ensures room { IfOk result (λ p. length p.rows ≤ p.room.room) }
     ensures accounted { IfOk result (λ p. AccountsOn S.state who cluster.old cluster.new) }
     ensures failed { IfErr result (StopsPlan S.state by_size cluster.old.catalog cluster.old.nodes who cluster.old.groups.items cluster.new.groups.items) }
     ensures blamed { IfErr result (λ f. AccountsFailed S.state who f cluster.old cluster.new) }

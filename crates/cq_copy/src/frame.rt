@@ -44,7 +44,7 @@ fn with_value(values: Values, column: u32, value: Value) -> Values
 }
 
 /// The row, if no column is missing.
-fn complete(row: u64, absent: Option<u32>, values: Values) -> Result<Values, CopyError>
+fn complete(row: u64, absent: Option<u32>, values: Row) -> Result<Row, CopyError>
     ensures { result ≡ spec.complete row absent values }
 {
     match absent {
@@ -108,7 +108,6 @@ impl<'a> Frame<'a> {
             });
         }
         let values = self.filled(row, fields)?;
-        let values = complete(row, self.absent, values)?;
-        Ok(Row::shared(self.alloc, values)?)
+        complete(row, self.absent, Row::shared(self.alloc, values)?)
     }
 }

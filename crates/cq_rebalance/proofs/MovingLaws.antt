@@ -34,6 +34,10 @@ use Rattle.cq_rebalance.specs.Moving.{AreMade, HasStopped, IsBegun, zero_row}
 
 -- ---- rows
 
+length_made : (made : List Made) → length (map rebalance_row made ++ []) ≡ length (moves_of made)
+length_made [] = refl
+length_made (m ∷ made) = ap suc (length_made made)
+
 got_mid : {A : Type 0} (front : List A) (z : A) (back : List A) → slice_get (front ++ z ∷ back) (length front) ≡ Some z
 got_mid [] z back = refl
 got_mid (x ∷ front) z back = got_mid front z back
@@ -101,6 +105,9 @@ module _ {X : Type 0} (state : X → StoreState) (who : Who) (by_size : Bool) (s
   made_all n new table e so =
       subst (λ (v : List Move). AreMade state who by_size start old new v [] table) (ap (λ k. take k moves) e ∙ take_all moves)
       (subst (λ (v : List Move). AreMade state who by_size start old new (take n moves) v table) (ap (λ k. drop k moves) e ∙ drop_all moves) so)
+
+  pub rows_made : (new : Cluster X) (table : List Row) → AreMade state who by_size start old new moves [] table → length table ≡ length moves
+  rows_made new table so = ap length so.rows ∙ length_made so.made ∙ ap length so.all
 
   module _ (n : ℕ) (d : Move) (within : n < length moves) (mid : Cluster X) (table : List Row) (so : AreMade state who by_size start old mid (take n moves) (drop n moves) table) where
     abbrev next : Move

@@ -6,5 +6,5 @@ use Rattle.cq_bind.proofs.rows.value_of.Goals as goal
 
 pub eval-requires : goal.eval-requires
 eval-requires c =
-    subst (λ (row : Row). IsSafe c.args.e.now row c.new-in-Some.result) (sym c.new.ensures)
+    subst (λ (row : Row). IsSafe c.args.e.now row c.new-in-Some.result) (sym (c.from_values-row.ensures ∙ c.new.ensures))
     (subst (λ (results : Results). IsSafe c.args.e.now [] results) (sym c.new-in-Some.ensures) (c.width_laws.ensures.expressions [] [] [] c.args.e.now tt c.in-Some.ensures.1).0)

@@ -44,7 +44,7 @@ pub returns : goal.returns
 returns c =
     let rest : into_iter_items c.loop-pair.pair-iterator ≡ [] = ended c.loop-pair.pair-iterator c.in-None.ensures.steps.0 in
     let n = c.args.next - 1 in
-    let first : c.put-2.new.self ≡ c.loop-pair.changes ++ Add n [] ∷ [] = c.in_ok-put-2.ensures.ok ∙ ap (λ (row : List Value). c.loop-pair.changes ++ Add n row ∷ []) c.new.ensures in
+    let first : c.put-2.new.self ≡ c.loop-pair.changes ++ Add n [] ∷ [] = c.in_ok-put-2.ensures.ok ∙ ap (λ (row : List Value). c.loop-pair.changes ++ Add n row ∷ []) (c.from_values.ensures ∙ c.new.ensures) in
     let both : c.put-3.new.self ≡ (c.loop-pair.changes ++ Add n [] ∷ []) ++ Drop n ∷ [] = c.in_ok-put-3.ensures.ok ∙ ap (λ cs. cs ++ Drop n ∷ []) first in
     let all = raised_all c.loop-pair.changes c.loop-pair.made (into_iter_items c.loop-pair.pair-iterator) c.args.pairs c.args.next c.requires.few c.loop-pair.invariant rest c.if-made-next.false in
     subst (λ (cs : List Change). record { fit : Fit empty_table cs; gives : applied empty_table cs ≡ record { next = c.args.next; pairs = c.args.pairs } }) (sym both)

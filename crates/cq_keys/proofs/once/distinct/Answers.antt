@@ -16,8 +16,8 @@ loop-row-preserved-in_ok-put c =
       seen = λ q. c.in_ok-put_key.ensures.more q ∙ (rw (same, c.loop-row.invariant.seen q, c.in_ok-put.ensures.ok) (new_seen q.row row done));
     }
 
-pub loop-row-preserved : goal.loop-row-preserved
-loop-row-preserved c =
+pub loop-row-preserved-else-branch : goal.loop-row-preserved-else-branch
+loop-row-preserved-else-branch c =
     let done = c.loop-row.all in
     let row = c.in-Some.row in
     let same : c.in_ok-copy.field-0 ≡ row = search rules in
