@@ -15,7 +15,7 @@ use cq_grammar::{
     Count, Expr, From, GroupBy, Having, Item, Join, Kind, Name, OrderKey, Refusal, Relation, Rule,
     Select,
 };
-use cq_parse_calls::{Grammar, beside, direction_of, first_place};
+use cq_parse_calls::{Grammar, direction_of, first_place};
 use cq_parse_steps::{
     ALIASES, COLUMN_NAMES, DIRECTION_WORDS, INNER_WORDS, JOIN_WORDS, NAMES, Parser, list, many,
 };
@@ -140,7 +140,7 @@ impl<
         ensures { Reads (descent.output (descent.below self.now.grammar.left) parser.old) result parser.new }
     {
         let value = self.or_chain(parser)?;
-        let (value, name) = beside(value, behind_as(parser))?;
+        let name = behind_as(parser)?;
         Ok(Item::Value { value, name })
     }
 
@@ -215,7 +215,7 @@ impl<
         let word = parser.optional_the(Kind::Inner)?;
         let at = parser.the(Kind::Join)?;
         let relation = self.relation(parser)?;
-        let (relation, on) = beside(relation, self.on(parser))?;
+        let on = self.on(parser)?;
         Ok(Join::Inner {
             spelled: word.is_some(),
             relation,
@@ -233,7 +233,7 @@ impl<
         let word = parser.optional_the(Kind::Outer)?;
         parser.the(Kind::Join)?;
         let relation = self.relation(parser)?;
-        let (relation, on) = beside(relation, self.on(parser))?;
+        let on = self.on(parser)?;
         Ok(Join::Left {
             spelled: word.is_some(),
             relation,
@@ -282,7 +282,7 @@ impl<
         ensures { Reads (descent.from_item (descent.below self.now.grammar.left) parser.old) result parser.new }
     {
         let first = self.relation(parser)?;
-        let (first, joins) = beside(first, self.joins(parser))?;
+        let joins = self.joins(parser)?;
         Ok(From { first, joins })
     }
 
@@ -378,7 +378,7 @@ impl<
         ensures { Reads (descent.order_key (descent.below self.now.grammar.left) parser.old) result parser.new }
     {
         let key = self.or_chain(parser)?;
-        let (key, word) = beside(key, direction(parser))?;
+        let word = direction(parser)?;
         Ok(OrderKey {
             key,
             direction: word.map(|(word, _)| direction_of(word)),
@@ -486,7 +486,7 @@ impl<
     {
         let ((at, (distinct, items)), (from, filter)) = self.selection(parser)?;
         let (groups, having) = self.grouping(parser)?;
-        let (having, (order, (limit, offset))) = beside(having, self.ordering(parser))?;
+        let (order, (limit, offset)) = self.ordering(parser)?;
         Ok(Select {
             distinct: distinct.is_some(),
             items,

@@ -1,6 +1,7 @@
 //! The rules of expressions.
 
-ghost use Rattle.std.specs.Prelude.{◌≡◌, ◌+◌, ℕ, [], ◌∷◌, is_some};
+ghost use Rattle.std.specs.Prelude.{◌≡◌, ◌+◌, ℕ, [], ◌∷◌, is_some, IfOk, IfErr};
+ghost use Rattle.cq_grammar.specs.declared.error.Refusal.TheVariants.{Memory};
 ghost use Rattle.cq_grammar.specs.declared.kind.Kind.TheVariants as k;
 ghost use Rattle.cq_grammar.specs.Grammar.{Deeper, Tree, expr};
 ghost use Rattle.cq_grammar.specs.declared.rule.Rule.TheVariants.{Or as or_};
@@ -19,14 +20,21 @@ use cq_grammar::{
     Select, Test,
 };
 use cq_parse_calls::{
-    Grammar, add_operator, aggregate_function, beside, comparison_operator, first_place,
-    multiply_operator,
+    Grammar, add_operator, aggregate_function, comparison_operator, first_place, multiply_operator,
 };
 use cq_parse_steps::{
     ADD_SIGNS, AGGREGATE_WORDS, COLUMN_NAMES, COMPARISON_SIGNS, LITERALS, MULTIPLY_SIGNS, NAMES,
     Parser, TESTED_WORDS, list, many, several,
 };
 use cq_value::{Boxed, Items};
+
+/// The expression in a box of its own. The only error is want of memory.
+fn boxed(parser: &Parser<'_>, tree: Expr) -> Result<Boxed<Expr>, Refusal>
+    ensures ok { IfOk result (λ b. b ≡ tree) }
+    ensures err { IfErr result (λ e. e ≡ Memory) }
+{
+    Ok(Boxed::new(parser.alloc(), tree)?)
+}
 
 /// A number, a text between quotes, or NULL.
 #[tactic(auto, unfolding(cq_grammar::specs::Descent::literal))]
@@ -97,14 +105,22 @@ impl<
     F: Fn(&mut Parser<'_>, usize, Rule) -> Result<Expr, Refusal>,
     G: Fn(&mut Parser<'_>, usize) -> Result<Select, Refusal>,
 > Expressions<F, G> {
+    /// An expression inside a bracket or the like, in a box of its own.
+    fn inside(&self, parser: &mut Parser<'_>) -> Result<Boxed<Expr>, Refusal>
+        requires { Nests self.now.grammar.left (F.pre self.now.grammar.expr) (F.post self.now.grammar.expr) (G.pre self.now.grammar.select) (G.post self.now.grammar.select) }
+        ensures { Reads (descent.below self.now.grammar.left 1 (expr or_) parser.old) result parser.new }
+    {
+        let tree = self.grammar.inside(parser)?;
+        boxed(parser, tree)
+    }
+
     #[tactic(auto, unfolding(cq_grammar::specs::Descent::group))]
     fn group(&self, parser: &mut Parser<'_>) -> Result<Expr, Refusal>
         requires { Nests self.now.grammar.left (F.pre self.now.grammar.expr) (F.post self.now.grammar.expr) (G.pre self.now.grammar.select) (G.post self.now.grammar.select) }
         ensures { Reads (descent.group (descent.below self.now.grammar.left) parser.old) result parser.new }
     {
         let at = parser.the(Kind::Open)?;
-        let inner = self.grammar.inside(parser)?;
-        let inner = Boxed::new(parser.alloc(), inner)?;
+        let inner = self.inside(parser)?;
         parser.the(Kind::Close)?;
         Ok(Expr::Group { inner, at })
     }
@@ -116,8 +132,8 @@ impl<
     {
         parser.the(Kind::When)?;
         let condition = self.grammar.inside(parser)?;
-        let (condition, _) = beside(condition, parser.the(Kind::Then))?;
-        let (condition, result) = beside(condition, self.grammar.inside(parser))?;
+        parser.the(Kind::Then)?;
+        let result = self.grammar.inside(parser)?;
         Ok(Arm { condition, result })
     }
 
@@ -139,8 +155,8 @@ impl<
             return Ok(None);
         }
         parser.the(Kind::Else)?;
-        let otherwise = self.grammar.inside(parser)?;
-        Ok(Some(Boxed::new(parser.alloc(), otherwise)?))
+        let otherwise = self.inside(parser)?;
+        Ok(Some(otherwise))
     }
 
     #[tactic(auto, unfolding(cq_grammar::specs::Descent::case))]
@@ -191,8 +207,8 @@ impl<
             parser.the(Kind::Star)?;
             return Ok(None);
         }
-        let argument = self.grammar.inside(parser)?;
-        Ok(Some(Boxed::new(parser.alloc(), argument)?))
+        let argument = self.inside(parser)?;
+        Ok(Some(argument))
     }
 
     #[tactic(auto, unfolding(cq_grammar::specs::Descent::count))]
@@ -222,8 +238,7 @@ impl<
     {
         let (word, at) = parser.some_of(AGGREGATE_WORDS)?;
         parser.the(Kind::Open)?;
-        let argument = self.grammar.inside(parser)?;
-        let argument = Boxed::new(parser.alloc(), argument)?;
+        let argument = self.inside(parser)?;
         parser.the(Kind::Close)?;
         Ok(Expr::Aggregate {
             function: aggregate_function(word),
@@ -263,7 +278,7 @@ impl<
         let inner = self.grammar.lower(parser, 1, Rule::Unary)?;
         Ok(Expr::Signed {
             sign: add_operator(sign),
-            inner: Boxed::new(parser.alloc(), inner)?,
+            inner: boxed(parser, inner)?,
             at,
         })
     }
@@ -312,12 +327,12 @@ impl<
         ensures { Reads (descent.term (descent.below self.now.grammar.left) parser.old) result parser.new }
     {
         let first = self.unary(parser)?;
-        let (first, rest) = beside(first, self.factors(parser))?;
+        let rest = self.factors(parser)?;
         if rest.as_slice().is_empty() {
             return Ok(first);
         }
         Ok(Expr::Product {
-            first: Boxed::new(parser.alloc(), first)?,
+            first: boxed(parser, first)?,
             rest,
         })
     }
@@ -354,12 +369,12 @@ impl<
         ensures { Reads (descent.sum (descent.below self.now.grammar.left) parser.old) result parser.new }
     {
         let first = self.term(parser)?;
-        let (first, rest) = beside(first, self.terms(parser))?;
+        let rest = self.terms(parser)?;
         if rest.as_slice().is_empty() {
             return Ok(first);
         }
         Ok(Expr::Sum {
-            first: Boxed::new(parser.alloc(), first)?,
+            first: boxed(parser, first)?,
             rest,
         })
     }
@@ -404,7 +419,7 @@ impl<
         let at = parser.the(Kind::In)?;
         parser.the(Kind::Open)?;
         let what = self.in_what(parser)?;
-        let (what, _) = beside(what, parser.the(Kind::Close))?;
+        parser.the(Kind::Close)?;
         Ok((at, what))
     }
 
@@ -415,10 +430,10 @@ impl<
     {
         let at = parser.the(Kind::Between)?;
         let low = self.sum(parser)?;
-        let low = Boxed::new(parser.alloc(), low)?;
+        let low = boxed(parser, low)?;
         parser.the(Kind::And)?;
         let high = self.sum(parser)?;
-        let high = Boxed::new(parser.alloc(), high)?;
+        let high = boxed(parser, high)?;
         Ok((at, Test::Between { low, high }))
     }
 
@@ -453,7 +468,7 @@ impl<
         if !parser.sees(TESTED_WORDS) {
             return Ok(operand);
         }
-        let operand = Boxed::new(parser.alloc(), operand)?;
+        let operand = boxed(parser, operand)?;
         let (not, (at, test)) = self.test(parser)?;
         Ok(Expr::Tested {
             operand,
@@ -472,10 +487,10 @@ impl<
         if !parser.sees(COMPARISON_SIGNS) {
             return Ok(left);
         }
-        let left = Boxed::new(parser.alloc(), left)?;
+        let left = boxed(parser, left)?;
         let (sign, at) = parser.some_of(COMPARISON_SIGNS)?;
         let right = self.tested(parser)?;
-        let right = Boxed::new(parser.alloc(), right)?;
+        let right = boxed(parser, right)?;
         Ok(Expr::Compare {
             left,
             operator: comparison_operator(sign),
@@ -502,12 +517,12 @@ impl<
         ensures { Reads (descent.is (descent.below self.now.grammar.left) parser.old) result parser.new }
     {
         let first = self.comparison(parser)?;
-        let (first, rest) = beside(first, self.null_tests(parser))?;
+        let rest = self.null_tests(parser)?;
         if rest.as_slice().is_empty() {
             return Ok(first);
         }
         Ok(Expr::Is {
-            first: Boxed::new(parser.alloc(), first)?,
+            first: boxed(parser, first)?,
             rest,
         })
     }
@@ -523,7 +538,7 @@ impl<
         let at = parser.the(Kind::Not)?;
         let inner = self.grammar.lower(parser, 1, Rule::Not)?;
         Ok(Expr::Not {
-            inner: Boxed::new(parser.alloc(), inner)?,
+            inner: boxed(parser, inner)?,
             at,
         })
     }
@@ -556,12 +571,12 @@ impl<
         ensures { Reads (descent.and_chain (descent.below self.now.grammar.left) parser.old) result parser.new }
     {
         let first = self.negation(parser)?;
-        let (first, rest) = beside(first, self.and_parts(parser))?;
+        let rest = self.and_parts(parser)?;
         if rest.as_slice().is_empty() {
             return Ok(first);
         }
         Ok(Expr::And {
-            first: Boxed::new(parser.alloc(), first)?,
+            first: boxed(parser, first)?,
             rest,
         })
     }
@@ -594,12 +609,12 @@ impl<
         ensures { Reads (descent.or_chain (descent.below self.now.grammar.left) parser.old) result parser.new }
     {
         let first = self.and_chain(parser)?;
-        let (first, rest) = beside(first, self.or_parts(parser))?;
+        let rest = self.or_parts(parser)?;
         if rest.as_slice().is_empty() {
             return Ok(first);
         }
         Ok(Expr::Or {
-            first: Boxed::new(parser.alloc(), first)?,
+            first: boxed(parser, first)?,
             rest,
         })
     }

@@ -1,3 +1,2 @@
-pub mod NoWord
 pub mod Parts
 pub mod ReadAgain
