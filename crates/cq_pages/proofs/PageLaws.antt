@@ -91,7 +91,7 @@ stands (page ∷ []) (suc m) next id h full within low high = let l = within (om
 stands (page ∷ [] ∷ pages) (suc m) next id h full within low high = let none = full.1.0.0 in absurd (omega (arith, none))
 stands (page ∷ (q ∷ qs) ∷ pages) (suc m) next id h full within low high =
     let rest = stands ((q ∷ qs) ∷ pages) m next id (ascending_right page (pairs_of ((q ∷ qs) ∷ pages)) next h) full.1
-        (λ z. let l = within (omega arith) in omega (arith, l)) (λ j d z le. low (suc j) d (omega arith) (omega (arith, le))) (λ j d lt l. high (suc j) d (omega (arith, lt)) (omega (arith, l))) in
+    (λ z. let l = within (omega arith) in omega (arith, l)) (λ j d z le. low (suc j) d (omega arith) (omega (arith, le))) (λ j d lt l. high (suc j) d (omega (arith, lt)) (omega (arith, l))) in
     let one : suc m + 1 ≡ suc (m + 1) = omega arith in
     record {
       below = all_append (λ p. p.0 < id) page (pairs_of (take m ((q ∷ qs) ∷ pages))) (below_one page q (qs ++ pairs_of pages) next id h (low 1 [] (omega arith) (omega arith))) rest.below;

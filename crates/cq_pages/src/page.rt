@@ -50,7 +50,10 @@ impl Clone for Numbers {
 
     fn clone(&self) -> Result<Numbers, AllocError> {
         match copy_pairs(&self.pairs, self.alloc) {
-            Ok(pairs) => Ok(Numbers { alloc: self.alloc, pairs }),
+            Ok(pairs) => Ok(Numbers {
+                alloc: self.alloc,
+                pairs,
+            }),
             Err(_) => Err(AllocError),
         }
     }

@@ -84,12 +84,7 @@ pub(crate) fn share(pages: &[Page], alloc: Global) -> Result<Vec<Page>, NoMemory
 }
 
 /// Puts a row last: in the last page, or in one of its own where that is full.
-pub(crate) fn add(
-    alloc: Global,
-    pages: &mut Vec<Page>,
-    id: u64,
-    row: Row,
-) -> Result<(), NoMemory>
+pub(crate) fn add(alloc: Global, pages: &mut Vec<Page>, id: u64, row: Row) -> Result<(), NoMemory>
     requires { AllByRecursion IsPage pages.old.items }
     ensures ok { OnOk result (pairs_of pages.new.items ≡ pairs_of pages.old.items ++ (id, row) ∷ []) }
     ensures err { OnErr result (pages.new.items ≡ pages.old.items) }

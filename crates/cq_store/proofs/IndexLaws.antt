@@ -288,6 +288,7 @@ splits_here (a ∷ ps) p qs next upto up low high =
     earlier : Splits (ps ++ p ∷ qs) upto (length ps) → (k : ℕ) (d : Pair) → k < length (a ∷ ps) → (get_or (a ∷ (ps ++ p ∷ qs)) k d).0 < upto
     earlier s zero d lt = low.0
     earlier s (suc k) d lt = s.below k d (omega (arith, lt))
+
     later : Splits (ps ++ p ∷ qs) upto (length ps) → (k : ℕ) (d : Pair) → length (a ∷ ps) ≤ k → k < length (a ∷ (ps ++ p ∷ qs)) → upto ≤ (get_or (a ∷ (ps ++ p ∷ qs)) k d).0
     later s zero d le l = absurd (omega (arith, le))
     later s (suc k) d le l = s.above k d (omega (arith, le)) (omega (arith, l))

@@ -214,12 +214,7 @@ impl Index {
 
     /// Comes to name all rows by their values in the columns of these values, when they are looked for again. Gives whether it
     /// does: not where they were not looked for before, and not for want of memory.
-    pub(crate) fn cover(
-        &mut self,
-        alloc: Global,
-        rows: &Numbered,
-        wanted: &[(u32, Value)],
-    ) -> bool
+    pub(crate) fn cover(&mut self, alloc: Global, rows: &Numbered, wanted: &[(u32, Value)]) -> bool
         requires { Holds self.old rows.now.pairs }
         ensures holds { Holds self.new rows.now.pairs }
         ensures covers { result ≡ true → Covers self.new wanted.now rows.now.pairs }

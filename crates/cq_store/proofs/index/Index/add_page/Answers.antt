@@ -28,11 +28,11 @@ loop-id-preserved c =
             below = page_goes_on old at.self page i p l read w.if-id-self.true at.invariant.below;
           }))
       | else-id-self w ↦ rw w.self-is (record {
-          holds = at.invariant.holds;
-          columns = at.invariant.columns;
-          some = at.invariant.some;
-          below = page_passed old at.self page i p l read at.invariant.below (omega (arith, w.if-id-self.false));
-        })
+        holds = at.invariant.holds;
+        columns = at.invariant.columns;
+        some = at.invariant.some;
+        below = page_passed old at.self page i p l read at.invariant.below (omega (arith, w.if-id-self.false));
+      })
     ]
 
 pub returns-clause-all : goal.returns-clause-all

@@ -25,7 +25,10 @@ loop-page-preserved c =
           (c.pairs.ensures ∙ c.page-item.is) c.ids_ascend.ensures below.2 c.add_page.ensures.holds at.invariant.holds;
       columns = c.add_page.ensures.columns ∙ at.invariant.columns;
       some = c.add_page.ensures.some ∙ at.invariant.some;
-      below = (below.0, below.1,
-          low_next c.args.rows.now.pairs below.0 c.pairs.result.now c.pages_from-page-items.result.now at.page-index c.args.rows.now.next c.page-item.result at.self c.add_page.new.self below.1 c.loop-page-test.true
-          (c.pairs.ensures ∙ c.page-item.is) c.ids_ascend.ensures below.2 c.in_ok-add_page.ensures.all);
+      below = (
+        below.0,
+        below.1,
+        low_next c.args.rows.now.pairs below.0 c.pairs.result.now c.pages_from-page-items.result.now at.page-index c.args.rows.now.next c.page-item.result at.self c.add_page.new.self below.1 c.loop-page-test.true
+            (c.pairs.ensures ∙ c.page-item.is) c.ids_ascend.ensures below.2 c.in_ok-add_page.ensures.all,
+      );
     }
