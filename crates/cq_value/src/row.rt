@@ -12,10 +12,34 @@ use std::marker::Model;
 use std::sync::Arc;
 
 /// Values of one row alone, or of a row and its copies.
-#[derive(Debug, Drop)]
+#[derive(Debug)]
 enum Held {
     Alone(Values),
     Shared(Arc<Values, Global>),
+}
+
+impl Drop for Held {
+    fn drop(self) {
+        match self {
+            Held::Alone(values) => drop(values),
+            Held::Shared(values) => drop(values),
+        }
+    }
+}
+
+impl Held {
+    /// The values, copied where they are shared.
+    fn into_values(self, alloc: Global) -> Result<Values, NoMemory>
+        ensures { IfOk result (λ values. values ≡ values_in self) }
+    {
+        match self {
+            Held::Alone(values) => Ok(values),
+            Held::Shared(values) => match Arc::try_unwrap(values) {
+                Ok(values) => Ok(values),
+                Err(values) => values.copy(alloc),
+            },
+        }
+    }
 }
 
 /// The values of a row, in the order of its columns. A shared row has its values in common with its copies, which so take no
@@ -105,13 +129,8 @@ impl Row {
     pub fn into_values(self, alloc: Global) -> Result<Values, NoMemory>
         ensures { IfOk result (λ values. values ≡ self) }
     {
-        match self.held {
-            Held::Alone(values) => Ok(values),
-            Held::Shared(values) => match Arc::try_unwrap(values) {
-                Ok(values) => Ok(values),
-                Err(values) => values.copy(alloc),
-            },
-        }
+        let Row { held } = self;
+        held.into_values(alloc)
     }
 }
 
