@@ -34,22 +34,26 @@ ordered : (bound low k : ℕ) (gs : List ℕ) → low + k ≡ bound → ascends 
 ordered bound low zero [] e a = refl
 ordered bound low zero (g ∷ gs) e a = let f = of_first bound low g gs a in let l : low ≤ g = f.0 in let h : g < bound = f.1 in absurd (omega arith)
 ordered bound low (suc k) [] e a = ordered bound (low + 1) k [] (omega arith) refl
-ordered bound low (suc k) (g ∷ gs) e a = look (dec_lt low g)
+ordered bound low (suc k) (g ∷ gs) e a =
+    look (λ m. ordered bound (low + 1) k (g ∷ gs) (omega arith) (from_lower bound low g gs a (low + 1) m)) (λ next. ordered bound (low + 1) k gs (omega arith) next) (dec_lt low g)
   where
     first : low ≤ g
     first = (of_first bound low g gs a).0
 
-    look : Dec (low < g) → filter (λ n. among n (g ∷ gs)) (numbers low (suc k)) ≡ g ∷ gs
-    look (yes m) =
+    look : (low + 1 ≤ g → filter (λ n. among n (g ∷ gs)) (numbers (low + 1) k) ≡ g ∷ gs) → (ascends bound gs (low + 1) ≡ true → filter (λ n. among n gs) (numbers (low + 1) k) ≡ gs) →
+        Dec (low < g) → filter (λ n. among n (g ∷ gs)) (numbers low (suc k)) ≡ g ∷ gs
+    look further behind (yes m) =
         let off : among low (g ∷ gs) ≡ false = below_all bound g (g ∷ gs) low (from_lower bound low g gs a g (omega arith)) m in
-        rw off (ordered bound (low + 1) k (g ∷ gs) (omega arith) (from_lower bound low g gs a (low + 1) (omega arith)))
-    look (no m) =
+        rw off (further (omega arith))
+    look further behind (no m) =
         let same : low ≡ g = omega arith in
         let on : nat_eq low g ≡ true = grind arith in
         let next : ascends bound gs (low + 1) ≡ true = subst (λ n. ascends bound gs (n + 1) ≡ true) (sym same) (of_first bound low g gs a).2 in
         let rest : filter (λ n. among n (g ∷ gs)) (numbers (low + 1) k) ≡ filter (λ n. among n gs) (numbers (low + 1) k) =
         alike (λ n. among n (g ∷ gs)) (λ n. among n gs) (low + 1) k (λ n l h. let off : nat_eq n g ≡ false = grind arith in rw off refl) in
-        rw (on, rest) (ap (λ us. low ∷ us) (ordered bound (low + 1) k gs (omega arith) next) ∙ ap (λ n. n ∷ gs) same)
+        rw (on, rest) (ap (λ us. low ∷ us) (behind next) ∙ ap (λ n. n ∷ gs) same)
 
-pub in_order_already : (c : Contents) (groups list : List ℕ) → ascends c.groups groups 0 ≡ true → list ≡ groups → list ≡ in_order c groups
-in_order_already c groups list a e = e ∙ sym (ordered c.groups 0 c.groups groups (omega arith) a)
+pub in_order_already : (c : Contents) (groups list : List ℕ) (bound : ℕ) (b : Bool) → bound ≡ c.groups → b ≡ ascends bound groups 0 → b ≡ true → list ≡ groups → list ≡ in_order c groups
+in_order_already c groups list bound b e f y l =
+    let a : ascends c.groups groups 0 ≡ true = ap (λ n. ascends n groups 0) (sym e) ∙ (sym f ∙ y) in
+    l ∙ sym (ordered c.groups 0 c.groups groups (omega arith) a)

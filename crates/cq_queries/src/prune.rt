@@ -1,9 +1,6 @@
-ghost use Rattle.std.specs.Prelude.{◌≡◌, ◌++◌, IfOk, false};
-ghost use Rattle.cq_tree.specs.declared.expression.Expr.{Column, Literal};
-ghost use Rattle.cq_tree.specs.declared.expression.Cond.{Compare};
-ghost use Rattle.cq_meaning.specs.Values.{Row as TheRow, Results as TheResults};
-ghost use Rattle.cq_meaning.specs.Expressions.{keeps};
-ghost use Rattle.cq_queries.specs.Pruned.{Prunes};
+ghost use Rattle.std.specs.Prelude.{◌≡◌, IfOk, filter};
+ghost use Rattle.cq_tree.specs.declared.expression.Expr.{Column};
+ghost use Rattle.cq_queries.specs.Pruned.{may_meet as may_meet_by_rule, may_compare as may_compare_by_rule, may_keep as may_keep_by_rule};
 
 use crate::expression::cell;
 use crate::logic::{self, is_true};
@@ -13,43 +10,55 @@ use cq_value::{NoMemory, Row, Rows, Value};
 use std::alloc::Global;
 
 /// Whether a column of the rows that begin with a row may meet a literal. One of the row itself says so.
-#[tactic(auto, using(crate::proofs::PruneLaws::unmet))]
 fn may_meet(op: Op, at: u32, v: &Value, row: &Row) -> bool
-    ensures { result ≡ false → (results : TheResults) (more : TheRow) → keeps (Compare op (Column at) (Literal v.now)) results (row.now ++ more) ≡ false }
+    ensures { result ≡ may_meet_by_rule op at v.now row.now }
 {
-    if u64::from(at) >= row.len() {
+    row.len() <= u64::from(at)
+        || is_true(logic::holds(op, operand::compare(cell(row, at), operand::lend(v))))
+}
+
+/// Whether a column of the rows that begin with a row may meet another expression.
+fn may_meet_side(op: Op, at: u32, right: &Expr, row: &Row) -> bool
+    ensures { result ≡ may_compare_by_rule op (Column at) right.now row.now }
+{
+    let Expr::Literal(v) = right else {
         return true;
-    }
-    is_true(logic::holds(op, operand::compare(cell(row, at), operand::lend(v))))
+    };
+    may_meet(op, at, v, row)
 }
 
 /// Whether a comparison may be true of rows that begin with a row.
-fn may_compare(op: Op, a: &Expr, b: &Expr, row: &Row) -> bool
-    ensures { result ≡ false → (results : TheResults) (more : TheRow) → keeps (Compare op a.now b.now) results (row.now ++ more) ≡ false }
+fn may_compare(op: Op, left: &Expr, right: &Expr, row: &Row) -> bool
+    ensures { result ≡ may_compare_by_rule op left.now right.now row.now }
 {
-    let Expr::Column(at) = a else {
-        return true;
-    };
-    let Expr::Literal(v) = b else {
-        return true;
-    };
-    may_meet(op, *at, v, row)
+    match left {
+        Expr::Column(at) => may_meet_side(op, *at, right, row),
+        Expr::Literal(_)
+        | Expr::Neg(_)
+        | Expr::Add(..)
+        | Expr::Sub(..)
+        | Expr::Mul(..)
+        | Expr::Div(..)
+        | Expr::Rem(..)
+        | Expr::Case(..)
+        | Expr::Coalesce(_) => true,
+    }
 }
 
 /// Whether a condition may be true of rows that begin with a row, as far as its conjuncts say that compare a column with a literal.
 fn may_keep(c: &Cond, row: &Row) -> bool
-    ensures { result ≡ false → (results : TheResults) (more : TheRow) → keeps c.now results (row.now ++ more) ≡ false }
+    ensures { result ≡ may_keep_by_rule c.now row.now }
 {
     match c {
         Cond::And(a, b) => may_keep(a.get(), row) && may_keep(b.get(), row),
-        Cond::Compare(op, a, b) => may_compare(*op, a, b, row),
-        _ => true,
+        Cond::Compare(op, left, right) => may_compare(*op, left, right, row),
+        Cond::IsNull(_) | Cond::InResult(..) | Cond::Or(..) | Cond::Not(_) | Cond::Always => true,
     }
 }
 
-/// The rows without some that no row begins with of which a condition is true.
+/// The rows with which a row may begin of which a condition is true, as far as its conjuncts say that compare a column with a literal.
 pub fn prune(alloc: Global, c: &Cond, rows: Rows) -> Result<Rows, NoMemory>
-    ensures { IfOk result (λ some. (results : TheResults) → Prunes (keeps c.now results) some rows) }
+    ensures { IfOk result (λ some. some ≡ filter (may_keep_by_rule c.now) rows) }
 {
     let mut some = Rows::new(alloc);
     for row in rows.into_vec() {

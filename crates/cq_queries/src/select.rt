@@ -10,11 +10,12 @@ use cq_value::{NoMemory, Row, Rows, Values};
 use std::alloc::Global;
 
 /// The rows of which a condition is true.
+#[tactic(auto, using(crate::proofs::PruneLaws::all_kept))]
 pub fn select(alloc: Global, c: &Cond, rows: Rows, results: &Lookups<'_>) -> Result<Rows, NoMemory>
     requires { All (λ row. IsSafeCondition c.now row results.now) rows }
     ensures { IfOk result (λ kept. kept ≡ filter (keeps c.now results.now) rows) }
 {
-    if matches!(c, Cond::Always) {
+    if let Cond::Always = c {
         return Ok(rows);
     }
     let mut kept = Rows::new(alloc);

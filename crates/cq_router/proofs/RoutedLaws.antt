@@ -27,6 +27,9 @@ routed_query c planner q reads e =
 pub taken : (c : Contents) (q : Query) (reads : List (ℕ × List ℕ)) → reads ≡ touched_alone c q → are_routed_among c reads ≡ fits_router c q
 taken c q reads e = ap (are_routed_among c) e ∙ routed_same c (occurrences_in c q [])
 
+pub routed_is : (c : Contents) (q : Query) (reads : List (ℕ × List ℕ)) (b : Bool) → reads ≡ touched_alone c q → b ≡ are_routed_among c reads → b ≡ fits_router c q
+routed_is c q reads b e f = f ∙ taken c q reads e
+
 pub router_taken : (c : Contents) (q : Query) (reads : List (ℕ × List ℕ)) (b : Bool) (r : Routed) → reads ≡ touched_alone c q → b ≡ are_routed_among c reads → b ≡ true →
     r ≡ routed_by Router (tasks_among c reads) (groups_among c reads) → Some r ≡ router_of c q
 router_taken c q reads b r e f y g =

@@ -1,8 +1,7 @@
 use Rattle.std.proofs.Common.{◌≡◌}
-use Rattle.cq_meaning.specs.Values.{Results}
-use Rattle.cq_meaning.specs.Expressions.{keeps}
-use Rattle.cq_queries.specs.Pruned.{Prunes}
+use Rattle.std.specs.Prelude.{filter}
+use Rattle.cq_queries.specs.Pruned.{may_keep}
 use Rattle.cq_queries.proofs.prune.prune.Given as goal
 
 abbrev pub invariant-loop-row : goal.invariant-loop-row
-invariant-loop-row l = (results : Results) → Prunes (keeps l.c results) l.some l.yielded
+invariant-loop-row l = l.some ≡ filter (may_keep l.c) l.yielded
