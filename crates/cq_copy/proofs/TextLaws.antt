@@ -1,8 +1,8 @@
 -- Lines, and the texts of fields.
-use Rattle.std.proofs.Common.{◌≡◌, ℕ, suc, ◌+◌, ◌<◌, ◌≤◌, List, [], ◌∷◌, ◌++◌, length, get_or, drop, take, Bool, true, false, not, cond, eqb, Option, Some, None, refl, sym, ◌∙◌, ap, arith, append_assoc, append-nil, if◌then◌else◌}
+use Rattle.std.proofs.Common.{◌≡◌, ℕ, suc, ◌+◌, ◌<◌, ◌≤◌, List, [], ◌∷◌, ◌++◌, length, get_or, drop, take, Bool, true, false, not, ◌&&◌, ◌||◌, cond, eqb, Option, Some, None, refl, sym, ◌∙◌, ap, arith, append_assoc, append-nil, if◌then◌else◌}
 use Rattle.std.specs.Prelude.{option_map}
-use Rattle.std.specs.List.{onto_first, position_or_len}
-use Rattle.cq_copy.specs.Texts.{is_newline, lines, text_of, before, escaped, plain}
+use Rattle.std.specs.List.{list_all, onto_first, position_or_len}
+use Rattle.cq_copy.specs.Texts.{is_newline, lines, text_of, before, escaped, plain, stands}
 
 -- ---- lines
 
@@ -62,6 +62,10 @@ unfolding text_of
 text_last b [] lt = refl
 text_last b (c ∷ bs) lt = absurd (omega arith)
 
+text_nil : text_of [] ≡ Some []
+unfolding text_of
+text_nil = refl
+
 not_escaped : (b : ℕ) (t : Bool) (x y : Option (List ℕ)) → t ≡ false → (if t then x else y) ≡ y
 not_escaped b true x y e = absurd (let h : true ≡ false = e in cc)
 not_escaped b false x y e = refl
@@ -70,6 +74,32 @@ pub text_plain : (b : ℕ) (bs : List ℕ) → eqb b 92 ≡ false → text_of (b
 unfolding text_of
 text_plain b [] e = refl
 text_plain b (c ∷ bs) e = not_escaped b (eqb b 92) _ _ e
+
+plain_by : (b : ℕ) (r s : Bool) → not r && not s ≡ true → (if r || s then None else Some b) ≡ Some b
+plain_by b true s e = absurd (let h : false ≡ true = e in cc)
+plain_by b false true e = absurd (let h : false ≡ true = e in cc)
+plain_by b false false e = refl
+
+not_slash : (r s more : Bool) → (not r && not s) && more ≡ true → s ≡ false
+not_slash true s more e = absurd (let h : false ≡ true = e in cc)
+not_slash false true more e = absurd (let h : false ≡ true = e in cc)
+not_slash false false more e = refl
+
+first_and : (t more : Bool) → t && more ≡ true → t ≡ true
+first_and true more e = refl
+first_and false more e = absurd (let h : false ≡ true = e in cc)
+
+rest_and : (t more : Bool) → t && more ≡ true → more ≡ true
+rest_and true more e = e
+rest_and false more e = absurd (let h : false ≡ true = e in cc)
+
+-- a field whose bytes stand for themselves
+pub text_stands : (bs : List ℕ) → list_all stands bs ≡ true → text_of bs ≡ Some bs
+text_stands [] e = text_nil
+text_stands (b ∷ bs) e =
+    text_plain b bs (not_slash (eqb b 13) (eqb b 92) (list_all stands bs) e)
+    ∙ ap (λ p. before p (text_of bs)) (plain_by b (eqb b 13) (eqb b 92) (first_and (stands b) (list_all stands bs) e))
+    ∙ ap (before (Some b)) (text_stands bs (rest_and (stands b) (list_all stands bs) e))
 
 -- one more byte of a text
 pub one_more : (text : List ℕ) (b : ℕ) (more : Option (List ℕ)) → option_map (λ t. text ++ t) (before (Some b) more) ≡ option_map (λ t. (text ++ b ∷ []) ++ t) more

@@ -1,5 +1,5 @@
 -- Data in the text format: its lines, the fields of a line, and the text for which a field stands (PostgreSQL, COPY, "Text Format").
-use Rattle.std.specs.Prelude.{ℕ, Bool, ◌||◌, ◌==◌, if◌then◌else◌, List, [], ◌∷◌, Option, Some, None, option_map}
+use Rattle.std.specs.Prelude.{ℕ, Bool, not, ◌&&◌, ◌||◌, ◌==◌, if◌then◌else◌, List, [], ◌∷◌, Option, Some, None, option_map}
 use Rattle.std.specs.List.{onto_first, slice_split}
 use Rattle.std.specs.Char.{is_ascii_digit}
 
@@ -34,6 +34,10 @@ escaped b =
 -- a carriage return, 13, and a backslash, 92, don't stand for themselves
 abbrev pub plain : ℕ → Option ℕ
 plain b = if b == 13 || b == 92 then None else Some b
+
+-- any other byte does
+abbrev pub stands : ℕ → Bool
+stands b = not (b == 13) && not (b == 92)
 
 -- the byte in front of the text, where there are both
 abbrev pub before : Option ℕ → Option (List ℕ) → Option (List ℕ)

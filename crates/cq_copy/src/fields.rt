@@ -6,7 +6,7 @@ ghost use Rattle.cq_copy.specs.Texts.{text_of};
 use crate::columns::{kind_at, needs_value};
 use crate::error::CopyError;
 use crate::format::Format;
-use crate::texts::text_of_field;
+use crate::texts::{is_plain, text_of_field};
 use crate::values::read_value;
 use cq_catalog::TableInfo;
 use cq_value::{Kind, NoMemory, Value};
@@ -32,6 +32,9 @@ fn is_null(field: &[u8]) -> bool
 fn value_of_text(alloc: Global, kind: Kind, field: &[u8]) -> Result<Option<Value>, NoMemory>
     ensures { IfOk result (λ v. v ≡ spec.value_of_text kind (text_of field.now)) }
 {
+    if is_plain(field) {
+        return read_value(alloc, kind, field);
+    }
     match text_of_field(alloc, field)? {
         Some(text) => read_value(alloc, kind, text.as_slice()),
         None => Ok(None),

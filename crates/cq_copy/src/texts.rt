@@ -1,7 +1,7 @@
 ghost use Rattle.std.specs.Prelude.{◌≡◌, ◌<◌, ◌≤◌, ◌∷◌, length, map, None, IfOk, MatchOption, IfSome, Some, option_map, vec_items};
-ghost use Rattle.std.specs.List.{position_or_len};
+ghost use Rattle.std.specs.List.{list_all, position_or_len};
 ghost use Rattle.cq_copy.specs.Texts as spec;
-ghost use Rattle.cq_copy.specs.Texts.{is_newline, lines, fields, text_of, before};
+ghost use Rattle.cq_copy.specs.Texts.{is_newline, lines, fields, text_of, before, stands};
 
 use cq_value::NoMemory;
 use std::alloc::{AllocError, Global};
@@ -59,6 +59,13 @@ fn plain(byte: u8) -> Option<u8>
     } else {
         Some(byte)
     }
+}
+
+/// Whether each byte of a field stands for itself.
+pub(crate) fn is_plain(field: &[u8]) -> bool
+    ensures { result ≡ list_all stands field.now }
+{
+    field.iter().all(|byte| *byte != b'\r' && *byte != b'\\')
 }
 
 /// The first byte for which a field stands, if it is written well, and what stands behind.

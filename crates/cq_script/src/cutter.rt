@@ -1,6 +1,8 @@
-ghost use Rattle.std.specs.Prelude.{◌≡◌, ◌++◌, [], ◌∷◌, None, IfOk, OnOk, MatchOption};
+ghost use Rattle.std.specs.Prelude.{◌≡◌, ◌≤◌, ◌++◌, [], ◌∷◌, length, None, IfOk, OnOk, MatchOption};
+ghost use Rattle.std.specs.List.{prefix_len};
 ghost use Rattle.cq_script.specs.Scripts.{first, goes, gives, in_text, in_gap, in_dash, in_rest, keeps, in_data, line_behind as line_at, step, cut, last, misplaced, misplaced_at_end, Gives};
-ghost use Rattle.cq_token.specs.Bytes.{is_blank as is_blank_byte};
+ghost use Rattle.cq_script.specs.Runs.{is_plain_code, is_plain_quoted, run_len, with_run};
+ghost use Rattle.cq_token.specs.Bytes.{is_blank as is_blank_byte, is_in_line};
 
 use crate::copying::is_copy;
 use crate::scan::Scan;
@@ -86,13 +88,57 @@ fn line_behind(at: Place, line: u64, b: u8) -> u64
     }
 }
 
-fn put_all(list: &mut Bytes, bytes: &[u8]) -> Result<(), NoMemory>
+fn put_all(alloc: Global, list: &mut Bytes, bytes: &[u8]) -> Result<(), NoMemory>
     ensures { OnOk result (list.new ≡ list.old ++ bytes.now) }
 {
-    for byte in bytes {
-        list.put(*byte)?;
+    let mut all = std::mem::replace(list, Items::new(alloc)).into_vec();
+    match all.extend_from_slice(bytes) {
+        Ok(()) => {
+            *list = Items::from_vec(all);
+            Ok(())
+        }
+        Err(_) => Err(NoMemory),
     }
-    Ok(())
+}
+
+fn code_len(bytes: &[u8]) -> usize
+    ensures value { result ≡ prefix_len is_plain_code bytes.now }
+    ensures within { result ≤ length bytes.now }
+{
+    bytes
+        .iter()
+        .take_while(|b| **b != b'\'' && **b != b'-' && **b != b';' && **b != b'\n')
+        .count()
+}
+
+fn quoted_len(bytes: &[u8]) -> usize
+    ensures value { result ≡ prefix_len is_plain_quoted bytes.now }
+    ensures within { result ≤ length bytes.now }
+{
+    bytes
+        .iter()
+        .take_while(|b| **b != b'\'' && **b != b'\n')
+        .count()
+}
+
+fn line_len(bytes: &[u8]) -> usize
+    ensures value { result ≡ prefix_len is_in_line bytes.now }
+    ensures within { result ≤ length bytes.now }
+{
+    bytes.iter().take_while(|b| **b != b'\n').count()
+}
+
+/// How many bytes of the front do nothing here but join what was begun.
+fn run_len(at: Place, bytes: &[u8]) -> usize
+    ensures value { result ≡ run_len at bytes.now }
+    ensures within { result ≤ length bytes.now }
+{
+    match at {
+        Place::Text(Scan::Code) => code_len(bytes),
+        Place::Text(Scan::Quote) => quoted_len(bytes),
+        Place::Text(Scan::Comment) | Place::Data(Line::Within) => line_len(bytes),
+        _ => 0,
+    }
 }
 
 impl Cutter {
@@ -171,10 +217,10 @@ impl Cutter {
         self.goes(Place::Out)
     }
 
-    fn keeps(&mut self, held: &[u8], b: u8) -> Result<Option<Item>, NoMemory>
+    fn keeps(&mut self, alloc: Global, held: &[u8], b: u8) -> Result<Option<Item>, NoMemory>
         ensures { IfOk result (λ item. (item, self.new) ≡ keeps held.now self.old b) }
     {
-        put_all(&mut self.copied, held)?;
+        put_all(alloc, &mut self.copied, held)?;
         self.copied.put(b)?;
         let line = if b == b'\n' {
             Line::Start
@@ -191,9 +237,9 @@ impl Cutter {
             Line::Start if b == b'\\' => Ok(self.goes(Place::Data(Line::Slash))),
             Line::Slash if b == b'.' => Ok(self.goes(Place::Data(Line::End))),
             Line::End if b == b'\n' => Ok(self.gives(alloc, Place::Gap { fresh: true })),
-            Line::Start | Line::Within => self.keeps(b"", b),
-            Line::Slash => self.keeps(b"\\", b),
-            Line::End => self.keeps(b"\\.", b),
+            Line::Start | Line::Within => self.keeps(alloc, b"", b),
+            Line::Slash => self.keeps(alloc, b"\\", b),
+            Line::End => self.keeps(alloc, b"\\.", b),
         }
     }
 
@@ -215,6 +261,26 @@ impl Cutter {
         }
     }
 
+    fn put_run(&mut self, alloc: Global, run: &[u8]) -> Result<(), NoMemory>
+        ensures { OnOk result (self.new ≡ with_run self.old.at self.old run.now) }
+    {
+        match self.at {
+            Place::Text(_) => put_all(alloc, &mut self.text, run),
+            Place::Data(_) => put_all(alloc, &mut self.copied, run),
+            _ => Ok(()),
+        }
+    }
+
+    /// Takes the bytes of the front that do nothing here but join what was begun, and gives the bytes left.
+    fn take_run<'a>(&mut self, alloc: Global, bytes: &'a [u8]) -> Result<&'a [u8], NoMemory>
+        ensures same { IfOk result (λ left. cut self.old bytes.now ≡ cut self.new left.now) }
+        ensures within { IfOk result (λ left. length left.now ≤ length bytes.now) }
+    {
+        let (run, left) = bytes.split_at(run_len(self.at, bytes));
+        self.put_run(alloc, run)?;
+        Ok(left)
+    }
+
     /// Takes bytes up to the first that ends an item, and gives the item and the bytes left; or takes all of them, if
     /// they end none.
     ///
@@ -229,10 +295,10 @@ impl Cutter {
     {
         let mut left = bytes;
         'bytes: while let [b, rest @ ..] = left {
-            left = rest;
             if let Some(item) = self.step(alloc, *b)? {
-                return Ok(Some(Step { item, left }));
+                return Ok(Some(Step { item, left: rest }));
             }
+            left = self.take_run(alloc, rest)?;
         }
         Ok(None)
     }
