@@ -61,7 +61,7 @@ impl<T: Duplicate> Items<T> {
     pub fn copy(&self, alloc: Global) -> Result<Items<T>, NoMemory>
         ensures { IfOk result (λ x. x ≡ self.now) }
     {
-        let mut copy = Items::new(alloc);
+        let mut copy = Items::with_room(alloc, self.len())?;
         for item in self.as_slice() {
             copy.put(item.duplicate(alloc)?)?;
         }

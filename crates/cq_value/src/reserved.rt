@@ -1,5 +1,4 @@
-ghost use Rattle.std.specs.Prelude.{◌≡◌, ◌<◌, ◌≤◌, ◌+◌, [], ◌∷◌, ◌++◌, length, slice_index_or, slice_set, IsOk, OnOk};
-ghost use Rattle.std.specs.List.{remove};
+ghost use Rattle.std.specs.Prelude.{◌≡◌, ◌<◌, ◌≤◌, ◌+◌, [], ◌∷◌, ◌++◌, length, slice_set, IsOk, OnOk};
 
 use crate::items::Items;
 use crate::text::NoMemory;
@@ -72,16 +71,6 @@ impl<T> Reserved<T> {
     {
         let Reserved { items } = self;
         Items::from_vec(items)
-    }
-
-    /// Takes the item at a place out, and so leaves room for one more. Takes no memory.
-    pub fn remove(&mut self, place: u64) -> T
-        requires { place < length self.old.list }
-        ensures value { result ≡ slice_index_or self.old.list place result }
-        ensures list { self.new.list ≡ remove self.old.list place }
-        ensures room { self.new.room ≡ self.old.room + 1 }
-    {
-        self.items.remove(place as usize)
     }
 }
 
