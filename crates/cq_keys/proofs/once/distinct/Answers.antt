@@ -16,17 +16,6 @@ loop-row-preserved-in_ok-put c =
       seen = λ q. c.in_ok-put_key.ensures.more q ∙ (rw (same, c.loop-row.invariant.seen q, c.in_ok-put.ensures.ok) (new_seen q.row row done));
     }
 
-pub loop-row-preserved-else-branch : goal.loop-row-preserved-else-branch
-loop-row-preserved-else-branch c =
-    let done = c.loop-row.all in
-    let row = c.in-Some.row in
-    let same : c.in_ok-copy.field-0 ≡ row = search rules in
-    let old : false ≡ not (list_any (same_row row) done) = sym c.if-branch.false ∙ (c.in_ok-put_key.ensures.new ∙ (ap not (c.loop-row.invariant.seen (record { row = c.in_ok-copy.field-0 })) ∙ ap (λ r. not (list_any (same_row r) done)) same)) in
-    record {
-      all = old_row done c.loop-row.yielded row c.loop-row.invariant.all old;
-      seen = λ q. c.in_ok-put_key.ensures.more q ∙ (rw (same, c.loop-row.invariant.seen q) (old_seen q.row row done (seen_before (list_any (same_row row) done) old)));
-    }
-
 pub loop-row-preserved : goal.loop-row-preserved
 loop-row-preserved c =
     let done = c.loop-row.all in
