@@ -4,7 +4,7 @@ ghost use Rattle.std.specs.Prelude.{◌≡◌, ◌↔◌, IsTrue};
 
 use cq_same::{same_cond, same_expr};
 use cq_tree::{Agg, Cond, Expr, Key, Set};
-use cq_value::{Column, Items, Text, Value, With};
+use cq_value::{Column, Items, Row, Text, Value, With};
 
 /// A type of which two values are compared whole.
 pub(crate) trait Same {
@@ -28,6 +28,12 @@ impl Same for Text {
 impl Same for Value {
     fn same(&self, other: &Value) -> bool {
         cq_value::same(self, other)
+    }
+}
+
+impl Same for Row {
+    fn same(&self, other: &Row) -> bool {
+        same_slices(self.as_slice(), other.as_slice())
     }
 }
 
