@@ -18,11 +18,11 @@ use cq_grammar::{Expr, Select};
 use cq_reading::{BindError, Block, Bound, Found, Scope, World};
 use cq_tree::Cond;
 
-/// How many levels deep a tree may be. One that keeps the grammar's limit of depth, 64, has fewer than 600.
-const LEVELS: usize = 1024;
+/// How many levels deep a tree may be: more than one that memory holds can have, since each level takes some bytes. The walk counts them
+/// down so that it is seen to end.
+const LEVELS: usize = usize::MAX;
 
-/// What an expression is read as in a scope. `Err` is the first refusal in it, or want of memory, also where it is more than 1024
-/// levels deep.
+/// What an expression is read as in a scope. `Err` is the first refusal in it, or want of memory.
 pub fn expr(found: &mut Found, e: &Expr, scope: &Scope<'_>) -> Result<Bound, BindError>
     ensures { Binds (reads (part_of e.now) scope.now found.old) result found.new }
 {
@@ -37,8 +37,7 @@ pub fn condition(found: &mut Found, e: &Expr, scope: &Scope<'_>) -> Result<Cond,
     operands::condition(b, place(e))
 }
 
-/// A SELECT among tables and CTEs. `Err` is the first refusal in it, or want of memory, also where it is more than 1024 levels
-/// deep.
+/// A SELECT among tables and CTEs. `Err` is the first refusal in it, or want of memory.
 pub fn select(found: &mut Found, q: &Select, world: &World<'_>) -> Result<Block, BindError>
     ensures { Binds (select_of q.now world.now found.old) result found.new }
 {
