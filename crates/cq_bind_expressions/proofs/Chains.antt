@@ -4,7 +4,9 @@ use Rattle.std.specs.Prelude.{MatchResult, IsErrAnd}
 use Rattle.std.proofs.Common.{inl, inr}
 use Rattle.std.proofs.lemmas.List.{drop_all, length-drop, take_all}
 use Rattle.cq_tree.specs.declared.expression.Expr.{Expr}
-use Rattle.cq_reading.specs.Types.{Found, Bound, BindError}
+use Rattle.cq_reading.specs.declared.bound.Found.{Found}
+use Rattle.cq_reading.specs.declared.bound.Bound.{Bound}
+use Rattle.cq_reading.specs.declared.error.BindError.{BindError}
 use Rattle.cq_reading.specs.declared.error.BindError.TheVariants.{Memory}
 use Rattle.cq_reading.specs.Steps.{Reading, give, follow, ◌then◌, through}
 use Rattle.cq_reading.specs.Outcomes.{Binds}

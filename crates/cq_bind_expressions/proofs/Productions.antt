@@ -1,11 +1,23 @@
 -- Nodes of each kind, and keys.
 use Rattle.std.specs.Option.{option_map}
 use Rattle.std.proofs.Common.{◌≡◌, ℕ, Bool, true, false, Option, None, Some, List, map, Result, Ok, Err, sym, subst, ap, refl, ◌∙◌}
-use Rattle.cq_grammar.specs.Types.{Expr, Expr-F, Added, Chained, Multiplied, NullTest, AddOperator, Comparison, Test, Arm, Aggregate}
+use Rattle.cq_grammar.specs.declared.expr.Expr.{Expr}
+use Rattle.cq_grammar.specs.declared.expr.Expr.TheOpen.{Expr-F}
+use Rattle.cq_grammar.specs.declared.expr.Added.{Added}
+use Rattle.cq_grammar.specs.declared.expr.Chained.{Chained}
+use Rattle.cq_grammar.specs.declared.expr.Multiplied.{Multiplied}
+use Rattle.cq_grammar.specs.declared.expr.NullTest.{NullTest}
+use Rattle.cq_grammar.specs.declared.expr.AddOperator.{AddOperator}
+use Rattle.cq_grammar.specs.declared.expr.Comparison.{Comparison}
+use Rattle.cq_grammar.specs.declared.expr.Test.{Test}
+use Rattle.cq_grammar.specs.declared.expr.Arm.{Arm}
+use Rattle.cq_grammar.specs.declared.expr.Aggregate.{Aggregate}
 use Rattle.cq_grammar.specs.declared.expr.Expr.TheVariants as e
 use Rattle.cq_grammar.specs.declared.expr.Test.TheVariants as tests
 use Rattle.cq_tree.specs.declared.expression.Expr as tree
-use Rattle.cq_reading.specs.Types.{Found, Bound, BindError}
+use Rattle.cq_reading.specs.declared.bound.Found.{Found}
+use Rattle.cq_reading.specs.declared.bound.Bound.{Bound}
+use Rattle.cq_reading.specs.declared.error.BindError.{BindError}
 use Rattle.cq_reading.specs.Steps.{Reading}
 use Rattle.cq_reading.specs.Outcomes.{Binds}
 use Rattle.cq_reading.specs.Scopes.{Context}

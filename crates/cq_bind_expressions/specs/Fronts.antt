@@ -3,7 +3,9 @@ use Rattle.std.specs.Prelude.{ℕ, ◌≡◌, ◌⊎◌, ◌≤◌, Bool, true, 
 use denote.Ref.{Bor, MutBor}
 use Rattle.std.specs.Option.{option_map}
 use Rattle.cq_tree.specs.declared.expression.Expr.{Expr}
-use Rattle.cq_reading.specs.Types.{Found, Bound, BindError}
+use Rattle.cq_reading.specs.declared.bound.Found.{Found}
+use Rattle.cq_reading.specs.declared.bound.Bound.{Bound}
+use Rattle.cq_reading.specs.declared.error.BindError.{BindError}
 use Rattle.cq_reading.specs.declared.error.BindError.TheVariants.{Memory}
 use Rattle.cq_reading.specs.Steps.{Reading}
 use Rattle.cq_reading.specs.Outcomes.{Binds}

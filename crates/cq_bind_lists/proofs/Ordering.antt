@@ -1,7 +1,11 @@
 -- A key of ORDER BY that is a value.
 use Rattle.std.proofs.Common.{◌≡◌, ℕ, Bool, List, length, Result, Ok, sym, subst}
 use Rattle.cq_grammar.specs.declared.query.OrderKey.{OrderKey, out-OrderKey}
-use Rattle.cq_reading.specs.Types.{Found, Bound, Shown, Ordered, BindError}
+use Rattle.cq_reading.specs.declared.bound.Found.{Found}
+use Rattle.cq_reading.specs.declared.bound.Bound.{Bound}
+use Rattle.cq_reading.specs.declared.bound.Shown.{Shown}
+use Rattle.cq_reading.specs.declared.bound.Ordered.{Ordered}
+use Rattle.cq_reading.specs.declared.error.BindError.{BindError}
 use Rattle.cq_reading.specs.Outcomes.{Binds, Judges}
 use Rattle.cq_reading.specs.Scopes.{Context}
 use Rattle.cq_reading.specs.Expressions.{reads}

@@ -3,7 +3,9 @@ use Rattle.std.specs.Prelude.{ℕ, ◌+◌, Bool, true, false, ◌&&◌, not, if
 use Rattle.std.specs.Option.{option_map}
 use Rattle.cq_tree.specs.declared.expression.Expr.{Expr}
 use Rattle.cq_grammar.specs.declared.name.Name.{Name}
-use Rattle.cq_reading.specs.Types.{Source, Bound, Shown}
+use Rattle.cq_reading.specs.declared.bound.Source.{Source}
+use Rattle.cq_reading.specs.declared.bound.Bound.{Bound}
+use Rattle.cq_reading.specs.declared.bound.Shown.{Shown}
 use Rattle.cq_reading.specs.declared.error.BindError.TheVariants as error
 use Rattle.cq_reading.specs.declared.error.Limited.TheVariants as limited
 use Rattle.cq_reading.specs.Steps.{Reading, give, refuse, ◌then◌, provided, through}

@@ -1,10 +1,24 @@
 -- What the walk gives of each node and of each part, by what it gives of the parts in it.
 use Rattle.std.proofs.Common.{◌≡◌, ℕ, Bool, List, map, None, Some, rules}
 use Rattle.std.specs.Option.{option_map}
-use Rattle.cq_grammar.specs.Types.{AddOperator, Comparison, Aggregate, NullTest, Name, Expr-F, Test-F, Relation-F, Join-F, fold_out-Expr, fold_out-From}
-use Rattle.cq_grammar.specs.Types.{fold_out-Chained, fold_out-Added, fold_out-Multiplied, fold_out-Arm, fold_out-GroupBy, fold_out-Having, fold_out-OrderKey}
-use Rattle.cq_grammar.specs.Types.{fold_out-Select, Test, Select, out-Select, From, out-From, Relation, GroupBy, out-GroupBy, Having, out-Having, OrderKey}
-use Rattle.cq_grammar.specs.Types.{out-OrderKey, Added, out-Added, Multiplied, out-Multiplied, Chained, out-Chained, Arm, out-Arm}
+use Rattle.cq_grammar.specs.declared.expr.AddOperator.{AddOperator}
+use Rattle.cq_grammar.specs.declared.expr.Comparison.{Comparison}
+use Rattle.cq_grammar.specs.declared.expr.Aggregate.{Aggregate}
+use Rattle.cq_grammar.specs.declared.expr.NullTest.{NullTest}
+use Rattle.cq_grammar.specs.declared.name.Name.{Name}
+use Rattle.cq_grammar.specs.declared.expr.Expr.TheOpen.{Expr-F, Test-F, Relation-F, Join-F}
+use Rattle.cq_grammar.specs.declared.expr.Expr.TheFolds.{fold_out-Expr, fold_out-From, fold_out-Chained, fold_out-Added, fold_out-Multiplied, fold_out-Arm, fold_out-GroupBy, fold_out-Having, fold_out-OrderKey, fold_out-Select}
+use Rattle.cq_grammar.specs.declared.expr.Test.{Test}
+use Rattle.cq_grammar.specs.declared.query.Select.{Select, out-Select}
+use Rattle.cq_grammar.specs.declared.query.From.{From, out-From}
+use Rattle.cq_grammar.specs.declared.query.Relation.{Relation}
+use Rattle.cq_grammar.specs.declared.query.GroupBy.{GroupBy, out-GroupBy}
+use Rattle.cq_grammar.specs.declared.query.Having.{Having, out-Having}
+use Rattle.cq_grammar.specs.declared.query.OrderKey.{OrderKey, out-OrderKey}
+use Rattle.cq_grammar.specs.declared.expr.Added.{Added, out-Added}
+use Rattle.cq_grammar.specs.declared.expr.Multiplied.{Multiplied, out-Multiplied}
+use Rattle.cq_grammar.specs.declared.expr.Chained.{Chained, out-Chained}
+use Rattle.cq_grammar.specs.declared.expr.Arm.{Arm, out-Arm}
 use Rattle.cq_grammar.specs.declared.expr.Expr.{Expr, the_lemmas}
 use Rattle.cq_grammar.specs.declared.expr.Expr.TheVariants as e
 use Rattle.cq_grammar.specs.declared.expr.Test.TheVariants as tests

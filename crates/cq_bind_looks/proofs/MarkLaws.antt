@@ -1,8 +1,19 @@
 -- What stands in an expression, by what stands in its parts.
 use Rattle.std.proofs.Common.{◌≡◌, ℕ, Bool, true, false, ◌||◌, List, [], ◌∷◌, ◌++◌, map, None, Some, refl, ap, sym, ◌∙◌}
 use Rattle.std.specs.List.{list_any}
-use Rattle.cq_grammar.specs.Types.{AddOperator, Comparison, Aggregate, NullTest, Name, Expr, Test, Select, Added, out-Added, Multiplied, out-Multiplied}
-use Rattle.cq_grammar.specs.Types.{Chained, out-Chained, Arm, out-Arm, Expr-F}
+use Rattle.cq_grammar.specs.declared.expr.AddOperator.{AddOperator}
+use Rattle.cq_grammar.specs.declared.expr.Comparison.{Comparison}
+use Rattle.cq_grammar.specs.declared.expr.Aggregate.{Aggregate}
+use Rattle.cq_grammar.specs.declared.expr.NullTest.{NullTest}
+use Rattle.cq_grammar.specs.declared.name.Name.{Name}
+use Rattle.cq_grammar.specs.declared.expr.Expr.{Expr}
+use Rattle.cq_grammar.specs.declared.expr.Test.{Test}
+use Rattle.cq_grammar.specs.declared.query.Select.{Select}
+use Rattle.cq_grammar.specs.declared.expr.Added.{Added, out-Added}
+use Rattle.cq_grammar.specs.declared.expr.Multiplied.{Multiplied, out-Multiplied}
+use Rattle.cq_grammar.specs.declared.expr.Chained.{Chained, out-Chained}
+use Rattle.cq_grammar.specs.declared.expr.Arm.{Arm, out-Arm}
+use Rattle.cq_grammar.specs.declared.expr.Expr.TheOpen.{Expr-F}
 use Rattle.cq_grammar.specs.declared.expr.Expr.TheVariants as e
 use Rattle.cq_grammar.specs.declared.expr.Test.TheVariants as tests
 use Rattle.cq_reading.specs.Parts.{Part}

@@ -5,7 +5,13 @@ use Rattle.cq_bind_names.specs.Worlds.{world_of}
 use Rattle.cq_catalog.specs.Contents.{number_of}
 use Rattle.cq_catalog.specs.declared.info.TableInfo.{TableInfo}
 use Rattle.cq_grammar.specs.declared.name.Name.{Name}
-use Rattle.cq_reading.specs.Types.{BindError, Source, Block, Relations, Common, Bound, Ordered}
+use Rattle.cq_reading.specs.declared.error.BindError.{BindError}
+use Rattle.cq_reading.specs.declared.bound.Source.{Source}
+use Rattle.cq_reading.specs.declared.bound.Block.{Block}
+use Rattle.cq_reading.specs.declared.bound.Relations.{Relations}
+use Rattle.cq_reading.specs.declared.bound.Common.{Common}
+use Rattle.cq_reading.specs.declared.bound.Bound.{Bound}
+use Rattle.cq_reading.specs.declared.bound.Ordered.{Ordered}
 use Rattle.cq_value.specs.declared.text.NoMemory.{NoMemory}
 use Rattle.cq_tree.specs.declared.query.FromTree.{FromTree, Sub}
 use Rattle.cq_reading.specs.Steps.{Reading, provided}

@@ -4,7 +4,12 @@ use Rattle.cq_grammar.specs.declared.expr.Expr.TheOpen.{Select-F}
 use Rattle.cq_grammar.specs.declared.query.Select.{Select}
 use Rattle.cq_tree.specs.declared.expression.Cond.{Cond}
 use Rattle.cq_tree.specs.declared.expression.Expr.{Expr}
-use Rattle.cq_reading.specs.Types.{Relations, Shown, Ordered, Found, Block, BindError}
+use Rattle.cq_reading.specs.declared.bound.Relations.{Relations}
+use Rattle.cq_reading.specs.declared.bound.Shown.{Shown}
+use Rattle.cq_reading.specs.declared.bound.Ordered.{Ordered}
+use Rattle.cq_reading.specs.declared.bound.Found.{Found}
+use Rattle.cq_reading.specs.declared.bound.Block.{Block}
+use Rattle.cq_reading.specs.declared.error.BindError.{BindError}
 use Rattle.cq_reading.specs.Steps.{Reading, give, follow, ◌then◌}
 use Rattle.cq_reading.specs.Outcomes.{Binds}
 use Rattle.cq_reading.specs.Scopes.{World}

@@ -1,6 +1,11 @@
 -- A SELECT in two parts: what is read before its outputs, and the rest.
 use Rattle.std.specs.Prelude.{ℕ, Bool, true, false, List, [], map, Result, Ok, Err}
-use Rattle.cq_reading.specs.Types.{BindError, Relations, Found, Block, Shown, Ordered}
+use Rattle.cq_reading.specs.declared.error.BindError.{BindError}
+use Rattle.cq_reading.specs.declared.bound.Relations.{Relations}
+use Rattle.cq_reading.specs.declared.bound.Found.{Found}
+use Rattle.cq_reading.specs.declared.bound.Block.{Block}
+use Rattle.cq_reading.specs.declared.bound.Shown.{Shown}
+use Rattle.cq_reading.specs.declared.bound.Ordered.{Ordered}
 use Rattle.std.specs.Option.{option_map}
 use Rattle.cq_tree.specs.declared.expression.Cond.{Cond}
 use Rattle.cq_tree.specs.declared.expression.Expr as tree

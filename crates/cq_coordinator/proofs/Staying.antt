@@ -1,7 +1,12 @@
 -- Statements that move no group, and retire no store.
 use Rattle.std.proofs.Common.{◌≡◌, ℕ, List, [], ◌∷◌, refl, Some, None, Option, Result, Ok, Err}
 use Rattle.std.specs.List.{AllByRecursion}
-use Rattle.cq_tree.specs.Types.{Who, EntryKind, Query, Statement, ShardOp, Reply}
+use Rattle.cq_tree.specs.declared.journal.Who.{Who}
+use Rattle.cq_tree.specs.declared.journal.EntryKind.{EntryKind}
+use Rattle.cq_tree.specs.declared.query.Query.{Query}
+use Rattle.cq_tree.specs.declared.statement.Statement.{Statement}
+use Rattle.cq_tree.specs.declared.write.ShardOp.{ShardOp}
+use Rattle.cq_tree.specs.declared.write.Reply.{Reply}
 use Rattle.cq_tree.specs.declared.journal.EntryKind.TheVariants.{Read, Write, MoveStart, CatchUp, Cutover, MoveStop}
 use Rattle.cq_tree.specs.declared.statement.Statement.TheVariants as statement
 use Rattle.cq_tree.specs.declared.write.ShardOp.TheVariants.{Insert, Update, Remove}

@@ -7,7 +7,12 @@ use Rattle.std.proofs.lemmas.List.{map-append}
 use Rattle.cq_value.proofs.Lists.{all_weaker}
 use Rattle.cq_value.proofs.Truths.{two_ways}
 use Rattle.cq_value.specs.Tables.{rows_of}
-use Rattle.cq_tree.specs.Types.{Who, Entry, EntryKind, ShardOp, Reply, Query, out-Query}
+use Rattle.cq_tree.specs.declared.journal.Who.{Who}
+use Rattle.cq_tree.specs.declared.journal.Entry.{Entry}
+use Rattle.cq_tree.specs.declared.journal.EntryKind.{EntryKind}
+use Rattle.cq_tree.specs.declared.write.ShardOp.{ShardOp}
+use Rattle.cq_tree.specs.declared.write.Reply.{Reply}
+use Rattle.cq_tree.specs.declared.query.Query.{Query, out-Query}
 use Rattle.cq_tree.specs.declared.journal.EntryKind.TheVariants as entry
 use Rattle.cq_tree.specs.declared.write.ShardOp.TheVariants.{Insert, Update, Remove}
 use Rattle.cq_tree.specs.declared.write.Reply.TheVariants.{Count, Duplicate, OutOfRange}

@@ -2,7 +2,13 @@
 use Rattle.std.specs.Prelude.{◌-◌, ◌%◌, slice_get, ◌≡◌, ◌≢◌, ◌⊎◌, ⊤, ℕ, Bool, map, ◌+◌, ◌≤◌, ◌<◌, true, false, List, [], ◌∷◌, ◌++◌, length, nat_eq, ◌&&◌, if◌then◌else◌, Option, Some, None, codes}
 use Rattle.std.specs.List.{AllByRecursion, sum_by}
 use Rattle.std.specs.List.Sorted.{IsPermutation}
-use Rattle.cq_tree.specs.Types.{ShardOp, Reply, EntryKind, Table, Query, Query', out-Query, Who, Statement}
+use Rattle.cq_tree.specs.declared.write.ShardOp.{ShardOp}
+use Rattle.cq_tree.specs.declared.write.Reply.{Reply}
+use Rattle.cq_tree.specs.declared.journal.EntryKind.{EntryKind}
+use Rattle.cq_tree.specs.declared.query.FromTree.{Table}
+use Rattle.cq_tree.specs.declared.query.Query.{Query, Query', out-Query}
+use Rattle.cq_tree.specs.declared.journal.Who.{Who}
+use Rattle.cq_tree.specs.declared.statement.Statement.{Statement}
 use Rattle.cq_tree.specs.declared.write.ShardOp.TheVariants.{Insert, Update, Remove}
 use Rattle.cq_tree.specs.declared.write.Reply.TheVariants.{Count, Duplicate, OutOfRange}
 use Rattle.cq_tree.specs.declared.journal.EntryKind.TheVariants as entry

@@ -10,8 +10,13 @@ use Rattle.cq_value.specs.Order.{value_cmp}
 use Rattle.cq_value.specs.Tables.{Pair}
 use Rattle.cq_value.specs.declared.value.Value.{Value}
 use Rattle.cq_value.specs.declared.value.Value.TheVariants.{Null, Int, Text}
-use Rattle.cq_tree.specs.Types.{Expr, Cond, Agg, FromTree, Table, Result, Cross', Inner', Left', end_of-FromTree, more_of-FromTree, end_of-Query, more_of-Query}
-use Rattle.cq_tree.specs.Types.{Query, Query', Set, ShardOp}
+use Rattle.cq_tree.specs.declared.expression.Expr.{Expr}
+use Rattle.cq_tree.specs.declared.expression.Cond.{Cond}
+use Rattle.cq_tree.specs.declared.query.Agg.{Agg}
+use Rattle.cq_tree.specs.declared.query.FromTree.{FromTree, Table, Result, Cross', Inner', Left', end_of-FromTree, more_of-FromTree, end_of-Query, more_of-Query}
+use Rattle.cq_tree.specs.declared.query.Query.{Query, Query'}
+use Rattle.cq_tree.specs.declared.write.Set.{Set}
+use Rattle.cq_tree.specs.declared.write.ShardOp.{ShardOp}
 use Rattle.cq_tree.specs.declared.query.Agg.TheVariants as agg
 use Rattle.cq_tree.specs.declared.query.FromTree as tree
 use Rattle.cq_tree.specs.declared.write.ShardOp.TheVariants.{Insert, Update, Remove}

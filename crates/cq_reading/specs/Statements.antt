@@ -21,7 +21,17 @@ use Rattle.cq_tree.specs.declared.write.ShardOp.{ShardOp}
 use Rattle.cq_tree.specs.declared.write.ShardOp.TheVariants.{Insert, Update, Remove}
 use Rattle.cq_tree.specs.declared.statement.Statement.{Statement}
 use Rattle.cq_tree.specs.declared.statement.Statement.TheVariants as statement
-use Rattle.cq_grammar.specs.Types.{Name, CommonTable, Ast, TypeName, ColumnDef, RowValues, SetClause, CopyOption, SettingValue, Literal, Argument}
+use Rattle.cq_grammar.specs.declared.name.Name.{Name}
+use Rattle.cq_grammar.specs.declared.query.CommonTable.{CommonTable}
+use Rattle.cq_grammar.specs.declared.statement.Ast.{Ast}
+use Rattle.cq_grammar.specs.declared.statement.TypeName.{TypeName}
+use Rattle.cq_grammar.specs.declared.statement.ColumnDef.{ColumnDef}
+use Rattle.cq_grammar.specs.declared.statement.RowValues.{RowValues}
+use Rattle.cq_grammar.specs.declared.statement.SetClause.{SetClause}
+use Rattle.cq_grammar.specs.declared.statement.CopyOption.{CopyOption}
+use Rattle.cq_grammar.specs.declared.statement.SettingValue.{SettingValue}
+use Rattle.cq_grammar.specs.declared.statement.Literal.{Literal}
+use Rattle.cq_grammar.specs.declared.statement.Argument.{Argument}
 use Rattle.cq_grammar.specs.declared.expr.Expr as grammar
 use Rattle.cq_grammar.specs.declared.query.Query as written
 use Rattle.cq_grammar.specs.declared.statement.Ast.TheVariants as ast

@@ -4,9 +4,22 @@ use Rattle.std.specs.List.{list_any}
 use Rattle.cq_tree.specs.declared.expression.Expr as tree
 use Rattle.cq_tree.specs.declared.expression.Cond.{Cond}
 use Rattle.cq_tree.specs.declared.query.Query.{roll-Query}
-use Rattle.cq_grammar.specs.Types.{Expr, Select, Select-F, fold-Expr, fold-Select, fold-Test, fold-Item, fold-Join, fold-Relation, fold-Added, fold-Arm}
-use Rattle.cq_grammar.specs.Types.{fold-Chained, fold-Multiplied, fold-From, fold-GroupBy, fold-Having, fold-OrderKey, Test, Item, Join, Relation, Added, Arm}
-use Rattle.cq_grammar.specs.Types.{Chained, Multiplied, From, GroupBy, Having, OrderKey}
+use Rattle.cq_grammar.specs.declared.expr.Expr.{Expr}
+use Rattle.cq_grammar.specs.declared.query.Select.{Select}
+use Rattle.cq_grammar.specs.declared.expr.Expr.TheOpen.{Select-F}
+use Rattle.cq_grammar.specs.declared.expr.Expr.TheFolds.{fold-Expr, fold-Select, fold-Test, fold-Item, fold-Join, fold-Relation, fold-Added, fold-Arm, fold-Chained, fold-Multiplied, fold-From, fold-GroupBy, fold-Having, fold-OrderKey}
+use Rattle.cq_grammar.specs.declared.expr.Test.{Test}
+use Rattle.cq_grammar.specs.declared.query.Item.{Item}
+use Rattle.cq_grammar.specs.declared.query.Join.{Join}
+use Rattle.cq_grammar.specs.declared.query.Relation.{Relation}
+use Rattle.cq_grammar.specs.declared.expr.Added.{Added}
+use Rattle.cq_grammar.specs.declared.expr.Arm.{Arm}
+use Rattle.cq_grammar.specs.declared.expr.Chained.{Chained}
+use Rattle.cq_grammar.specs.declared.expr.Multiplied.{Multiplied}
+use Rattle.cq_grammar.specs.declared.query.From.{From}
+use Rattle.cq_grammar.specs.declared.query.GroupBy.{GroupBy}
+use Rattle.cq_grammar.specs.declared.query.Having.{Having}
+use Rattle.cq_grammar.specs.declared.query.OrderKey.{OrderKey}
 use Rattle.cq_reading.specs.Types.{Found, Block, Ordered, Shown, Relations}
 use Rattle.cq_reading.specs.Steps.{give, ◌then◌}
 use Rattle.cq_reading.specs.Widths.{is_some}

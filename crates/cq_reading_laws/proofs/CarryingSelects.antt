@@ -4,7 +4,11 @@ use Rattle.std.specs.Prelude.{⊤, slice_get, bytes_eq}
 use Rattle.std.specs.List.{AllByRecursion}
 use Rattle.cq_grammar.specs.declared.name.Name.{Name}
 use Rattle.cq_tree.specs.declared.expression.Expr.{Expr}
-use Rattle.cq_reading.specs.Types.{Bound, Source, Shown, Ordered, Limited}
+use Rattle.cq_reading.specs.declared.bound.Bound.{Bound}
+use Rattle.cq_reading.specs.declared.bound.Source.{Source}
+use Rattle.cq_reading.specs.declared.bound.Shown.{Shown}
+use Rattle.cq_reading.specs.declared.bound.Ordered.{Ordered}
+use Rattle.cq_reading.specs.declared.error.Limited.{Limited}
 use Rattle.cq_reading.specs.declared.error.Limited.TheVariants as limited
 use Rattle.cq_reading.specs.Scopes.{plain, is_of, column_at}
 use Rattle.cq_reading.specs.declared.error.BindError.TheVariants as error

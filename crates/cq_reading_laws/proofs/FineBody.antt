@@ -10,7 +10,11 @@ use Rattle.cq_tree.specs.declared.query.Agg.{Agg}
 use Rattle.cq_grammar.specs.declared.expr.Expr.TheOpen.{Select-F}
 use Rattle.cq_meaning.specs.declared.Columns.{Columns}
 use Rattle.cq_meaning.specs.Widths.{bits, input_bits, from_bits, output_bits, IsBound, IsBoundCondition, IsBoundAggregate, AreBoundItems, IsBoundQuery}
-use Rattle.cq_reading.specs.Types.{Found, Block, Shown, Ordered, Relations}
+use Rattle.cq_reading.specs.declared.bound.Found.{Found}
+use Rattle.cq_reading.specs.declared.bound.Block.{Block}
+use Rattle.cq_reading.specs.declared.bound.Shown.{Shown}
+use Rattle.cq_reading.specs.declared.bound.Ordered.{Ordered}
+use Rattle.cq_reading.specs.declared.bound.Relations.{Relations}
 use Rattle.cq_reading.specs.declared.error.BindError.TheVariants as error
 use Rattle.cq_reading.specs.declared.error.Limited.TheVariants as limited
 use Rattle.cq_reading.specs.Steps.{Reading, give, ◌then◌}

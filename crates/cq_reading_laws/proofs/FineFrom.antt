@@ -11,7 +11,12 @@ use Rattle.cq_tree.specs.declared.query.FromTree.{FromTree, Table, Sub, Cross, I
 use Rattle.cq_tree.specs.declared.query.FromTree as tree
 use Rattle.cq_meaning.specs.declared.Columns.{Columns}
 use Rattle.cq_meaning.specs.Widths.{bits_of_kind, from_bits, IsBoundFrom}
-use Rattle.cq_reading.specs.Types.{Found, Source, Output, Common, Relations, BindError}
+use Rattle.cq_reading.specs.declared.bound.Found.{Found}
+use Rattle.cq_reading.specs.declared.bound.Source.{Source}
+use Rattle.cq_reading.specs.declared.bound.Output.{Output}
+use Rattle.cq_reading.specs.declared.bound.Common.{Common}
+use Rattle.cq_reading.specs.declared.bound.Relations.{Relations}
+use Rattle.cq_reading.specs.declared.error.BindError.{BindError}
 use Rattle.cq_reading.specs.Steps.{Reading, give, provided}
 use Rattle.cq_reading.specs.Scopes.{World, column_source, table_sources, output_sources}
 use Rattle.cq_reading.specs.Relations as r

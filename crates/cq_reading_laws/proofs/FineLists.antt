@@ -5,7 +5,12 @@ use Rattle.std.specs.List.{AllByRecursion, list_all}
 use Rattle.cq_tree.specs.declared.expression.Expr.{Expr}
 use Rattle.cq_tree.specs.declared.expression.Cond.{Cond}
 use Rattle.cq_meaning.specs.Widths.{IsBound, IsBoundCondition}
-use Rattle.cq_reading.specs.Types.{Found, Source, Bound, Shown, BindError, Limited}
+use Rattle.cq_reading.specs.declared.bound.Found.{Found}
+use Rattle.cq_reading.specs.declared.bound.Source.{Source}
+use Rattle.cq_reading.specs.declared.bound.Bound.{Bound}
+use Rattle.cq_reading.specs.declared.bound.Shown.{Shown}
+use Rattle.cq_reading.specs.declared.error.BindError.{BindError}
+use Rattle.cq_reading.specs.declared.error.Limited.{Limited}
 use Rattle.cq_reading.specs.declared.error.BindError.TheVariants as error
 use Rattle.cq_reading.specs.declared.error.Limited.TheVariants as limited
 use Rattle.cq_reading.specs.Steps.{Reading, give, provided, with_next, each}

@@ -6,7 +6,10 @@ use Rattle.cq_tree.specs.declared.expression.Cond.{InResult}
 use Rattle.cq_grammar.specs.declared.expr.AddOperator.{AddOperator}
 use Rattle.cq_grammar.specs.declared.expr.Aggregate.{Aggregate}
 use Rattle.cq_grammar.specs.declared.name.Name.{Name}
-use Rattle.cq_reading.specs.Types.{Found, Block, Bound, BindError}
+use Rattle.cq_reading.specs.declared.bound.Found.{Found}
+use Rattle.cq_reading.specs.declared.bound.Block.{Block}
+use Rattle.cq_reading.specs.declared.bound.Bound.{Bound}
+use Rattle.cq_reading.specs.declared.error.BindError.{BindError}
 use Rattle.cq_reading.specs.declared.bound.Bound.TheVariants.{Truth}
 use Rattle.cq_reading.specs.declared.bound.Type.TheVariants as type
 use Rattle.cq_reading.specs.declared.error.BindError.TheVariants as error

@@ -4,7 +4,9 @@ use Rattle.std.specs.Prelude.{slice_get, position, nat_lt}
 use Rattle.std.specs.List.{AllByRecursion}
 use Rattle.cq_value.proofs.Lists.{all_more}
 use Rattle.cq_tree.specs.declared.expression.Expr.{Expr}
-use Rattle.cq_reading.specs.Types.{Found, Shown, Ordered}
+use Rattle.cq_reading.specs.declared.bound.Found.{Found}
+use Rattle.cq_reading.specs.declared.bound.Shown.{Shown}
+use Rattle.cq_reading.specs.declared.bound.Ordered.{Ordered}
 use Rattle.cq_reading.specs.declared.error.BindError.TheVariants as error
 use Rattle.cq_reading.specs.declared.error.Limited.TheVariants as limited
 use Rattle.cq_reading.specs.Steps.{give}

@@ -14,7 +14,9 @@ use Rattle.cq_grammar.specs.declared.expr.MultiplyOperator.TheVariants as multip
 use Rattle.cq_grammar.specs.declared.expr.Comparison.{Comparison}
 use Rattle.cq_meaning.specs.Widths.{IsBoundCondition}
 use Rattle.cq_meaning_laws.proofs.WithinLaws.{all_drop, all_take}
-use Rattle.cq_reading.specs.Types.{Found, Bound, BindError}
+use Rattle.cq_reading.specs.declared.bound.Found.{Found}
+use Rattle.cq_reading.specs.declared.bound.Bound.{Bound}
+use Rattle.cq_reading.specs.declared.error.BindError.{BindError}
 use Rattle.cq_reading.specs.declared.bound.Bound.TheVariants.{Value, Truth}
 use Rattle.cq_reading.specs.declared.bound.Type.TheVariants as type
 use Rattle.cq_reading.specs.declared.error.BindError.TheVariants as error

@@ -5,7 +5,10 @@ use Rattle.std.specs.List.{AllByRecursion}
 use Rattle.cq_grammar.specs.declared.expr.Expr.TheOpen.{Select-F}
 use Rattle.cq_meaning.specs.declared.Columns.{Columns}
 use Rattle.cq_meaning.specs.Widths.{from_bits}
-use Rattle.cq_reading.specs.Types.{Found, Block, Relations, BindError}
+use Rattle.cq_reading.specs.declared.bound.Found.{Found}
+use Rattle.cq_reading.specs.declared.bound.Block.{Block}
+use Rattle.cq_reading.specs.declared.bound.Relations.{Relations}
+use Rattle.cq_reading.specs.declared.error.BindError.{BindError}
 use Rattle.cq_reading.specs.declared.error.BindError.TheVariants as error
 use Rattle.cq_reading.specs.declared.error.Limited.TheVariants as limited
 use Rattle.cq_reading.specs.Steps.{Reading, provided, follow}

@@ -23,7 +23,9 @@ use Rattle.cq_tree.specs.declared.statement.Statement.{Statement}
 use Rattle.cq_tree.specs.declared.statement.Statement.TheVariants as statement
 use Rattle.cq_meaning.specs.declared.Columns.{Columns}
 use Rattle.cq_meaning.specs.Widths.{bits_of_kind, table_bits, IsBound, IsBoundCondition, IsBoundWrite}
-use Rattle.cq_reading.specs.Types.{Found, Bound, BindError}
+use Rattle.cq_reading.specs.declared.bound.Found.{Found}
+use Rattle.cq_reading.specs.declared.bound.Bound.{Bound}
+use Rattle.cq_reading.specs.declared.error.BindError.{BindError}
 use Rattle.cq_reading.specs.declared.error.BindError.TheVariants as error
 use Rattle.cq_reading.specs.Steps.{Reading, give, provided, follow, through}
 use Rattle.cq_reading.specs.Widths.{expr_of, cond_of, is_truth}

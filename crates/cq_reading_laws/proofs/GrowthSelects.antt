@@ -9,7 +9,12 @@ use Rattle.cq_tree.specs.declared.expression.Cond.{Cond}
 use Rattle.cq_tree.specs.declared.query.FromTree.{FromTree, Cross}
 use Rattle.cq_grammar.specs.declared.expr.Expr.TheOpen.{Select-F}
 use Rattle.cq_reading.specs.Walk as walk
-use Rattle.cq_reading.specs.Types.{Found, Block, Source, Common, Relations, BindError}
+use Rattle.cq_reading.specs.declared.bound.Found.{Found}
+use Rattle.cq_reading.specs.declared.bound.Block.{Block}
+use Rattle.cq_reading.specs.declared.bound.Source.{Source}
+use Rattle.cq_reading.specs.declared.bound.Common.{Common}
+use Rattle.cq_reading.specs.declared.bound.Relations.{Relations}
+use Rattle.cq_reading.specs.declared.error.BindError.{BindError}
 use Rattle.cq_reading.specs.declared.error.Limited.TheVariants as limited
 use Rattle.cq_reading_laws.proofs.Keeping as keep
 use Rattle.cq_reading.specs.declared.error.BindError.TheVariants as error

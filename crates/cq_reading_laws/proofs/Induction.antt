@@ -1,14 +1,22 @@
 -- Induction over syntax trees: what holds of whether a node is written so and of what the walk gives of it, where it holds of the
 -- parts in it.
 use Rattle.std.proofs.Common.{◌≡◌, Bool, sym, subst}
-use Rattle.cq_grammar.specs.Types.{Expr, roll-Expr, Test, roll-Test, Item, roll-Item, Join, roll-Join, Relation, roll-Relation, Added, roll-Added, Arm}
-use Rattle.cq_grammar.specs.Types.{roll-Arm, Chained, roll-Chained, Multiplied, roll-Multiplied, From, roll-From, GroupBy, roll-GroupBy, Having, roll-Having}
-use Rattle.cq_grammar.specs.Types.{OrderKey, roll-OrderKey, Select, roll-Select, Expr-F, Test-F, Item-F, Join-F, Relation-F, Added-F, Arm-F, Chained-F}
-use Rattle.cq_grammar.specs.Types.{Multiplied-F, From-F, GroupBy-F, Having-F, OrderKey-F, Select-F, map-Expr, map-Test, map-Item, map-Join, map-Relation}
-use Rattle.cq_grammar.specs.Types.{map-Added, map-Arm, map-Chained, map-Multiplied, map-From, map-GroupBy, map-Having, map-OrderKey, map-Select, fold-roll-Expr}
-use Rattle.cq_grammar.specs.Types.{fold-roll-Test, fold-roll-Item, fold-roll-Join, fold-roll-Relation, fold-roll-Added, fold-roll-Arm, fold-roll-Chained}
-use Rattle.cq_grammar.specs.Types.{fold-roll-Multiplied, fold-roll-From, fold-roll-GroupBy, fold-roll-Having, fold-roll-OrderKey, fold-roll-Select, ind-Expr}
-use Rattle.cq_grammar.specs.Types.{ind-Select}
+use Rattle.cq_grammar.specs.declared.expr.Expr.{Expr, roll-Expr}
+use Rattle.cq_grammar.specs.declared.expr.Test.{Test, roll-Test}
+use Rattle.cq_grammar.specs.declared.query.Item.{Item, roll-Item}
+use Rattle.cq_grammar.specs.declared.query.Join.{Join, roll-Join}
+use Rattle.cq_grammar.specs.declared.query.Relation.{Relation, roll-Relation}
+use Rattle.cq_grammar.specs.declared.expr.Added.{Added, roll-Added}
+use Rattle.cq_grammar.specs.declared.expr.Arm.{Arm, roll-Arm}
+use Rattle.cq_grammar.specs.declared.expr.Chained.{Chained, roll-Chained}
+use Rattle.cq_grammar.specs.declared.expr.Multiplied.{Multiplied, roll-Multiplied}
+use Rattle.cq_grammar.specs.declared.query.From.{From, roll-From}
+use Rattle.cq_grammar.specs.declared.query.GroupBy.{GroupBy, roll-GroupBy}
+use Rattle.cq_grammar.specs.declared.query.Having.{Having, roll-Having}
+use Rattle.cq_grammar.specs.declared.query.OrderKey.{OrderKey, roll-OrderKey}
+use Rattle.cq_grammar.specs.declared.query.Select.{Select, roll-Select}
+use Rattle.cq_grammar.specs.declared.expr.Expr.TheOpen.{Expr-F, Test-F, Item-F, Join-F, Relation-F, Added-F, Arm-F, Chained-F, Multiplied-F, From-F, GroupBy-F, Having-F, OrderKey-F, Select-F}
+use Rattle.cq_grammar.specs.declared.expr.Expr.TheFolds.{map-Expr, map-Test, map-Item, map-Join, map-Relation, map-Added, map-Arm, map-Chained, map-Multiplied, map-From, map-GroupBy, map-Having, map-OrderKey, map-Select, fold-roll-Expr, fold-roll-Test, fold-roll-Item, fold-roll-Join, fold-roll-Relation, fold-roll-Added, fold-roll-Arm, fold-roll-Chained, fold-roll-Multiplied, fold-roll-From, fold-roll-GroupBy, fold-roll-Having, fold-roll-OrderKey, fold-roll-Select, ind-Expr, ind-Select}
 use Rattle.cq_reading.specs.Parts.{Part, TestPart, ItemPart, JoinPart, RelationPart, AddedPart, ArmPart, LaterPart, MultipliedPart, FromPart, GroupPart, HavingPart, OrderPart, SelectPart}
 use Rattle.cq_reading.specs.Expressions.{expr_step, test_step, added_step, arm_step, chained_step, multiplied_step}
 use Rattle.cq_reading.specs.Relations.{relation_step, join_step, from_step}

@@ -5,7 +5,9 @@ use Rattle.std.specs.List.{AllByRecursion, list_any}
 use Rattle.cq_tree.specs.declared.expression.Expr.{Expr}
 use Rattle.cq_grammar.specs.declared.expr.AddOperator.{AddOperator}
 use Rattle.cq_grammar.specs.declared.expr.Aggregate.{Aggregate}
-use Rattle.cq_reading.specs.Types.{Found, Bound, BindError}
+use Rattle.cq_reading.specs.declared.bound.Found.{Found}
+use Rattle.cq_reading.specs.declared.bound.Bound.{Bound}
+use Rattle.cq_reading.specs.declared.error.BindError.{BindError}
 use Rattle.cq_reading.specs.declared.error.BindError.TheVariants as error
 use Rattle.cq_reading.specs.Steps.{Reading, give, follow, ◌then◌, provided, through, with_next, each}
 use Rattle.cq_reading.specs.Scopes.{Context, plain}

@@ -13,7 +13,12 @@ use Rattle.cq_meaning.specs.declared.Columns.{Columns}
 use Rattle.cq_meaning.specs.Results.{ins_in_from}
 use Rattle.cq_meaning.specs.Widths.{table_bits, from_bits}
 use Rattle.cq_meaning_laws.specs.WholeRules.{Step, steps_in_from}
-use Rattle.cq_reading.specs.Types.{Found, Source, Common, Block, Relations, BindError}
+use Rattle.cq_reading.specs.declared.bound.Found.{Found}
+use Rattle.cq_reading.specs.declared.bound.Source.{Source}
+use Rattle.cq_reading.specs.declared.bound.Common.{Common}
+use Rattle.cq_reading.specs.declared.bound.Block.{Block}
+use Rattle.cq_reading.specs.declared.bound.Relations.{Relations}
+use Rattle.cq_reading.specs.declared.error.BindError.{BindError}
 use Rattle.cq_reading.specs.declared.error.BindError.TheVariants as error
 use Rattle.cq_reading.specs.Steps.{Reading, give, provided, follow, ◌then◌, through}
 use Rattle.cq_reading.specs.Scopes.{World, Context, table_sources, output_sources}

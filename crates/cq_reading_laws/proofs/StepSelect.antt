@@ -12,7 +12,12 @@ use Rattle.cq_grammar.specs.declared.expr.Expr.TheOpen.{Select-F}
 use Rattle.cq_meaning.specs.Results.{ins_in_from}
 use Rattle.cq_meaning.specs.Widths.{bits, input_bits}
 use Rattle.cq_meaning_laws.specs.WholeRules.{Step, steps_in, steps_in_from}
-use Rattle.cq_reading.specs.Types.{Found, Block, Shown, Ordered, Relations, BindError}
+use Rattle.cq_reading.specs.declared.bound.Found.{Found}
+use Rattle.cq_reading.specs.declared.bound.Block.{Block}
+use Rattle.cq_reading.specs.declared.bound.Shown.{Shown}
+use Rattle.cq_reading.specs.declared.bound.Ordered.{Ordered}
+use Rattle.cq_reading.specs.declared.bound.Relations.{Relations}
+use Rattle.cq_reading.specs.declared.error.BindError.{BindError}
 use Rattle.cq_reading.specs.declared.error.BindError.TheVariants as error
 use Rattle.cq_reading.specs.declared.error.Limited.TheVariants as limited
 use Rattle.cq_reading.specs.Steps.{Reading, give, follow, ◌then◌, provided}

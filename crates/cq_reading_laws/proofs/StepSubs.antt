@@ -8,7 +8,10 @@ use Rattle.cq_meaning.specs.declared.Columns.{Columns}
 use Rattle.cq_meaning.specs.Results.{ins_in}
 use Rattle.cq_meaning.specs.Widths.{output_bits, IsBoundQuery}
 use Rattle.cq_meaning_laws.specs.WholeRules.{Step, steps_in}
-use Rattle.cq_reading.specs.Types.{Found, Bound, Block, BindError}
+use Rattle.cq_reading.specs.declared.bound.Found.{Found}
+use Rattle.cq_reading.specs.declared.bound.Bound.{Bound}
+use Rattle.cq_reading.specs.declared.bound.Block.{Block}
+use Rattle.cq_reading.specs.declared.error.BindError.{BindError}
 use Rattle.cq_reading.specs.declared.error.BindError.TheVariants as error
 use Rattle.cq_reading.specs.Steps.{Reading, follow, provided}
 use Rattle.cq_reading.specs.Widths.{are_alike}

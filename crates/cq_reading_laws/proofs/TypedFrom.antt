@@ -7,7 +7,12 @@ use Rattle.cq_catalog.specs.Contents.{number_of}
 use Rattle.cq_grammar.specs.declared.name.Name.{Name}
 use Rattle.cq_tree.specs.declared.query.FromTree.{FromTree, Table}
 use Rattle.cq_tree.specs.declared.query.FromTree as tree
-use Rattle.cq_reading.specs.Types.{Found, Source, Output, Common, Relations, BindError}
+use Rattle.cq_reading.specs.declared.bound.Found.{Found}
+use Rattle.cq_reading.specs.declared.bound.Source.{Source}
+use Rattle.cq_reading.specs.declared.bound.Output.{Output}
+use Rattle.cq_reading.specs.declared.bound.Common.{Common}
+use Rattle.cq_reading.specs.declared.bound.Relations.{Relations}
+use Rattle.cq_reading.specs.declared.error.BindError.{BindError}
 use Rattle.cq_reading.specs.Steps.{Reading, give, provided}
 use Rattle.cq_reading.specs.Widths.{ValueType, kind_type}
 use Rattle.cq_reading.specs.Scopes.{World, column_source, table_sources, output_sources}

@@ -8,7 +8,11 @@ use Rattle.cq_tree.specs.declared.query.Query.{Query}
 use Rattle.cq_grammar.specs.declared.expr.AddOperator.{AddOperator}
 use Rattle.cq_grammar.specs.declared.expr.Aggregate.{Aggregate}
 use Rattle.cq_grammar.specs.declared.name.Name.{Name}
-use Rattle.cq_reading.specs.Types.{Found, Block, Bound, Output, BindError}
+use Rattle.cq_reading.specs.declared.bound.Found.{Found}
+use Rattle.cq_reading.specs.declared.bound.Block.{Block}
+use Rattle.cq_reading.specs.declared.bound.Bound.{Bound}
+use Rattle.cq_reading.specs.declared.bound.Output.{Output}
+use Rattle.cq_reading.specs.declared.error.BindError.{BindError}
 use Rattle.cq_reading.specs.declared.bound.Bound.TheVariants.{Value, Truth}
 use Rattle.cq_reading.specs.declared.error.BindError.TheVariants as error
 use Rattle.cq_reading.specs.Steps.{Reading, give, follow, provided, each}

@@ -4,7 +4,11 @@ use Rattle.std.specs.List.{AllByRecursion}
 use Rattle.cq_grammar.specs.declared.name.Name.{Name}
 use Rattle.cq_tree.specs.declared.expression.Cond.{Cond}
 use Rattle.cq_tree.specs.declared.query.FromTree.{FromTree, Sub}
-use Rattle.cq_reading.specs.Types.{Found, Block, Bound, Relations, BindError}
+use Rattle.cq_reading.specs.declared.bound.Found.{Found}
+use Rattle.cq_reading.specs.declared.bound.Block.{Block}
+use Rattle.cq_reading.specs.declared.bound.Bound.{Bound}
+use Rattle.cq_reading.specs.declared.bound.Relations.{Relations}
+use Rattle.cq_reading.specs.declared.error.BindError.{BindError}
 use Rattle.cq_reading.specs.declared.error.BindError.TheVariants as error
 use Rattle.cq_reading.specs.Steps.{give, provided, follow, ◌then◌}
 use Rattle.cq_reading.specs.Widths.{ValueType, is_truth, cond_of}

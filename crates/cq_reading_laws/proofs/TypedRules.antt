@@ -11,7 +11,9 @@ use Rattle.cq_grammar.specs.declared.expr.AddOperator.TheVariants as add
 use Rattle.cq_grammar.specs.declared.expr.MultiplyOperator.{MultiplyOperator}
 use Rattle.cq_grammar.specs.declared.expr.MultiplyOperator.TheVariants as multiply
 use Rattle.cq_grammar.specs.declared.expr.Comparison.{Comparison}
-use Rattle.cq_reading.specs.Types.{Found, Bound, BindError}
+use Rattle.cq_reading.specs.declared.bound.Found.{Found}
+use Rattle.cq_reading.specs.declared.bound.Bound.{Bound}
+use Rattle.cq_reading.specs.declared.error.BindError.{BindError}
 use Rattle.cq_reading.specs.declared.bound.Bound.TheVariants.{Value, Truth}
 use Rattle.cq_reading.specs.declared.bound.Type.TheVariants as type
 use Rattle.cq_reading.specs.declared.error.BindError.TheVariants as error

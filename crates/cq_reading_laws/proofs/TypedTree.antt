@@ -2,8 +2,22 @@
 use Rattle.std.proofs.Common.{◌≡◌, Bool, true, ◌&&◌, List, [], ◌∷◌, map, Option, None, Some}
 use Rattle.std.specs.List.{AllByRecursion}
 use Rattle.cq_value.proofs.Truths.{and_left, and_right}
-use Rattle.cq_grammar.specs.Types.{Expr, Select, From, GroupBy, Having, Test, Item, Join, Relation, Added, Arm, Chained, Multiplied, OrderKey, Item-F, Join-F}
-use Rattle.cq_grammar.specs.Types.{Relation-F, Select-F, map-Select}
+use Rattle.cq_grammar.specs.declared.expr.Expr.{Expr}
+use Rattle.cq_grammar.specs.declared.query.Select.{Select}
+use Rattle.cq_grammar.specs.declared.query.From.{From}
+use Rattle.cq_grammar.specs.declared.query.GroupBy.{GroupBy}
+use Rattle.cq_grammar.specs.declared.query.Having.{Having}
+use Rattle.cq_grammar.specs.declared.expr.Test.{Test}
+use Rattle.cq_grammar.specs.declared.query.Item.{Item}
+use Rattle.cq_grammar.specs.declared.query.Join.{Join}
+use Rattle.cq_grammar.specs.declared.query.Relation.{Relation}
+use Rattle.cq_grammar.specs.declared.expr.Added.{Added}
+use Rattle.cq_grammar.specs.declared.expr.Arm.{Arm}
+use Rattle.cq_grammar.specs.declared.expr.Chained.{Chained}
+use Rattle.cq_grammar.specs.declared.expr.Multiplied.{Multiplied}
+use Rattle.cq_grammar.specs.declared.query.OrderKey.{OrderKey}
+use Rattle.cq_grammar.specs.declared.expr.Expr.TheOpen.{Item-F, Join-F, Relation-F, Select-F}
+use Rattle.cq_grammar.specs.declared.expr.Expr.TheFolds.{map-Select}
 use Rattle.cq_tree.specs.declared.query.FromTree.{Inner, Left}
 use Rattle.cq_reading.specs.Parts.{ItemPart, JoinPart, RelationPart, FromPart, GroupPart, HavingPart, OrderPart}
 use Rattle.cq_reading.specs.Expressions.{Layer}

@@ -4,7 +4,15 @@ use Rattle.std.specs.Prelude.{⊤, length, nat_lt, not, bytes_eq, codes}
 use Rattle.std.specs.List.{list_any}
 use Rattle.cq_value.specs.declared.value.Value.{Value}
 use Rattle.cq_value.specs.declared.schema.Column as schema
-use Rattle.cq_grammar.specs.Types.{Name, Expr, ColumnDef, RowValues, SetClause, CopyOption, Ast, SettingValue, Argument}
+use Rattle.cq_grammar.specs.declared.name.Name.{Name}
+use Rattle.cq_grammar.specs.declared.expr.Expr.{Expr}
+use Rattle.cq_grammar.specs.declared.statement.ColumnDef.{ColumnDef}
+use Rattle.cq_grammar.specs.declared.statement.RowValues.{RowValues}
+use Rattle.cq_grammar.specs.declared.statement.SetClause.{SetClause}
+use Rattle.cq_grammar.specs.declared.statement.CopyOption.{CopyOption}
+use Rattle.cq_grammar.specs.declared.statement.Ast.{Ast}
+use Rattle.cq_grammar.specs.declared.statement.SettingValue.{SettingValue}
+use Rattle.cq_grammar.specs.declared.statement.Argument.{Argument}
 use Rattle.cq_grammar.specs.declared.statement.Ast.TheVariants as ast
 use Rattle.cq_grammar.specs.declared.statement.SettingValue.TheVariants as settings
 use Rattle.cq_tree.specs.declared.write.ShardOp.{ShardOp}

@@ -1,7 +1,14 @@
 -- The rules of expressions give written ones, where what may stand deeper is written.
 use Rattle.std.proofs.Common.{◌≡◌, ℕ, ◌+◌, List, [], ◌∷◌, true, Option, Some, None, is_some, ◌∙◌}
 use Rattle.std.specs.List.{AllByRecursion}
-use Rattle.cq_grammar.specs.Types.{Kind, Name, Expr, Test, Chained, Added, Multiplied, NullTest}
+use Rattle.cq_grammar.specs.declared.kind.Kind.{Kind}
+use Rattle.cq_grammar.specs.declared.name.Name.{Name}
+use Rattle.cq_grammar.specs.declared.expr.Expr.{Expr}
+use Rattle.cq_grammar.specs.declared.expr.Test.{Test}
+use Rattle.cq_grammar.specs.declared.expr.Chained.{Chained}
+use Rattle.cq_grammar.specs.declared.expr.Added.{Added}
+use Rattle.cq_grammar.specs.declared.expr.Multiplied.{Multiplied}
+use Rattle.cq_grammar.specs.declared.expr.NullTest.{NullTest}
 use Rattle.cq_grammar.specs.declared.expr.Expr.TheVariants as e
 use Rattle.cq_grammar.specs.declared.expr.Aggregate.TheVariants as aggregates
 use Rattle.cq_grammar.specs.Lang.{Lang}

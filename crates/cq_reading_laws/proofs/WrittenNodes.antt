@@ -1,8 +1,26 @@
 -- When each node is written: where its parts are.
 use Rattle.std.proofs.Common.{◌≡◌, ◌^◌, ℕ, nat_lt, List, map, Bool, true, ◌&&◌, Option, Some, None, rules}
-use Rattle.cq_grammar.specs.Types.{Name, AddOperator, MultiplyOperator, Comparison, Aggregate, NullTest, Test, Chained, roll-Chained, Added, roll-Added}
-use Rattle.cq_grammar.specs.Types.{Multiplied, roll-Multiplied, Arm, roll-Arm, Direction, Count, Item, Relation, Join, From, roll-From, GroupBy, roll-GroupBy}
-use Rattle.cq_grammar.specs.Types.{Having, roll-Having, OrderKey, roll-OrderKey, Select, roll-Select}
+use Rattle.cq_grammar.specs.declared.name.Name.{Name}
+use Rattle.cq_grammar.specs.declared.expr.AddOperator.{AddOperator}
+use Rattle.cq_grammar.specs.declared.expr.MultiplyOperator.{MultiplyOperator}
+use Rattle.cq_grammar.specs.declared.expr.Comparison.{Comparison}
+use Rattle.cq_grammar.specs.declared.expr.Aggregate.{Aggregate}
+use Rattle.cq_grammar.specs.declared.expr.NullTest.{NullTest}
+use Rattle.cq_grammar.specs.declared.expr.Test.{Test}
+use Rattle.cq_grammar.specs.declared.expr.Chained.{Chained, roll-Chained}
+use Rattle.cq_grammar.specs.declared.expr.Added.{Added, roll-Added}
+use Rattle.cq_grammar.specs.declared.expr.Multiplied.{Multiplied, roll-Multiplied}
+use Rattle.cq_grammar.specs.declared.expr.Arm.{Arm, roll-Arm}
+use Rattle.cq_grammar.specs.declared.query.Direction.{Direction}
+use Rattle.cq_grammar.specs.declared.query.Count.{Count}
+use Rattle.cq_grammar.specs.declared.query.Item.{Item}
+use Rattle.cq_grammar.specs.declared.query.Relation.{Relation}
+use Rattle.cq_grammar.specs.declared.query.Join.{Join}
+use Rattle.cq_grammar.specs.declared.query.From.{From, roll-From}
+use Rattle.cq_grammar.specs.declared.query.GroupBy.{GroupBy, roll-GroupBy}
+use Rattle.cq_grammar.specs.declared.query.Having.{Having, roll-Having}
+use Rattle.cq_grammar.specs.declared.query.OrderKey.{OrderKey, roll-OrderKey}
+use Rattle.cq_grammar.specs.declared.query.Select.{Select, roll-Select}
 use Rattle.cq_grammar.specs.declared.expr.Expr.{Expr, the_lemmas}
 use Rattle.cq_grammar.specs.declared.expr.Expr.TheVariants as e
 use Rattle.cq_grammar.specs.declared.expr.Test.TheVariants as tests

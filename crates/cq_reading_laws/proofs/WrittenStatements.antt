@@ -4,7 +4,10 @@ use Rattle.std.specs.List.{AllByRecursion}
 use Rattle.cq_token.specs.declared.token.Token.{Token}
 use Rattle.cq_token.proofs.Made.{AllMade, tokens_made}
 use Rattle.cq_grammar.specs.declared.rule.Rule.TheVariants.{Or as or_}
-use Rattle.cq_grammar.specs.Types.{Expr, CommonTable, Ast, SetClause}
+use Rattle.cq_grammar.specs.declared.expr.Expr.{Expr}
+use Rattle.cq_grammar.specs.declared.query.CommonTable.{CommonTable}
+use Rattle.cq_grammar.specs.declared.statement.Ast.{Ast}
+use Rattle.cq_grammar.specs.declared.statement.SetClause.{SetClause}
 use Rattle.cq_grammar.specs.Lang.{Lang}
 use Rattle.cq_grammar.specs.Grammar.{Deeper, expr, select, Tree, below}
 use Rattle.cq_grammar.specs.Statements as r

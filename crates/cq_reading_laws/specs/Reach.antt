@@ -4,7 +4,12 @@ use Rattle.std.specs.List.{AllByRecursion}
 use Rattle.cq_catalog.specs.declared.info.TableInfo.{TableInfo}
 use Rattle.cq_tree.specs.declared.query.Agg.{Agg}
 use Rattle.cq_tree.specs.declared.query.Query.{Query}
-use Rattle.cq_reading.specs.Types.{Found, Source, Output, Common, Block, Bound}
+use Rattle.cq_reading.specs.declared.bound.Found.{Found}
+use Rattle.cq_reading.specs.declared.bound.Source.{Source}
+use Rattle.cq_reading.specs.declared.bound.Output.{Output}
+use Rattle.cq_reading.specs.declared.bound.Common.{Common}
+use Rattle.cq_reading.specs.declared.bound.Block.{Block}
+use Rattle.cq_reading.specs.declared.bound.Bound.{Bound}
 use Rattle.cq_reading.specs.declared.bound.Bound.TheVariants.{Value, Truth}
 use Rattle.cq_reading.specs.declared.bound.Type.TheVariants as type
 use Rattle.cq_reading.specs.Widths.{ValueType, kind_type}

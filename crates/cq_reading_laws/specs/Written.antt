@@ -2,10 +2,22 @@
 -- each FROM a relation.
 use Rattle.std.specs.Prelude.{◌^◌, nat_lt, Bool, true, false, ◌&&◌, List, [], ◌∷◌, Option, None, Some}
 use Rattle.std.specs.List.{list_all}
-use Rattle.cq_grammar.specs.Types.{Expr, Test, Item, Join, Relation, Added, Arm, Chained, Multiplied, From, GroupBy, Having, OrderKey, Select, Expr-F, Test-F}
-use Rattle.cq_grammar.specs.Types.{Item-F, Join-F, Relation-F, Added-F, Arm-F, Chained-F, Multiplied-F, From-F, GroupBy-F, Having-F, OrderKey-F, Select-F}
-use Rattle.cq_grammar.specs.Types.{fold-Expr, fold-Test, fold-Item, fold-Join, fold-Relation, fold-Added, fold-Arm, fold-Chained, fold-Multiplied, fold-From}
-use Rattle.cq_grammar.specs.Types.{fold-GroupBy, fold-Having, fold-OrderKey, fold-Select}
+use Rattle.cq_grammar.specs.declared.expr.Expr.{Expr}
+use Rattle.cq_grammar.specs.declared.expr.Test.{Test}
+use Rattle.cq_grammar.specs.declared.query.Item.{Item}
+use Rattle.cq_grammar.specs.declared.query.Join.{Join}
+use Rattle.cq_grammar.specs.declared.query.Relation.{Relation}
+use Rattle.cq_grammar.specs.declared.expr.Added.{Added}
+use Rattle.cq_grammar.specs.declared.expr.Arm.{Arm}
+use Rattle.cq_grammar.specs.declared.expr.Chained.{Chained}
+use Rattle.cq_grammar.specs.declared.expr.Multiplied.{Multiplied}
+use Rattle.cq_grammar.specs.declared.query.From.{From}
+use Rattle.cq_grammar.specs.declared.query.GroupBy.{GroupBy}
+use Rattle.cq_grammar.specs.declared.query.Having.{Having}
+use Rattle.cq_grammar.specs.declared.query.OrderKey.{OrderKey}
+use Rattle.cq_grammar.specs.declared.query.Select.{Select}
+use Rattle.cq_grammar.specs.declared.expr.Expr.TheOpen.{Expr-F, Test-F, Item-F, Join-F, Relation-F, Added-F, Arm-F, Chained-F, Multiplied-F, From-F, GroupBy-F, Having-F, OrderKey-F, Select-F}
+use Rattle.cq_grammar.specs.declared.expr.Expr.TheFolds.{fold-Expr, fold-Test, fold-Item, fold-Join, fold-Relation, fold-Added, fold-Arm, fold-Chained, fold-Multiplied, fold-From, fold-GroupBy, fold-Having, fold-OrderKey, fold-Select}
 
 abbrev pub all : List Bool → Bool
 all bs = list_all (λ b. b) bs
