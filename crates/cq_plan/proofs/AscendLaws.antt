@@ -46,6 +46,7 @@ ordered bound low (suc k) (g ∷ gs) e a =
         let off : among low (g ∷ gs) ≡ false = below_all bound g (g ∷ gs) low (from_lower bound low g gs a g (omega arith)) m in
         rw off (further (omega arith))
     look further behind (no m) =
+        let l : low ≤ g = first in
         let same : low ≡ g = omega arith in
         let on : nat_eq low g ≡ true = grind arith in
         let next : ascends bound gs (low + 1) ≡ true = subst (λ n. ascends bound gs (n + 1) ≡ true) (sym same) (of_first bound low g gs a).2 in
