@@ -1,5 +1,5 @@
 -- The parts of a write, by the place of its table.
-use Rattle.std.proofs.Common.{◌≡◌, ℕ, ◌+◌, ◌<◌, Bool, true, false, cond, List, [], ◌∷◌, map, filter, length, Option, None, Some, inl, inr, refl, sym, ap, ◌∙◌, arith, subst, nat_eq, ◌||◌}
+use Rattle.std.proofs.Common.{◌≡◌, ℕ, ◌+◌, ◌<◌, Bool, true, false, List, [], ◌∷◌, map, filter, length, Option, None, Some, inl, inr, refl, sym, ap, ◌∙◌, arith, subst, nat_eq, ◌||◌}
 use Rattle.std.specs.Prelude.{slice_get}
 use Rattle.cq_value.proofs.Truths.{two_ways}
 use Rattle.cq_value.proofs.Lists.{map_map}
@@ -62,21 +62,6 @@ insert_reference c table group shard (row ∷ rows) w e =
     sym (ap (λ place. map as_part (parts_at c table place (row ∷ rows))) e
     ∙ ap (λ (gs : List ℕ). map as_part (map (λ g. (g, Insert table (row ∷ rows))) gs))
     (filter_same (λ g. among g (map (λ (r : Row). group) (row ∷ rows))) (λ h. nat_eq h group) 0 c.groups (λ g a b. among_all g group row rows) ∙ filter_one 0 c.groups group (omega arith) less))
-
--- ---- of one row
-
-pub insert_alone : (c : Contents) (table at colocation first_shard g : ℕ) (row : Row) (rows : List Row) → place_at c table ≡ Distributed at colocation first_shard →
-    rows ≡ row ∷ [] → g ≡ home c table at row → g < c.groups → part_by table g rows ≡ map as_part (parts c (Insert table rows))
-insert_alone c table at colocation first_shard g row rows e s h less =
-    let f : Row → ℕ = home c table at in
-    let on : nat_eq (f row) (f row) ≡ true = grind arith in
-    let within : f row < 0 + c.groups = omega arith in
-    subst (λ (us : List Row). part_by table g us ≡ map as_part (parts c (Insert table us))) (sym s)
-    (ap (λ n. as_part (n, Insert table (row ∷ [])) ∷ []) h
-    ∙ sym (ap (λ place. map as_part (parts_at c table place (row ∷ []))) e
-    ∙ (ap (λ (gs : List ℕ). map as_part (map (λ n. (n, Insert table (filter (λ (r : Row). nat_eq (f r) n) (row ∷ [])))) gs))
-    (filter_same (λ n. among n (f row ∷ [])) (λ n. nat_eq n (f row)) 0 c.groups (λ n a b. among_all n (f row) row []) ∙ filter_one 0 c.groups (f row) (omega arith) within)
-    ∙ ap (λ b. as_part (f row, Insert table (cond b (row ∷ []) [])) ∷ []) on)))
 
 -- ---- of UPDATE and DELETE
 

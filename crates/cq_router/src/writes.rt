@@ -3,7 +3,7 @@ ghost use Rattle.cq_tree.specs.declared.write.ShardOp.TheVariants.{Insert};
 ghost use Rattle.cq_planning.specs.Parts.{parts as parts_by_rule};
 ghost use Rattle.cq_router.specs.Piles.{as_part, part_by};
 
-use crate::insertion::{Part, Parts, Pile, divide, home_of, parts_by, put_part};
+use crate::insertion::{Part, Parts, Pile, divide, parts_by, put_part};
 use cq_catalog::{Catalog, Place};
 use cq_copies::CopyTree;
 use cq_plan::groups_of_where;
@@ -23,7 +23,7 @@ fn whole_part(alloc: Global, table: u32, group: u32, rows: &Rows) -> Result<Part
 }
 
 /// The parts of an INSERT: each row goes to its group.
-#[tactic(auto, using(crate::proofs::PartLaws::insert_local, crate::proofs::PartLaws::insert_alone, crate::proofs::PartLaws::insert_distributed, crate::proofs::PartLaws::insert_reference))]
+#[tactic(auto, using(crate::proofs::PartLaws::insert_local, crate::proofs::PartLaws::insert_distributed, crate::proofs::PartLaws::insert_reference))]
 fn parts_of_rows(
     alloc: Global,
     catalog: &Catalog,
@@ -34,13 +34,10 @@ fn parts_of_rows(
 {
     match place_of(catalog, table) {
         Place::Local => Ok(Parts::new(alloc)),
-        Place::Distributed { column, .. } => match rows.as_slice() {
-            [row] => whole_part(alloc, table, home_of(catalog, table, column, row), rows),
-            _ => {
-                let piles = divide(alloc, catalog, table, column, rows.as_slice())?;
-                parts_by(alloc, table, piles)
-            }
-        },
+        Place::Distributed { column, .. } => {
+            let piles = divide(alloc, catalog, table, column, rows.as_slice())?;
+            parts_by(alloc, table, piles)
+        }
         Place::Reference { group, .. } => whole_part(alloc, table, group, rows),
     }
 }
