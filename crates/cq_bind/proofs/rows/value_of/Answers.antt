@@ -1,4 +1,4 @@
-use Rattle.std.proofs.Common.{[], sym, subst}
+use Rattle.std.proofs.Common.{[], sym, subst, ◌∙◌}
 use Rattle.cq_value.specs.declared.value.Value.{Value}
 use Rattle.cq_meaning.specs.Values.{Row, Results}
 use Rattle.cq_meaning.specs.Safety.{IsSafe}
