@@ -37,11 +37,11 @@ fn create(alloc: Global, catalog: &mut Catalog, text: &'static str) -> Result<()
 fn distribute(
     alloc: Global,
     catalog: &mut Catalog,
-    table: &str,
+    table: &Text,
     count: Option<u32>,
 ) -> Result<(), CatalogError> {
-    let (table, column) = (Text::of_str(alloc, table)?, Text::of_str(alloc, "k")?);
-    catalog.distribute(&table, &column, count, &With::Default, 4)?;
+    let column = Text::of_str(alloc, "k")?;
+    catalog.distribute(table, &column, count, &With::Default, 4)?;
     Ok(())
 }
 
@@ -49,12 +49,12 @@ fn fill(alloc: Global, catalog: &mut Catalog) -> Result<(), Fail> {
     for text in TABLES {
         create(alloc, catalog, text)?;
     }
-    distribute(alloc, catalog, "t", None)?;
-    distribute(alloc, catalog, "a", None)?;
-    distribute(alloc, catalog, "b", None)?;
+    distribute(alloc, catalog, &Text::of_str(alloc, "t")?, None)?;
+    distribute(alloc, catalog, &Text::of_str(alloc, "a")?, None)?;
+    distribute(alloc, catalog, &Text::of_str(alloc, "b")?, None)?;
     catalog.reference(&Text::of_str(alloc, "r")?)?;
-    distribute(alloc, catalog, "c", Some(3))?;
-    distribute(alloc, catalog, "n", Some(2))?;
+    distribute(alloc, catalog, &Text::of_str(alloc, "c")?, Some(3))?;
+    distribute(alloc, catalog, &Text::of_str(alloc, "n")?, Some(2))?;
     Ok(())
 }
 
