@@ -1,0 +1,10 @@
+//! What no script through the program shows of a statement that was read: the groups that each table in it touches, and how it is
+//! printed. All is tests; the scripts are in `tests/sql`.
+#![tactic(auto)]
+
+#[cfg(test)]
+mod printing;
+#[cfg(test)]
+mod tables;
+#[cfg(test)]
+mod touched;
