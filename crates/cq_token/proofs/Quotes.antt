@@ -1,8 +1,11 @@
 -- What stands between quotes.
-use Rattle.std.proofs.Common.{◌≡◌, ◌≢◌, ℕ, ◌+◌, ◌<◌, ◌≤◌, ◌==◌, List, [], ◌∷◌, ◌++◌, append_assoc, length, get_or, drop, false, Option, Some, None, refl, sym, ◌∙◌, ap, arith, eq-eqb}
-use Rattle.std.proofs.lemmas.List.{drop_more, drop_all, append-nil}
+use Rattle.std.proofs.Common.{◌≡◌, ◌≢◌, ℕ, suc, ◌+◌, ◌<◌, ◌≤◌, ◌==◌, List, [], ◌∷◌, ◌++◌, append_assoc, length, get_or, take, drop, ◌-◌, Bool, true, false, cond, Option, Some, None, refl, sym, ◌∙◌, ap, arith, eq-eqb}
+use Rattle.std.proofs.lemmas.List.{drop_more, drop_all, drop-drop, append-nil}
+use Rattle.std.specs.List.{prefix_len}
+use Rattle.cq_token.specs.Bytes.{is_plain}
 use Rattle.std.proofs.lemmas.Bool.Decides.{nat_tests}
 use Rattle.cq_token.specs.Tokens.{quoted, behind}
+use Rattle.cq_token.proofs.Steps.{rest_of}
 
 pub behind_both : (a b : List ℕ) (m n : ℕ) (o : Option (List ℕ × ℕ)) → behind a m (behind b n o) ≡ behind (a ++ b) (m + n) o
 behind_both a b m n None = refl
@@ -58,6 +61,44 @@ pub at_last_quote : (i : ℕ) (bs : List ℕ) → i < length bs → length bs �
 at_last_quote i bs lt end e =
     let last : drop i bs ≡ get_or bs i 0 ∷ [] = drop_more bs i 0 lt ∙ ap (λ l. get_or bs i 0 ∷ l) (drop_all (i + 1) bs end) in
     ap quoted last ∙ last_quote (get_or bs i 0) e
+
+-- ---- bytes that are no quote
+
+plain : (b : ℕ) → is_plain b ≡ true → b ≢ 39
+plain b h = grind (arith, nat_tests)
+
+quote : (b : ℕ) → is_plain b ≡ false → b ≡ 39
+quote b h = grind (arith, nat_tests)
+
+past_run : (bs : List ℕ) → quoted bs ≡ behind (take (prefix_len is_plain bs) bs) (prefix_len is_plain bs) (quoted (drop (prefix_len is_plain bs) bs))
+past_run [] = sym (behind_none (quoted []))
+past_run (b ∷ bs) = by_test (is_plain b) refl (past_run bs)
+  where
+    by_test : (t : Bool) → is_plain b ≡ t → quoted bs ≡ behind (take (prefix_len is_plain bs) bs) (prefix_len is_plain bs) (quoted (drop (prefix_len is_plain bs) bs)) →
+        quoted (b ∷ bs) ≡ behind (take (cond t (1 + prefix_len is_plain bs) 0) (b ∷ bs)) (cond t (1 + prefix_len is_plain bs) 0) (quoted (drop (cond t (1 + prefix_len is_plain bs) 0) (b ∷ bs)))
+    by_test true h after =
+        let n = prefix_len is_plain bs in
+        let one_more : 1 + n ≡ suc n = omega arith in
+        let all = behind_both (b ∷ []) (take n bs) 1 n (quoted (drop n bs)) in
+        rw one_more (no_quote b bs (plain b h) ∙ ap (behind (b ∷ []) 1) after ∙ all ∙ ap (λ k. behind (b ∷ take n bs) k (quoted (drop n bs))) one_more)
+    by_test false h after = sym (behind_none (quoted (b ∷ bs)))
+
+pub past_plain : (i m : ℕ) (bs : List ℕ) → m ≡ prefix_len is_plain (take (length bs - i) (drop i bs)) → quoted (drop i bs) ≡ behind (take m (drop i bs)) m (quoted (drop (i + m) bs))
+past_plain i m bs e =
+    let n : m ≡ prefix_len is_plain (drop i bs) = e ∙ ap (prefix_len is_plain) (rest_of i bs) in
+    past_run (drop i bs) ∙ ap (λ k. behind (take k (drop i bs)) k (quoted (drop k (drop i bs)))) (sym n) ∙ ap (λ l. behind (take m (drop i bs)) m (quoted l)) (drop-drop m i bs)
+
+at_no_plain : (b : ℕ) (bs : List ℕ) (t : Bool) → is_plain b ≡ t → 0 ≡ cond t (1 + prefix_len is_plain bs) 0 → b ≡ 39
+at_no_plain b bs true h e = absurd (omega (arith, e))
+at_no_plain b bs false h e = quote b h
+
+-- where no plain byte stands, there is a quote
+pub no_plain : (i m : ℕ) (bs : List ℕ) → i < length bs → m ≡ prefix_len is_plain (take (length bs - i) (drop i bs)) → m ≡ 0 → get_or bs i 0 ≡ 39
+no_plain i m bs lt e zero =
+    at_no_plain (get_or bs i 0) (drop (i + 1) bs) (is_plain (get_or bs i 0)) refl (sym zero ∙ e ∙ ap (prefix_len is_plain) (rest_of i bs ∙ drop_more bs i 0 lt))
+
+pub one_taken : (i : ℕ) (bs : List ℕ) → i < length bs → take 1 (drop i bs) ≡ get_or bs i 0 ∷ []
+one_taken i bs lt = ap (take 1) (drop_more bs i 0 lt)
 
 pub unclosed : (i : ℕ) (bs : List ℕ) → length bs ≤ i → quoted (drop i bs) ≡ None
 unfolding quoted

@@ -38,7 +38,7 @@ behind_piece at more text le =
 abbrev pub IsPiece : ℕ → List ℕ → Result Piece LexError → Type 0
 IsPiece at bytes p = (b : ℕ) (rest : List ℕ) → bytes ≡ b ∷ rest → piece_at at b rest ≡ p
 
-rest_of : (at : ℕ) (text : List ℕ) → take (length text - at) (drop at text) ≡ drop at text
+pub rest_of : (at : ℕ) (text : List ℕ) → take (length text - at) (drop at text) ≡ drop at text
 rest_of at text = take_all (length text - at) (drop at text) (omega (arith, length-drop at text))
 
 pub turn : (at : ℕ) (text : List ℕ) (p : Result Piece LexError) → at < length text → IsPiece at (take (length text - at) (drop at text)) p

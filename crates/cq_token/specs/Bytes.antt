@@ -17,3 +17,7 @@ is_in_name b = is_ascii_alphabetic b || is_ascii_digit b || b == 95 || b == 36
 -- anything but a newline
 abbrev pub is_in_line : ℕ → Bool
 is_in_line b = not (b == 10)
+
+-- anything but a quote
+abbrev pub is_plain : ℕ → Bool
+is_plain b = not (b == 39)

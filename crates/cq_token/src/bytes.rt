@@ -47,3 +47,11 @@ pub fn line_len(bytes: &[u8]) -> usize
 {
     bytes.iter().take_while(|byte| **byte != b'\n').count()
 }
+
+/// How many bytes of the front are no quote.
+pub fn plain_len(bytes: &[u8]) -> usize
+    ensures value { result ≡ prefix_len spec.is_plain bytes.now }
+    ensures within { result ≤ length bytes.now }
+{
+    bytes.iter().take_while(|byte| **byte != b'\'').count()
+}

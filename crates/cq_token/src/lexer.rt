@@ -9,6 +9,9 @@ use crate::piece::piece_at;
 use crate::token::{Piece, Token, Tokens};
 use std::alloc::Global;
 
+/// How many tokens there is room for at first.
+const ROOM: u64 = 20;
+
 /// The tokens of the text in order: they cut it, with blanks and comments between, and each is one that can be printed
 /// and read again. Otherwise the first refusal that the text shows, or want of memory.
 pub fn tokens(alloc: Global, text: &[u8]) -> Result<Tokens, LexError>
@@ -17,7 +20,7 @@ pub fn tokens(alloc: Global, text: &[u8]) -> Result<Tokens, LexError>
     ensures kinds { IfOk result (λ found. AllByRecursion (λ token. IsKind token.kind) found) }
     ensures order { IfOk result (λ found. InOrder 0 found (length text.now)) }
 {
-    let mut found = Tokens::new(alloc);
+    let mut found = Tokens::with_room(alloc, ROOM)?;
     let mut at = 0;
     'text: while at < text.len() {
         match piece_at(alloc, at as u64, &text[at..])? {

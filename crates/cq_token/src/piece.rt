@@ -1,4 +1,4 @@
-ghost use Rattle.std.specs.Prelude.{◌≡◌, ◌<◌, ◌≤◌, ◌+◌, ◌-◌, [], ◌∷◌, drop, length, slice_index, map, List, ℕ, true, Some, IfSome, MatchOption};
+ghost use Rattle.std.specs.Prelude.{◌≡◌, ◌<◌, ◌≤◌, ◌+◌, ◌-◌, [], ◌∷◌, drop, take, length, map, List, ℕ, true, Some, IfSome, MatchOption};
 ghost use Rattle.std.specs.Char.{to_ascii_lowercase};
 ghost use Rattle.std.specs.Str.{IsAscii};
 ghost use Rattle.cq_token.specs.Bytes as of_bytes;
@@ -6,7 +6,7 @@ ghost use Rattle.cq_token.specs.Signs as of_signs;
 ghost use Rattle.cq_token.specs.Tokens as spec;
 ghost use Rattle.cq_token.specs.Tokens.{Gives, IsWithin, behind};
 
-use crate::bytes::{begins_name, digits_len, is_blank, line_len, name_len};
+use crate::bytes::{begins_name, digits_len, is_blank, line_len, name_len, plain_len};
 use crate::error::LexError;
 use crate::sign::{pair_of, sign_of};
 use crate::token::{Piece, TokenKind};
@@ -20,7 +20,8 @@ fn folded(alloc: Global, name: &[u8]) -> Result<Text, LexError>
     requires { IsAscii name.now }
     ensures { Gives result (Ok (map to_ascii_lowercase name.now)) }
 {
-    let name = std::str::from_utf8(name).unwrap();
+    // SAFETY: ASCII is UTF-8.
+    let name = unsafe { std::str::from_utf8_unchecked(name) };
     match name.to_ascii_lowercase(alloc) {
         Ok(folded) => Ok(Text::of_string(folded)),
         Err(_) => Err(LexError::Memory),
@@ -88,16 +89,30 @@ fn closed(at: u64, content: Vec<u8>, more: usize) -> Result<Piece, LexError>
     }
 }
 
-/// How many bytes a text's byte at the place takes: two for a doubled quote. At the closing quote there is none.
-fn width_at(bytes: &[u8], at: usize) -> Option<usize>
+/// What a text takes on at once: so many bytes of content, which are written in so many bytes.
+#[derive(Clone, Copy)]
+struct Run {
+    content: usize,
+    width: usize,
+}
+
+/// What a text takes on at the place: the bytes up to the next quote, or a doubled quote. At the closing quote there is nothing.
+fn run_at(bytes: &[u8], at: usize) -> Option<Run>
     requires { at < length bytes.now }
-    ensures value { MatchOption result (spec.quoted (drop at bytes.now) ≡ Some ([], 1)) (λ width. spec.quoted (drop at bytes.now) ≡ behind (slice_index bytes.now at ∷ []) width (spec.quoted (drop (at + width) bytes.now))) }
-    ensures within { IfSome result (λ width. (1 ≤ width) × (at + width ≤ length bytes.now)) }
+    ensures value { MatchOption result (spec.quoted (drop at bytes.now) ≡ Some ([], 1)) (λ run. spec.quoted (drop at bytes.now) ≡ behind (take run.content (drop at bytes.now)) run.width (spec.quoted (drop (at + run.width) bytes.now))) }
+    ensures within { IfSome result (λ run. (1 ≤ run.width) × (run.content ≤ run.width) × (at + run.width ≤ length bytes.now)) }
 {
-    if bytes[at] != b'\'' {
-        Some(1)
+    let plain = plain_len(&bytes[at..]);
+    if plain > 0 {
+        Some(Run {
+            content: plain,
+            width: plain,
+        })
     } else if at + 1 < bytes.len() && bytes[at + 1] == b'\'' {
-        Some(2)
+        Some(Run {
+            content: 1,
+            width: 2,
+        })
     } else {
         None
     }
@@ -111,13 +126,16 @@ fn text_at(alloc: Global, at: u64, bytes: &[u8]) -> Result<Piece, LexError>
     let mut content = Vec::new(alloc);
     let mut len = 0;
     'text: while len < bytes.len() {
-        let Some(width) = width_at(bytes, len) else {
+        let Some(run) = run_at(bytes, len) else {
             return closed(at, content, len + 1);
         };
-        if content.push(bytes[len]).is_err() {
+        if content
+            .extend_from_slice(&bytes[len..len + run.content])
+            .is_err()
+        {
             return Err(LexError::Memory);
         }
-        len += width;
+        len += run.width;
     }
     Err(LexError::OpenQuote { at })
 }

@@ -15,7 +15,7 @@ returns-in_err-more-clause-value c =
     let text = c.args.text.now in
     let at = c.text.at in
     let e = c.in_err-more.field-0.0 in
-    stops c.from_residual.result (tokens text) e c.from_residual.ensures.0 c.from_residual.ensures.1 (λ (ne : e ≢ Memory).
+    stops c.from_residual-in_err-more.result (tokens text) e c.from_residual-in_err-more.ensures.0 c.from_residual-in_err-more.ensures.1 (λ (ne : e ≢ Memory).
     c.text.invariant.0 ∙ ap (put_all c.text.found) (turn at text (Err e) c.text-test.true (λ b rest h. c.in_err-more.ensures.value b rest h ne)))
 
 pub text-preserved-in-Skip : goal.text-preserved-in-Skip
