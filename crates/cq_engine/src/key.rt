@@ -162,8 +162,8 @@ fn has_twins(key: &[u32], sorted: &[Numbered<'_>]) -> bool
 }
 
 /// Whether one of the rows has the primary key of a row that is there, or of a row before it, where `met` says whether one of
-/// them has that of a row that is there. The rows are put in the order of numbers that their keys
-/// make.
+/// them has that of a row that is there. The rows are put in the order of numbers that their
+/// keys make.
 ///
 /// Errors: want of memory.
 pub fn repeats(alloc: Global, key: &[u32], rows: &Rows, met: bool) -> Result<bool, NoMemory>
