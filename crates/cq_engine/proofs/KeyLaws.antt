@@ -1,14 +1,14 @@
 -- Which rows repeat a key: those of which two have one, or one has that of a row that is there.
-use Rattle.std.proofs.Common.{◌≡◌, ◌≤◌, ℕ, List, [], ◌∷◌, ◌++◌, length, refl, sym, ap, ◌∙◌, arith, Bool, true, false, ◌||◌}
+use Rattle.std.proofs.Common.{◌≡◌, ◌≤◌, ℕ, List, [], ◌∷◌, ◌++◌, length, map, refl, sym, ap, ◌∙◌, arith, Bool, true, false, ◌||◌}
 use Rattle.std.specs.List.{list_any}
 use Rattle.std.specs.List.Sorted.{IsPermutation}
 use Rattle.std.proofs.lemmas.List.Folds.{list_any-append}
 use Rattle.cq_value.proofs.Truths.{or_false}
 use Rattle.cq_meaning.specs.Values.{Row}
 use Rattle.cq_meaning.specs.Effects.{same_key, repeats}
-use Rattle.cq_engine.specs.Keys.{has_twins, meets}
-use Rattle.cq_engine.proofs.TwinLaws.{twins_moved}
-use Rattle.cq_engine.proofs.KeyOrder.{same_key_laws}
+use Rattle.cq_engine.specs.Keys.{Numbered, numbered, are_tied, has_twins, meets}
+use Rattle.cq_engine.proofs.TwinLaws.{twins-map, twins_moved}
+use Rattle.cq_engine.proofs.KeyOrder.{same_key_laws, are_tied_laws, tied_same}
 
 or_regroup : (a b c d : Bool) → (a || (d || (b || c))) ≡ ((b || d) || (a || c))
 or_regroup true true c d = refl
@@ -64,10 +64,14 @@ module _ (key : List ℕ) (rows : List Row) (some : 1 ≤ length key) where
       or_true true = refl
       or_true false = refl
 
-  -- and where none does, by the rows in another order
-  pub twins_repeat : (sorted : List Row) → IsPermutation rows sorted → (there : List Row) → false ≡ meets key there rows → has_twins (same_key key) sorted ≡ repeats key there rows
+  -- and where none does, by the rows with their numbers in another order
+  pub twins_repeat : (sorted : List Numbered) → IsPermutation (map (numbered key) rows) sorted → (there : List Row) → false ≡ meets key there rows →
+      has_twins (are_tied key) sorted ≡ repeats key there rows
   twins_repeat sorted moved there met =
-      twins_moved (same_key key) (same_key_laws key) rows sorted moved ∙ sym (repeats_is key there some ∙ ap (λ b. has_twins (same_key key) rows || b) (sym met) ∙ or_false (has_twins (same_key key) rows))
+      twins_moved (are_tied key) (are_tied_laws key) (map (numbered key) rows) sorted moved
+      ∙ twins-map (are_tied key) (numbered key) rows
+      ∙ ap (λ (same : Row → Row → Bool). has_twins same rows) (λ i x y. tied_same key x y i)
+      ∙ sym (repeats_is key there some ∙ ap (λ b. has_twins (same_key key) rows || b) (sym met) ∙ or_false (has_twins (same_key key) rows))
 
 -- without a key no row repeats one
 pub none_repeats : (key : List ℕ) (there rows : List Row) → length key ≡ 0 → false ≡ repeats key there rows

@@ -93,7 +93,7 @@ module _ {X : Type 0} (same : X → X → Bool) (laws : IsEquivalence same) wher
       (λ e. apart xs (λ x. subst (λ n. n ≤ 1) (moved_count (same x) xs ys h) (once ys e x)))
       (λ e. apart ys (λ x. subst (λ n. n ≤ 1) (sym (moved_count (same x) xs ys h)) (once xs e x)))
 
-pub any-map : {X : Type 0} {Y : Type 0} (p : Y → Bool) (f : X → Y) (xs : List X) → list_any p (map f xs) ≡ list_any (λ x. p (f x)) xs
+any-map : {X : Type 0} {Y : Type 0} (p : Y → Bool) (f : X → Y) (xs : List X) → list_any p (map f xs) ≡ list_any (λ x. p (f x)) xs
 any-map p f [] = refl
 any-map p f (x ∷ xs) = ap (λ b. p (f x) || b) (any-map p f xs)
 
