@@ -1,2 +1,3 @@
+mod MeetingLaws
 mod IndexLaws
 pub mod TakingLaws

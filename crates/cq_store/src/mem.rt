@@ -89,6 +89,9 @@ impl MemStore {
         ensures met { IfOk result (λ b. b ≡ meets_any self.old.rows.pairs key.now rows.now) }
         ensures same { self.new ≡ self.old }
     {
+        if self.rows.len() == 0 {
+            return Ok(false);
+        }
         for row in rows.as_slice() {
             if self.meets_row(key.as_slice(), row)? {
                 return Ok(true);
