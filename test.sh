@@ -148,6 +148,22 @@ for count in 20000 20001; do
     [ $? -eq "$((count > 20000 ? 6 : 0))" ] && cmp -s "$work/statements.stdout" "$work/out" || fail "a script of $count statements has another answer"
 done
 
+# Two tables of 100,000 rows in one shard are joined by hashing, within seconds: to try each pair would take hours.
+{
+    echo 'CREATE TABLE a (k bigint PRIMARY KEY);'
+    echo "SELECT create_distributed_table('a', 'k', shard_count => 1);"
+    echo 'CREATE TABLE b (k bigint PRIMARY KEY);'
+    echo "SELECT create_distributed_table('b', 'k', colocate_with => 'a');"
+    for table in a b; do
+        echo "COPY $table FROM STDIN;"
+        seq 100000
+        echo '\.'
+    done
+    echo 'SELECT a.k, b.k FROM a JOIN b ON a.k = b.k;'
+} >"$work/joined"
+timeout 60 "$program" <"$work/joined" >"$work/out"
+[ $? -eq 0 ] && tail -n 1 "$work/out" | grep -qx '(100000 rows)' || fail 'a join of two tables of 100,000 rows has another answer, or takes a minute'
+
 # A folder can't be read, and a full device can't be written.
 "$program" <tests >"$work/out"
 [ $? -eq 2 ] && echo 'FATAL read' | cmp -s - "$work/out" || fail 'a fault of reading is not answered by FATAL read and status 2'
