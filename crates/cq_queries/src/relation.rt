@@ -6,7 +6,6 @@ use std::alloc::Global;
 use std::marker::Model;
 
 /// Rows that are lent, or that are its own.
-#[derive(Debug)]
 enum Held<'a> {
     Lent(&'a [Row]),
     Own(Rows),
@@ -53,8 +52,8 @@ impl<'a> Held<'a> {
     }
 }
 
-/// The rows of a FROM, which those of a table are only lent for. Contracts see the rows.
-#[derive(Debug, Drop)]
+/// The rows of a FROM, lent where they are those of a table or of a result. Contracts see the rows.
+#[derive(Drop)]
 pub struct Relation<'a> {
     held: Held<'a>,
 }
