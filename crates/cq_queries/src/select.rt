@@ -11,12 +11,7 @@ use cq_value::{NoMemory, Row, Rows, Values};
 use std::alloc::Global;
 
 /// Copies of the rows of which a condition is true.
-fn copy_kept(
-    alloc: Global,
-    c: &Cond,
-    rows: &[Row],
-    results: &Lookups<'_>,
-) -> Result<Rows, NoMemory>
+fn copy_kept(alloc: Global, c: &Cond, rows: &[Row], results: &Lookups<'_>) -> Result<Rows, NoMemory>
     requires { All (λ row. IsSafeCondition c.now row results.now) rows.now }
     ensures { IfOk result (λ kept. kept ≡ filter (keeps c.now results.now) rows.now) }
 {
