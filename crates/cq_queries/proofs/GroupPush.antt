@@ -1,9 +1,11 @@
 -- Each step of the loop that makes groups gives the groups of one row more.
-use Rattle.std.proofs.Common.{◌≡◌, true, false, cond, List, [], ◌∷◌, ◌++◌, map, refl, sym, ap, subst, ◌∙◌, append-nil, inl, inr}
-use Rattle.std.specs.Prelude.{filter, ◌||◌}
+use Rattle.std.proofs.Common.{◌≡◌, true, false, cond, List, [], ◌∷◌, ◌++◌, map, refl, sym, ap, subst, ◌∙◌, append-nil, inl, inr, length, arith}
+use Rattle.std.specs.Prelude.{filter, ◌||◌, ◌≢◌}
 use Rattle.std.specs.List.{list_any}
-use Rattle.cq_meaning.specs.Values.{Row, same_row}
-use Rattle.cq_meaning.specs.Groups.{distinct, group_with, groups_by}
+use Rattle.cq_tree.specs.declared.expression.Expr.{Expr}
+use Rattle.cq_meaning.specs.Values.{Row, Results, same_row}
+use Rattle.cq_meaning.specs.Expressions.{items_of}
+use Rattle.cq_meaning.specs.Groups.{distinct, group_with, groups_by, groups_of}
 use Rattle.cq_meaning.specs.Lists.{Has}
 use Rattle.cq_meaning.proofs.RowLaws.{NoTwins, same_is, same_from, same_itself, not_true, true_not_false, differ_back, with_new, distinct_push, distinct_differ, has_distinct, filter_none}
 use Rattle.cq_meaning.proofs.MapLaws.{map_push, map_same, filter_push, has_mapped}
@@ -52,3 +54,13 @@ groups_push key rows r = sym (
     fresh (subst (λ z. Has (distinct (map key rows)) z) (sym (same_is (key r) (key s) t)) (has_distinct (map key rows) (key s) (has_mapped key rows s i))))))
     ∙ (ap (λ ks. map (group_with key (rows ++ r ∷ [])) ks) (sym (distinct_push (map key rows) (key r)))
     ∙ ap (λ ks. map (group_with key (rows ++ r ∷ [])) (distinct ks)) (sym (map_push key rows r))))
+
+-- with keys there is a group for each that occurs
+pub by_keys : (es : List Expr) (results : Results) (rows : List Row) → length es ≢ 0 → groups_by (items_of es results) rows ≡ groups_of es results rows
+by_keys [] results rows some = absurd (some refl)
+by_keys (e ∷ es) results rows some = refl
+
+-- and without there is one
+pub no_keys : (es : List Expr) → length es ≡ 0 → es ≡ []
+no_keys [] none = refl
+no_keys (e ∷ es) none = absurd (omega (arith, none))

@@ -1,4 +1,4 @@
-ghost use Rattle.std.specs.Prelude.{◌≡◌, ℕ, length, take as take_first, map, IfOk, All};
+ghost use Rattle.std.specs.Prelude.{◌≡◌, ◌++◌, ℕ, length, take as take_first, map, IfOk, All};
 ghost use Rattle.cq_meaning.specs.Groups.{known_values, added, sum_of, greatest, greater_of, least as the_least, lesser_of, aggregate, group_row};
 ghost use Rattle.cq_meaning.specs.Safety.{Fits, IsSafe, IsSafeAggregate};
 ghost use Rattle.cq_queries.specs.Operands.{owned};
@@ -131,18 +131,19 @@ fn aggregate_of(
 }
 
 /// A group's keys and then its aggregates.
-fn row_of_group(
+pub fn row_of_group(
     alloc: Global,
     aggs: &[Agg],
-    g: &Group,
+    keys: Row,
+    rows: &[Row],
     results: &Lookups<'_>,
 ) -> Result<Row, NoMemory>
-    requires { All (IsSafeAggregate results.now g.now.rows) aggs.now }
-    ensures { IfOk result (λ row. row ≡ group_row aggs.now results.now g.now) }
+    requires { All (IsSafeAggregate results.now rows.now) aggs.now }
+    ensures { IfOk result (λ row. row ≡ keys ++ map (aggregate results.now rows.now) aggs.now) }
 {
-    let mut row = g.keys.copy(alloc)?.into_values(alloc)?;
+    let mut row = keys.into_values(alloc)?;
     for a in aggs {
-        row.put(aggregate_of(alloc, a, g.rows.as_slice(), results)?)?;
+        row.put(aggregate_of(alloc, a, rows, results)?)?;
     }
     Ok(Row::from_values(row))
 }
@@ -159,7 +160,8 @@ pub fn rows_of_groups(
 {
     let mut all = Rows::new(alloc);
     for g in groups {
-        all.put(row_of_group(alloc, aggs, g, results)?)?;
+        let keys = g.keys.copy(alloc)?;
+        all.put(row_of_group(alloc, aggs, keys, g.rows.as_slice(), results)?)?;
     }
     Ok(all)
 }

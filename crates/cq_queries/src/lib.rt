@@ -12,6 +12,7 @@ mod nulls;
 mod operand;
 mod prune;
 mod query;
+mod relation;
 mod rows;
 mod select;
 mod sorting;

@@ -5,19 +5,30 @@ ghost use Rattle.cq_meaning.specs.Safety.{IsSafe, IsSafeCondition, AreSafeOver};
 use crate::expression::{eval, test};
 use crate::logic::is_true;
 use crate::members::Lookups;
+use crate::relation::Relation;
 use cq_tree::{Cond, Expr};
 use cq_value::{NoMemory, Row, Rows, Values};
 use std::alloc::Global;
 
+/// Copies of the rows of which a condition is true.
+fn copy_kept(alloc: Global, c: &Cond, rows: &[Row], results: &Lookups<'_>) -> Result<Rows, NoMemory>
+    requires { All (λ row. IsSafeCondition c.now row results.now) rows.now }
+    ensures { IfOk result (λ kept. kept ≡ filter (keeps c.now results.now) rows.now) }
+{
+    let mut kept = Rows::new(alloc);
+    for row in rows {
+        if is_true(test(c, row, results)) {
+            kept.put(row.copy(alloc)?)?;
+        }
+    }
+    Ok(kept)
+}
+
 /// The rows of which a condition is true.
-#[tactic(auto, using(crate::proofs::PruneLaws::all_kept))]
-pub fn select(alloc: Global, c: &Cond, rows: Rows, results: &Lookups<'_>) -> Result<Rows, NoMemory>
+fn move_kept(alloc: Global, c: &Cond, rows: Rows, results: &Lookups<'_>) -> Result<Rows, NoMemory>
     requires { All (λ row. IsSafeCondition c.now row results.now) rows }
     ensures { IfOk result (λ kept. kept ≡ filter (keeps c.now results.now) rows) }
 {
-    if let Cond::Always = c {
-        return Ok(rows);
-    }
     let mut kept = Rows::new(alloc);
     for row in rows.into_vec() {
         if is_true(test(c, &row, results)) {
@@ -25,6 +36,28 @@ pub fn select(alloc: Global, c: &Cond, rows: Rows, results: &Lookups<'_>) -> Res
         }
     }
     Ok(kept)
+}
+
+/// The rows of which a condition is true. Lent rows are copied where one is left out.
+#[tactic(auto, using(crate::proofs::PruneLaws::all_kept))]
+pub fn select<'a>(
+    alloc: Global,
+    c: &Cond,
+    rows: Relation<'a>,
+    results: &Lookups<'_>,
+) -> Result<Relation<'a>, NoMemory>
+    requires { All (λ row. IsSafeCondition c.now row results.now) rows }
+    ensures { IfOk result (λ kept. kept ≡ filter (keeps c.now results.now) rows.entry) }
+{
+    if let Cond::Always = c {
+        return Ok(rows);
+    }
+    let kept = if rows.is_lent() {
+        copy_kept(alloc, c, rows.as_slice(), results)?
+    } else {
+        move_kept(alloc, c, rows.into_rows(alloc)?, results)?
+    };
+    Ok(Relation::own(kept))
 }
 
 /// The values of expressions over a row.

@@ -1,7 +1,7 @@
 use Rattle.std.proofs.Common.{◌≡◌}
 use Rattle.std.specs.Prelude.{filter}
 use Rattle.cq_meaning.specs.Expressions.{keeps}
-use Rattle.cq_queries.proofs.select.select.Given as goal
+use Rattle.cq_queries.proofs.select.move_kept.Given as goal
 
 abbrev pub invariant-loop-row : goal.invariant-loop-row
 invariant-loop-row l = l.kept ≡ filter (keeps l.c l.results) l.yielded
