@@ -91,7 +91,7 @@ fn lines(alloc: Global, line: &[u8]) -> Result<Vec<u8>, NoMemory> {
     Ok(all)
 }
 
-fn data(alloc: Global) -> Result<Data, NoMemory> {
+fn made(alloc: Global) -> Result<Data, NoMemory> {
     Ok(Data {
         table: table(alloc)?,
         text: lines(alloc, b"1871\t90210\tpage 731\t4711\n")?,
@@ -143,7 +143,7 @@ fn read(alloc: Global, reader: Reader, data: &Data) -> Result<usize, NoMemory> {
 
 fn main(rt: HostRuntime) -> io::Result<()> {
     let alloc = rt.alloc();
-    let Ok(data) = data(alloc) else {
+    let Ok(data) = made(alloc) else {
         return println!(rt; "out of memory");
     };
     let readers = [
