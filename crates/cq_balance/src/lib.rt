@@ -5,8 +5,6 @@ mod laws;
 mod load;
 mod loads;
 mod planning;
-#[cfg(test)]
-mod tests;
 
 pub use laws::greedy_laws;
 pub use load::{Load, Loads, Move, Moves};

@@ -3,8 +3,6 @@
 
 mod laws;
 mod log;
-#[cfg(test)]
-mod tests;
 
 pub use laws::log_laws;
 pub use log::{ChangeLog, TableChange};
