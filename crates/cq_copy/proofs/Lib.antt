@@ -1,3 +1,4 @@
 pub mod TextLaws
 pub mod RowLaws
 pub mod RecordLaws
+pub mod ValueLaws

@@ -15,7 +15,7 @@ ghost use Rattle.cq_copy.specs.Records.{Reads, Gave};
 use crate::error::CopyError;
 use crate::format::Format;
 use crate::frame::Frame;
-use crate::values::utf8_text;
+use crate::values::is_text;
 use cq_catalog::TableInfo;
 use cq_value::{NoMemory, Row, Rows};
 use csv::{ByteRecord, Reader, ReaderBuilder};
@@ -57,10 +57,10 @@ fn fields_in(alloc: Global, raw: &ByteRecord) -> Result<Vec<&[u8]>, AllocError>
     Ok(fields)
 }
 
-fn is_text(fields: &[&[u8]]) -> bool
+fn are_texts(fields: &[&[u8]]) -> bool
     ensures { result ≡ list_all (λ f. is_utf8 f.now) fields.now }
 {
-    fields.iter().all(|field| utf8_text(field).is_some())
+    fields.iter().all(|field| is_text(field))
 }
 
 /// The row of a record's fields, or its first refusal.
@@ -70,7 +70,7 @@ fn row_of_texts(frame: &Frame<'_>, row: u64, fields: &[&[u8]]) -> Result<Row, Co
     requires absent { frame.now.absent ≡ spec.missing frame.now.table.now frame.now.listed.now }
     ensures { Gives result (of_records.row_of_record frame.now.table.now frame.now.listed.now row (map (λ f. f.now) fields.now)) }
 {
-    if !is_text(fields) {
+    if !are_texts(fields) {
         return Err(CopyError::Encoding { row });
     }
     frame.row_of_fields(row, fields)

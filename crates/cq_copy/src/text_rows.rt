@@ -7,7 +7,7 @@ use crate::error::CopyError;
 use crate::format::Format;
 use crate::frame::Frame;
 use crate::texts::{fields_of, first_line};
-use crate::values::utf8_text;
+use crate::values::is_text;
 use cq_catalog::TableInfo;
 use cq_value::{Row, Rows};
 use std::alloc::Global;
@@ -19,7 +19,7 @@ fn row_of_line(frame: &Frame<'_>, row: u64, line: &[u8]) -> Result<Row, CopyErro
     requires absent { frame.now.absent ≡ spec.missing frame.now.table.now frame.now.listed.now }
     ensures { Gives result (spec.row_of_line frame.now.table.now frame.now.listed.now row line.now) }
 {
-    if utf8_text(line).is_none() {
+    if !is_text(line) {
         return Err(CopyError::Encoding { row });
     }
     let fields = fields_of(frame.alloc, line)?;

@@ -1,6 +1,6 @@
 ghost use Rattle.std.specs.Prelude.{◌≡◌, ◌≤◌, ◌+◌, ◌-◌, ◌^◌, min, length, fold, true, false, Some, IfOk, MatchOption, option_map};
 ghost use Rattle.std.specs.List.{prefix_len, list_all};
-ghost use Rattle.std.specs.Char.{is_ascii_digit};
+ghost use Rattle.std.specs.Char.{is_ascii, is_ascii_digit};
 ghost use Rattle.std.specs.Str.{is_utf8};
 ghost use Rattle.cq_copy.specs.Values as spec;
 ghost use Rattle.cq_copy.specs.Values.{is_space, with_digit, value_in};
@@ -114,13 +114,26 @@ fn number_within(limit: u64, text: &[u8]) -> Option<Value>
 }
 
 /// The text of these bytes, if they are UTF-8.
-pub(crate) fn utf8_text(bytes: &[u8]) -> Option<&str>
+fn utf8_text(bytes: &[u8]) -> Option<&str>
     ensures { MatchOption result (is_utf8 bytes.now ≡ false) (λ s. (is_utf8 bytes.now ≡ true) × (s.now ≡ bytes.now)) }
 {
     match str::from_utf8(bytes) {
         Ok(text) => Some(text),
         Err(_) => None,
     }
+}
+
+fn are_ascii(bytes: &[u8]) -> bool
+    ensures { result ≡ list_all is_ascii bytes.now }
+{
+    bytes.iter().all(|byte| *byte < 128)
+}
+
+/// Whether bytes are UTF-8. Where all are ASCII, as in most data, a look at each tells.
+pub(crate) fn is_text(bytes: &[u8]) -> bool
+    ensures { result ≡ is_utf8 bytes.now }
+{
+    are_ascii(bytes) || utf8_text(bytes).is_some()
 }
 
 /// The text of these bytes as a value, if they are UTF-8.
