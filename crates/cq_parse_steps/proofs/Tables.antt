@@ -11,16 +11,16 @@ abbrev pub only : (ℕ → Bool) → List (List ℕ × Kind) → List (List ℕ 
 only f [] = []
 only f (w ∷ ws) = if f (length w.0) then w ∷ only f ws else only f ws
 
-other_length : (f : ℕ → Bool) (w word : List ℕ) → f (length word) ≡ true → f (length w) ≡ false → w ≡ word → ⊥
-other_length f w word passes fails e = let bad : true ≡ false = sym passes ∙ ap (λ u. f (length u)) (sym e) ∙ fails in cc
+pub another : (w word : List ℕ) → (word ≡ w → ⊥) → bytes_eq w word ≡ false
+another w word differs = false_from_ne_true (bytes_eq w word) (λ e. differs (sym ((bytes_eq-Decides w word).0 e)))
 
-another : (f : ℕ → Bool) (w word : List ℕ) → f (length word) ≡ true → f (length w) ≡ false → bytes_eq w word ≡ false
-another f w word passes fails = false_from_ne_true (bytes_eq w word) (λ e. other_length f w word passes fails ((bytes_eq-Decides w word).0 e))
+other_length : (f : ℕ → Bool) (w word : List ℕ) → f (length word) ≡ true → f (length w) ≡ false → word ≡ w → ⊥
+other_length f w word passes fails e = let bad : true ≡ false = sym passes ∙ ap (λ u. f (length u)) e ∙ fails in cc
 
 one_more : (f : ℕ → Bool) (w : List ℕ × Kind) (ws : List (List ℕ × Kind)) (otherwise : Kind) (word : List ℕ) (b : Bool) → f (length w.0) ≡ b → f (length word) ≡ true →
     found_in ws otherwise word ≡ found_in (only f ws) otherwise word → found_in (w ∷ ws) otherwise word ≡ found_in (if b then w ∷ only f ws else only f ws) otherwise word
 one_more f w ws otherwise word true e passes rest = ap (λ kind. if bytes_eq w.0 word then w.1 else kind) rest
-one_more f w ws otherwise word false e passes rest = rw (another f w.0 word passes e) rest
+one_more f w ws otherwise word false e passes rest = rw (another w.0 word (other_length f w.0 word passes e)) rest
 
 among : (f : ℕ → Bool) (ws : List (List ℕ × Kind)) (otherwise : Kind) (word : List ℕ) → f (length word) ≡ true → found_in ws otherwise word ≡ found_in (only f ws) otherwise word
 among f [] otherwise word passes = refl
