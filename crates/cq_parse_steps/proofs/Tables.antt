@@ -1,20 +1,15 @@
 -- A word is looked for among those of its length alone.
-use Rattle.std.proofs.Common.{◌≡◌, ℕ, List, [], ◌∷◌, length, Bool, true, false, refl, sym, ◌∙◌, ap, bytes_eq}
+use Rattle.std.proofs.Common.{◌≡◌, ℕ, List, [], ◌∷◌, length, Bool, true, false, refl, sym, ◌∙◌, ap, bytes_eq, nat_eq, if◌then◌else◌}
 use Rattle.std.proofs.lemmas.Bool.{false_from_ne_true}
 use Rattle.std.proofs.lemmas.Slice.Eq.{bytes_eq-Decides}
 use Rattle.cq_grammar.specs.declared.kind.Kind.{Kind}
 use Rattle.cq_grammar.specs.declared.kind.Kind.TheVariants as k
 use Rattle.cq_grammar.specs.Words.{reserved_words, other_words, found_in, kind_of_word}
 
--- the first where the test passes, and the second anyway
-abbrev pub Also : Bool → Type 0 → Type 0 → Type 0
-Also true P Q = P × Q
-Also false P Q = Q
-
--- the word is none of those whose length passes the test
-abbrev pub Absent : (ℕ → Bool) → List (List ℕ × Kind) → List ℕ → Type 0
-Absent f [] word = Unit
-Absent f (w ∷ ws) word = Also (f (length w.0)) (word ≡ w.0 → ⊥) (Absent f ws word)
+-- the words whose length passes the test
+abbrev pub only : (ℕ → Bool) → List (List ℕ × Kind) → List (List ℕ × Kind)
+only f [] = []
+only f (w ∷ ws) = if f (length w.0) then w ∷ only f ws else only f ws
 
 pub another : (w word : List ℕ) → (word ≡ w → ⊥) → bytes_eq w word ≡ false
 another w word differs = false_from_ne_true (bytes_eq w word) (λ e. differs (sym ((bytes_eq-Decides w word).0 e)))
@@ -22,20 +17,19 @@ another w word differs = false_from_ne_true (bytes_eq w word) (λ e. differs (sy
 other_length : (f : ℕ → Bool) (w word : List ℕ) → f (length word) ≡ true → f (length w) ≡ false → word ≡ w → ⊥
 other_length f w word passes fails e = let bad : true ≡ false = sym passes ∙ ap (λ u. f (length u)) e ∙ fails in cc
 
-passed : (w : List ℕ × Kind) (otherwise : Kind) (ws : List (List ℕ × Kind)) (word : List ℕ) → (word ≡ w.0 → ⊥) → found_in ws otherwise word ≡ otherwise →
-    found_in (w ∷ ws) otherwise word ≡ otherwise
-passed w otherwise ws word differs rest = rw (another w.0 word differs) rest
+one_more : (f : ℕ → Bool) (w : List ℕ × Kind) (ws : List (List ℕ × Kind)) (otherwise : Kind) (word : List ℕ) (b : Bool) → f (length w.0) ≡ b → f (length word) ≡ true →
+    found_in ws otherwise word ≡ found_in (only f ws) otherwise word → found_in (w ∷ ws) otherwise word ≡ found_in (if b then w ∷ only f ws else only f ws) otherwise word
+one_more f w ws otherwise word true e passes rest = ap (λ kind. if bytes_eq w.0 word then w.1 else kind) rest
+one_more f w ws otherwise word false e passes rest = rw (another w.0 word (other_length f w.0 word passes e)) rest
 
-by_length : (f : ℕ → Bool) (w : List ℕ × Kind) (ws : List (List ℕ × Kind)) (otherwise : Kind) (word : List ℕ) (b : Bool) → f (length w.0) ≡ b → f (length word) ≡ true →
-    (Absent f ws word → found_in ws otherwise word ≡ otherwise) → Also b (word ≡ w.0 → ⊥) (Absent f ws word) → found_in (w ∷ ws) otherwise word ≡ otherwise
-by_length f w ws otherwise word true e passes rest absent = passed w otherwise ws word absent.0 (rest absent.1)
-by_length f w ws otherwise word false e passes rest absent = passed w otherwise ws word (other_length f w.0 word passes e) (rest absent)
+among : (f : ℕ → Bool) (ws : List (List ℕ × Kind)) (otherwise : Kind) (word : List ℕ) → f (length word) ≡ true → found_in ws otherwise word ≡ found_in (only f ws) otherwise word
+among f [] otherwise word passes = refl
+among f (w ∷ ws) otherwise word passes = one_more f w ws otherwise word (f (length w.0)) refl passes (among f ws otherwise word passes)
 
-not_found : (f : ℕ → Bool) (ws : List (List ℕ × Kind)) (otherwise : Kind) (word : List ℕ) → f (length word) ≡ true → Absent f ws word → found_in ws otherwise word ≡ otherwise
-not_found f [] otherwise word passes absent = refl
-not_found f (w ∷ ws) otherwise word passes absent = by_length f w ws otherwise word (f (length w.0)) refl passes (not_found f ws otherwise word passes) absent
-
--- a word that is none of those in the tables has no meaning of its own
-pub no_word : (f : ℕ → Bool) (word : List ℕ) → f (length word) ≡ true → Absent f reserved_words word → Absent f other_words word → kind_of_word word ≡ k.Name
+pub by_length : (f : ℕ → Bool) (word : List ℕ) → f (length word) ≡ true → kind_of_word word ≡ found_in (only f reserved_words) (found_in (only f other_words) k.Name word) word
 unfolding kind_of_word
-no_word f word passes reserved other = not_found f reserved_words (found_in other_words k.Name word) word passes reserved ∙ not_found f other_words k.Name word passes other
+by_length f word passes =
+    among f reserved_words (found_in other_words k.Name word) word passes ∙ ap (λ kind. found_in (only f reserved_words) kind word) (among f other_words k.Name word passes)
+
+pub of_length : (n : ℕ) (word : List ℕ) → length word ≡ n → nat_eq n n ≡ true → kind_of_word word ≡ found_in (only (nat_eq n) reserved_words) (found_in (only (nat_eq n) other_words) k.Name word) word
+of_length n word e same = by_length (nat_eq n) word (ap (nat_eq n) e ∙ same)

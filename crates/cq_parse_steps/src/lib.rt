@@ -5,6 +5,7 @@
 mod kinds;
 mod lists;
 mod parser;
+mod split;
 mod words;
 
 pub use kinds::{

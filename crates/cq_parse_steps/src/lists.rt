@@ -11,6 +11,9 @@ use crate::parser::Parser;
 use cq_grammar::{Kind, Refusal};
 use cq_value::Items;
 
+/// How many items a list has room for at first.
+const ROOM: u64 = 4;
+
 /// Puts behind `front` what `item` reads, from number `start` on, as long as a token of these kinds comes next. The tokens
 /// bound the turns, since each item takes one or more.
 fn more<T: Drop, F: Fn(&mut Parser<'_>, usize) -> Result<T, Refusal>>(
@@ -73,7 +76,7 @@ pub fn list<T: Drop, F: Fn(&mut Parser<'_>, usize) -> Result<T, Refusal>>(
     ensures { (p : ℕ → Reader T) → Follows (F.post item) p → Reads (descent.list p parser.old) result parser.new }
 {
     let first = item(parser, 0)?;
-    let mut front = Items::new(parser.alloc());
+    let mut front = Items::with_room(parser.alloc(), ROOM)?;
     front.put(first)?;
     let behind_comma = |parser: &mut Parser<'_>, before: usize| -> Result<T, Refusal>
         requires { IsCallable (F.pre item) }

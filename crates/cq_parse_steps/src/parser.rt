@@ -1,4 +1,4 @@
-ghost use Rattle.std.specs.Prelude.{◌≡◌, ◌≢◌, [], ◌∷◌, length, IsTrue, ◌↔◌, MatchOption, IfOk, IfErr, Ok, Err};
+ghost use Rattle.std.specs.Prelude.{◌≡◌, ◌≢◌, [], ◌∷◌, length, IsTrue, ◌↔◌, IfOk, IfErr, Ok, Err};
 ghost use Rattle.cq_grammar.specs.declared.error.Refusal.TheVariants.{Syntax, Memory};
 ghost use Rattle.cq_grammar.specs.Read.{bad};
 ghost use Rattle.cq_grammar.specs.Words.{of, same_kind, number_of};
@@ -9,6 +9,7 @@ ghost use Rattle.cq_parse_steps.specs.Reads.{Reads, UsedUp};
 ghost use Rattle.cq_grammar.specs.Terminals.{name_of};
 ghost use Rattle.cq_parse_steps.specs.Next.{next_kind};
 
+use crate::split::split;
 use crate::words::kind_of;
 use cq_grammar::{Count, Kind, Name, Refusal};
 use cq_token::{Token, TokenKind};
@@ -21,15 +22,6 @@ fn same_kind(a: Kind, b: Kind) -> bool
     ensures { result ≡ same_kind a b }
 {
     a == b
-}
-
-fn split(kinds: &[Kind]) -> Option<(Kind, &[Kind])>
-    ensures { MatchOption result (kinds.now ≡ []) (λ p. kinds.now ≡ p.0 ∷ p.1.now) }
-{
-    match kinds {
-        [] => None,
-        [first, rest @ ..] => Some((*first, rest)),
-    }
 }
 
 /// Whether this kind is one of those.

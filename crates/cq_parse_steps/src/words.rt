@@ -1,6 +1,9 @@
-ghost use Rattle.std.specs.Prelude.{◌≡◌, ◌≤◌, length};
+ghost use Rattle.std.specs.Prelude.{◌≡◌, ℕ, List, length, bytes_eq};
+ghost use Rattle.cq_grammar.specs.declared.kind.Kind.TheVariants.{Name};
 ghost use Rattle.cq_grammar.specs.Words as spec;
+ghost use Rattle.cq_parse_steps.specs.Entries.{entries};
 
+use crate::split::split;
 use cq_grammar::Kind;
 use cq_token::{Sign, TokenKind};
 
@@ -28,174 +31,153 @@ fn kind_of_sign(sign: Sign) -> Kind
     }
 }
 
-/// The kind of a word of two letters.
-#[tactic(auto, unfolding(cq_grammar::specs::Words::kind_of_word))]
-fn of_two(word: &str) -> Kind
-    requires { length word.now ≡ 2 }
-    ensures { result ≡ spec.kind_of_word word.now }
+/// The words of two letters, with their kinds.
+const TWO: &[(&str, Kind)] = &[
+    ("as", Kind::As),
+    ("by", Kind::By),
+    ("in", Kind::In),
+    ("is", Kind::Is),
+    ("on", Kind::On),
+    ("or", Kind::Or),
+    ("to", Kind::To),
+];
+
+/// The words of three letters, with their kinds.
+const THREE: &[(&str, Kind)] = &[
+    ("all", Kind::All),
+    ("and", Kind::And),
+    ("asc", Kind::Asc),
+    ("end", Kind::End),
+    ("key", Kind::Key),
+    ("max", Kind::Max),
+    ("min", Kind::Min),
+    ("not", Kind::Not),
+    ("set", Kind::Set),
+    ("sum", Kind::Sum),
+    ("csv", Kind::Csv),
+    ("int", Kind::Int),
+    ("off", Kind::Off),
+];
+
+/// The words of four letters, with their kinds.
+const FOUR: &[(&str, Kind)] = &[
+    ("case", Kind::Case),
+    ("copy", Kind::Copy),
+    ("desc", Kind::Desc),
+    ("else", Kind::Else),
+    ("from", Kind::From),
+    ("into", Kind::Into),
+    ("join", Kind::Join),
+    ("left", Kind::Left),
+    ("null", Kind::Null),
+    ("then", Kind::Then),
+    ("when", Kind::When),
+    ("with", Kind::With),
+    ("text", Kind::Text),
+];
+
+/// The words of five letters, with their kinds.
+const FIVE: &[(&str, Kind)] = &[
+    ("count", Kind::Count),
+    ("cross", Kind::Cross),
+    ("group", Kind::Group),
+    ("inner", Kind::Inner),
+    ("limit", Kind::Limit),
+    ("order", Kind::Order),
+    ("outer", Kind::Outer),
+    ("table", Kind::Table),
+    ("where", Kind::Where),
+    ("stdin", Kind::Stdin),
+];
+
+/// The words of six letters, with their kinds.
+const SIX: &[(&str, Kind)] = &[
+    ("create", Kind::Create),
+    ("delete", Kind::Delete),
+    ("having", Kind::Having),
+    ("insert", Kind::Insert),
+    ("offset", Kind::Offset),
+    ("select", Kind::Select),
+    ("update", Kind::Update),
+    ("values", Kind::Values),
+    ("bigint", Kind::Bigint),
+    ("format", Kind::Format),
+    ("header", Kind::Header),
+];
+
+/// The words of seven letters, with their kinds.
+const SEVEN: &[(&str, Kind)] = &[
+    ("between", Kind::Between),
+    ("explain", Kind::Explain),
+    ("primary", Kind::Primary),
+    ("integer", Kind::Integer),
+];
+
+/// The words of eight letters, with their kinds.
+const EIGHT: &[(&str, Kind)] = &[("coalesce", Kind::Coalesce), ("distinct", Kind::Distinct)];
+
+/// The words of more letters, with their kinds.
+const LONG: &[(&str, Kind)] = &[
+    ("create_distributed_table", Kind::Call),
+    ("create_reference_table", Kind::Call),
+    ("citus_move_shard_placement", Kind::Call),
+    ("rebalance_table_shards", Kind::Call),
+    ("get_rebalance_table_shards_plan", Kind::Call),
+];
+
+/// The words that a word of so many letters may be, with their kinds.
+fn words_of(len: usize) -> &'static [(&'static str, Kind)]
+    ensures { (word : List ℕ) → length word ≡ len → spec.kind_of_word word ≡ spec.found_in (entries result.now) Name word }
 {
-    match word {
-        "as" => Kind::As,
-        "by" => Kind::By,
-        "in" => Kind::In,
-        "is" => Kind::Is,
-        "on" => Kind::On,
-        "or" => Kind::Or,
-        "to" => Kind::To,
-        _ => Kind::Name,
+    match len {
+        0 | 1 => &[],
+        2 => TWO,
+        3 => THREE,
+        4 => FOUR,
+        5 => FIVE,
+        6 => SIX,
+        7 => SEVEN,
+        8 => EIGHT,
+        _ => LONG,
     }
 }
 
-/// The kind of a word of three letters.
-#[tactic(auto, unfolding(cq_grammar::specs::Words::kind_of_word))]
-fn of_three(word: &str) -> Kind
-    requires { length word.now ≡ 3 }
-    ensures { result ≡ spec.kind_of_word word.now }
+/// Whether the bytes are the same. Most words differ in the first.
+fn are_same(a: &[u8], b: &[u8]) -> bool
+    ensures { result ≡ bytes_eq a.now b.now }
 {
-    match word {
-        "all" => Kind::All,
-        "and" => Kind::And,
-        "asc" => Kind::Asc,
-        "end" => Kind::End,
-        "key" => Kind::Key,
-        "max" => Kind::Max,
-        "min" => Kind::Min,
-        "not" => Kind::Not,
-        "set" => Kind::Set,
-        "sum" => Kind::Sum,
-        "csv" => Kind::Csv,
-        "int" => Kind::Int,
-        "off" => Kind::Off,
-        _ => Kind::Name,
+    let mut left = a;
+    let mut right = b;
+    'bytes: while let Some((first, rest)) = split(left) {
+        let Some((second, others)) = split(right) else {
+            return false;
+        };
+        if first != second {
+            return false;
+        }
+        left = rest;
+        right = others;
     }
+    right.is_empty()
 }
 
-/// The kind of a word of four letters.
-#[tactic(auto, unfolding(cq_grammar::specs::Words::kind_of_word))]
-fn of_four(word: &str) -> Kind
-    requires { length word.now ≡ 4 }
-    ensures { result ≡ spec.kind_of_word word.now }
+/// The kind that the list gives a word, or else that of names.
+fn found_in(words: &[(&str, Kind)], word: &str) -> Kind
+    ensures { result ≡ spec.found_in (entries words.now) Name word.now }
 {
-    match word {
-        "case" => Kind::Case,
-        "copy" => Kind::Copy,
-        "desc" => Kind::Desc,
-        "else" => Kind::Else,
-        "from" => Kind::From,
-        "into" => Kind::Into,
-        "join" => Kind::Join,
-        "left" => Kind::Left,
-        "null" => Kind::Null,
-        "then" => Kind::Then,
-        "when" => Kind::When,
-        "with" => Kind::With,
-        "text" => Kind::Text,
-        _ => Kind::Name,
+    'words: for (known, kind) in words {
+        if are_same(known.as_bytes(), word.as_bytes()) {
+            return *kind;
+        }
     }
-}
-
-/// The kind of a word of five letters.
-#[tactic(auto, unfolding(cq_grammar::specs::Words::kind_of_word))]
-fn of_five(word: &str) -> Kind
-    requires { length word.now ≡ 5 }
-    ensures { result ≡ spec.kind_of_word word.now }
-{
-    match word {
-        "count" => Kind::Count,
-        "cross" => Kind::Cross,
-        "group" => Kind::Group,
-        "inner" => Kind::Inner,
-        "limit" => Kind::Limit,
-        "order" => Kind::Order,
-        "outer" => Kind::Outer,
-        "table" => Kind::Table,
-        "where" => Kind::Where,
-        "stdin" => Kind::Stdin,
-        _ => Kind::Name,
-    }
-}
-
-/// The kind of a word of six letters.
-#[tactic(auto, unfolding(cq_grammar::specs::Words::kind_of_word))]
-fn of_six(word: &str) -> Kind
-    requires { length word.now ≡ 6 }
-    ensures { result ≡ spec.kind_of_word word.now }
-{
-    match word {
-        "create" => Kind::Create,
-        "delete" => Kind::Delete,
-        "having" => Kind::Having,
-        "insert" => Kind::Insert,
-        "offset" => Kind::Offset,
-        "select" => Kind::Select,
-        "update" => Kind::Update,
-        "values" => Kind::Values,
-        "bigint" => Kind::Bigint,
-        "format" => Kind::Format,
-        "header" => Kind::Header,
-        _ => Kind::Name,
-    }
-}
-
-/// The kind of a word of seven letters.
-#[tactic(auto, unfolding(cq_grammar::specs::Words::kind_of_word))]
-fn of_seven(word: &str) -> Kind
-    requires { length word.now ≡ 7 }
-    ensures { result ≡ spec.kind_of_word word.now }
-{
-    match word {
-        "between" => Kind::Between,
-        "explain" => Kind::Explain,
-        "primary" => Kind::Primary,
-        "integer" => Kind::Integer,
-        _ => Kind::Name,
-    }
-}
-
-/// The kind of a word of eight letters.
-#[tactic(auto, unfolding(cq_grammar::specs::Words::kind_of_word))]
-fn of_eight(word: &str) -> Kind
-    requires { length word.now ≡ 8 }
-    ensures { result ≡ spec.kind_of_word word.now }
-{
-    match word {
-        "coalesce" => Kind::Coalesce,
-        "distinct" => Kind::Distinct,
-        _ => Kind::Name,
-    }
-}
-
-/// The kind of a longer word.
-#[tactic(auto, unfolding(cq_grammar::specs::Words::kind_of_word))]
-fn of_many(word: &str) -> Kind
-    requires { 9 ≤ length word.now }
-    ensures { result ≡ spec.kind_of_word word.now }
-{
-    match word {
-        "create_distributed_table" => Kind::Call,
-        "create_reference_table" => Kind::Call,
-        "citus_move_shard_placement" => Kind::Call,
-        "rebalance_table_shards" => Kind::Call,
-        "get_rebalance_table_shards_plan" => Kind::Call,
-        _ => Kind::Name,
-    }
+    Kind::Name
 }
 
 /// The kind of a word, which is looked for among those of its length.
 fn kind_of_word(word: &str) -> Kind
     ensures { result ≡ spec.kind_of_word word.now }
 {
-    match word.len() {
-        0 | 1 => Kind::Name,
-        2 => of_two(word),
-        3 => of_three(word),
-        4 => of_four(word),
-        5 => of_five(word),
-        6 => of_six(word),
-        7 => of_seven(word),
-        8 => of_eight(word),
-        _ => of_many(word),
-    }
+    found_in(words_of(word.len()), word)
 }
 
 /// What the grammar tells a token by.
