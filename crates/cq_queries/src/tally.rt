@@ -112,7 +112,7 @@ fn take_row<'a>(a: &'a Agg, so_far: Operand<'a>, row: &'a Row, results: &Lookups
 }
 
 /// An aggregate, and what it comes to over the rows so far. Contracts see both.
-#[derive(Debug, Drop)]
+#[derive(Drop)]
 pub struct Tally<'a> {
     agg: &'a Agg,
     so_far: Operand<'a>,
@@ -171,7 +171,7 @@ fn put_all_values(alloc: Global, row: &mut Values, list: &[Tally<'_>]) -> Result
 }
 
 /// Aggregates over the rows so far. Contracts see each, and what it comes to.
-#[derive(Debug, Drop)]
+#[derive(Drop)]
 pub struct Tallies<'a> {
     list: Vec<Tally<'a>>,
 }

@@ -18,7 +18,7 @@ use std::marker::Model;
 use std::mem;
 
 /// What is kept of a group: its keys, how many rows it has so far, and its aggregates over them.
-#[derive(Debug, Drop)]
+#[derive(Drop)]
 pub struct TalliedGroup<'a> {
     keys: Values,
     rows: u64,
