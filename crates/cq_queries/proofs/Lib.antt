@@ -3,6 +3,8 @@ pub mod GroupPush
 pub mod PairLaws
 pub mod PruneLaws
 pub mod StepLaws
+pub mod TallyLaws
+pub mod TalliedLaws
 pub mod TieLaws
 pub mod TreeRows
 pub mod MemberLaws

@@ -1,7 +1,10 @@
 pub mod Kept
+pub mod LentKeys
 pub mod Operands
 pub mod Pruned
 pub mod Relations
+pub mod Tallied
+pub mod Tallies
 pub mod Ties
 pub mod TreeLists
 pub mod Members

@@ -4,8 +4,8 @@
 
 mod aggregate;
 mod expression;
-mod group;
 mod join;
+mod lent_key;
 mod logic;
 mod members;
 mod nulls;
@@ -16,6 +16,8 @@ mod relation;
 mod rows;
 mod select;
 mod sorting;
+mod tally;
+mod tallying;
 mod ties;
 
 pub use expression::{eval, test};

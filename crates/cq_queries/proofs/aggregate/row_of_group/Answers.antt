@@ -1,0 +1,8 @@
+use Rattle.std.proofs.Common.{◌≡◌, ◌++◌, map, ap, ◌∙◌, rules}
+use Rattle.cq_meaning.specs.Groups.{aggregate}
+use Rattle.cq_queries.specs.Tallies.{Tally}
+use Rattle.cq_queries.proofs.TalliedLaws.{row_values}
+use Rattle.cq_queries.proofs.aggregate.row_of_group.Goals as goal
+
+pub returns : goal.returns
+returns c = search (rules, row_values)
