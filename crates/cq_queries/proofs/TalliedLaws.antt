@@ -20,7 +20,7 @@ use Rattle.cq_meaning.proofs.MapLaws.{has_mapped}
 use Rattle.cq_keys.specs.KeyLaws.{row_cmp_total}
 use Rattle.cq_keys.specs.Keyed.{put_in_group}
 use Rattle.cq_queries.specs.declared.tallying.TalliedGroup.{TalliedGroup}
-use Rattle.cq_queries.specs.Tallies.{Tally, tally_over, tally_with, CanTally}
+use Rattle.cq_queries.specs.Tallies.{Tally, tally_over, tally_with}
 use Rattle.cq_queries.specs.Tallied.{tallied, unseen, grown, row_of_tallied, is_large_tallied, found_or, put_changed, place_of, CanGrow}
 use Rattle.cq_queries.proofs.GroupPush.{groups_push}
 use Rattle.cq_queries.proofs.TallyLaws.{tallies_more, can_tally, few}

@@ -1,5 +1,5 @@
 -- An aggregate over one row more, and what that needs.
-use Rattle.std.proofs.Common.{◌≡◌, ℕ, suc, zero, ◌+◌, ◌<◌, ◌≤◌, ◌^◌, pos, Bool, true, false, cond, List, [], ◌∷◌, ◌++◌, map, length, take, drop, get_or, refl, sym, ap, subst, ◌∙◌, arith, append-nil}
+use Rattle.std.proofs.Common.{◌≡◌, ℕ, suc, zero, ◌<◌, ◌≤◌, ◌^◌, pos, Bool, true, false, cond, List, [], ◌∷◌, ◌++◌, map, length, take, drop, get_or, refl, sym, ap, subst, ◌∙◌, arith, append-nil}
 use Rattle.std.specs.Prelude.{All, filter, fold}
 use Rattle.std.specs.List.{AllByRecursion}
 use Rattle.std.proofs.lemmas.List.{length-append}
@@ -15,7 +15,7 @@ use Rattle.cq_meaning.specs.Expressions.{value_of}
 use Rattle.cq_meaning.specs.Groups.{is_known, known_values, added, sum_of, lesser_of, greater_of, least, greatest, aggregate}
 use Rattle.cq_meaning.specs.Safety.{Fits, IsSafe, IsSafeAggregate}
 use Rattle.cq_meaning.proofs.MapLaws.{map_push}
-use Rattle.cq_queries.specs.Tallies.{Tally, tally_over, one_more, with_row, tally_with, CanTake, CanTally}
+use Rattle.cq_queries.specs.Tallies.{tally_over, one_more, with_row, tally_with, CanTake, CanTally}
 
 known_more : (results : Results) (rows : List Row) (row : Row) (e : Expr) → known_values e results (rows ++ row ∷ []) ≡ known_values e results rows ++ filter is_known (value_of e row results ∷ [])
 known_more results rows row e =

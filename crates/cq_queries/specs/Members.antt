@@ -1,5 +1,5 @@
 -- IN over values, and what of it an order of the values tells.
-use Rattle.std.specs.Prelude.{◌≡◌, List, [], ◌∷◌, map, Bool, true, false}
+use Rattle.std.specs.Prelude.{List, [], ◌∷◌, map, Bool, true, false}
 use Rattle.std.specs.List.{list_any}
 use Rattle.std.specs.List.Sorted.{IsSortedBy}
 use Rattle.std.specs.Ordering.{is_lt}

@@ -1,5 +1,5 @@
 -- Aggregates over the rows so far, and one row more.
-use Rattle.std.specs.Prelude.{◌≡◌, ℕ, pos, ⊤, ◌+◌, ◌<◌, ◌^◌, ◌+ℤ◌, List, [], ◌∷◌, ◌++◌, map, All, if◌then◌else◌}
+use Rattle.std.specs.Prelude.{pos, ◌+ℤ◌, List, if◌then◌else◌}
 use Rattle.cq_value.specs.declared.value.Value.{Value}
 use Rattle.cq_value.specs.declared.value.Value.TheVariants.{Null, Int, Text}
 use Rattle.cq_tree.specs.declared.query.Agg.{Agg}

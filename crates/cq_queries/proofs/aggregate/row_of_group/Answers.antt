@@ -1,6 +1,4 @@
-use Rattle.std.proofs.Common.{◌≡◌, ◌++◌, map, ap, ◌∙◌, rules}
-use Rattle.cq_meaning.specs.Groups.{aggregate}
-use Rattle.cq_queries.specs.Tallies.{Tally}
+use Rattle.std.proofs.Common.{rules}
 use Rattle.cq_queries.proofs.TalliedLaws.{row_values}
 use Rattle.cq_queries.proofs.aggregate.row_of_group.Goals as goal
 

@@ -1,7 +1,6 @@
-use Rattle.std.proofs.Common.{◌≡◌, ℕ, suc, ◌++◌, ◌∷◌, [], ◌+◌, ◌<◌, ◌^◌, List, sym, ap, subst, ◌∙◌, arith, take, drop, map, length}
+use Rattle.std.proofs.Common.{◌≡◌, suc, ◌++◌, ◌∷◌, [], ◌+◌, ◌<◌, ◌^◌, sym, ap, subst, ◌∙◌, arith, take, drop, map, length}
 use Rattle.std.specs.Prelude.{All}
 use Rattle.std.proofs.lemmas.List.{take_more, length-take}
-use Rattle.cq_meaning.specs.Values.{Row}
 use Rattle.cq_meaning.specs.Safety.{IsSafeAggregate}
 use Rattle.cq_queries.specs.Tallies.{tally_over, tally_with, CanTally}
 use Rattle.cq_queries.proofs.TallyLaws.{tallies_more, split_at, can_tally}

@@ -1,4 +1,4 @@
-use Rattle.std.proofs.Common.{◌≡◌, [], ap, ◌∙◌, arith}
+use Rattle.std.proofs.Common.{[], ap, ◌∙◌, arith}
 use Rattle.std.specs.List.{list_any}
 use Rattle.cq_meaning.specs.Expressions.{items_of}
 use Rattle.cq_meaning.specs.Groups.{groups_by}

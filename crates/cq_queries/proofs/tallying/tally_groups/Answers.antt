@@ -1,4 +1,4 @@
-use Rattle.std.proofs.Common.{◌≡◌, ℕ, suc, ◌++◌, ◌∷◌, [], ◌+◌, ◌<◌, ◌^◌, List, sym, ap, subst, ◌∙◌, arith, take, drop, map, length}
+use Rattle.std.proofs.Common.{◌≡◌, suc, ◌++◌, ◌∷◌, [], ◌+◌, ◌<◌, ◌^◌, sym, ap, subst, ◌∙◌, arith, take, drop, map, length}
 use Rattle.std.specs.Prelude.{All}
 use Rattle.std.proofs.lemmas.List.{take_more}
 use Rattle.cq_meaning.specs.declared.Group.{Group}
@@ -6,8 +6,7 @@ use Rattle.cq_meaning.specs.Values.{Row}
 use Rattle.cq_meaning.specs.Expressions.{items_of}
 use Rattle.cq_meaning.specs.Groups.{groups_by}
 use Rattle.cq_meaning.specs.Safety.{IsSafeAggregate}
-use Rattle.cq_queries.specs.LentKeys.{row_of}
-use Rattle.cq_queries.specs.Tallied.{tallied, unseen, grown, put_changed, found_or, CanGrow}
+use Rattle.cq_queries.specs.Tallied.{tallied, unseen, grown, put_changed}
 use Rattle.cq_queries.proofs.TallyLaws.{split_at}
 use Rattle.cq_queries.proofs.TalliedLaws.{groups_tallied, can_grow}
 use Rattle.cq_queries.proofs.tallying.tally_groups.Goals as goal

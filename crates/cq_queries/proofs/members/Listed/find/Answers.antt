@@ -1,4 +1,4 @@
-use Rattle.std.proofs.Common.{◌≡◌, ◌∙◌, sym}
+use Rattle.std.proofs.Common.{◌∙◌, sym}
 use Rattle.std.specs.List.Sorted.{IsPermutation}
 use Rattle.cq_queries.specs.Operands.{owned}
 use Rattle.cq_queries.specs.Members.{first_column}

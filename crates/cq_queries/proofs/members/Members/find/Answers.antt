@@ -1,6 +1,5 @@
-use Rattle.std.proofs.Common.{◌∙◌, sym}
+use Rattle.std.proofs.Common.{sym}
 use Rattle.cq_queries.specs.Operands.{owned}
-use Rattle.cq_queries.specs.Members.{verdict}
 use Rattle.cq_queries.proofs.MemberLaws.{among_is}
 use Rattle.cq_queries.proofs.members.Members.find.Goals as goal
 

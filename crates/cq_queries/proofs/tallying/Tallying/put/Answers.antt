@@ -1,7 +1,6 @@
-use Rattle.std.proofs.Common.{rules, ◌≡◌, [], ◌∷◌, ◌++◌, refl, sym, ap, subst, ◌∙◌, get_or, set, arith}
+use Rattle.std.proofs.Common.{rules, ◌≡◌, [], ◌∷◌, ◌++◌, sym, ap, subst, ◌∙◌, get_or, set, arith}
 use Rattle.std.specs.Prelude.{None, Some, OnOk}
 use Rattle.std.proofs.lemmas.Grind.{common_steps}
-use Rattle.cq_meaning.specs.Values.{Row}
 use Rattle.cq_queries.specs.declared.tallying.TalliedGroup.{TalliedGroup}
 use Rattle.cq_queries.specs.LentKeys.{row_of}
 use Rattle.cq_queries.specs.Tallied.{unseen, grown, put_changed, place_of, found_or, CanGrow}

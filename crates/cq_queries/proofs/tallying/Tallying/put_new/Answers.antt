@@ -1,4 +1,4 @@
-use Rattle.std.proofs.Common.{rules, ◌≡◌, sym, ap, subst, ◌∙◌, length}
+use Rattle.std.proofs.Common.{rules, ◌≡◌, sym, subst, length}
 use Rattle.std.specs.Prelude.{None}
 use Rattle.cq_queries.specs.LentKeys.{row_of}
 use Rattle.cq_queries.specs.Tallied.{place_of}
