@@ -188,11 +188,16 @@ impl Index {
         ensures some { OnOk result (0 < length self.new.buckets) }
     {
         let count = rows.len();
-        if count / 8 < self.buckets.len() && rows.next() <= self.limit {
+        if count < self.buckets.len() && rows.next() <= self.limit {
             return Ok(());
         }
         let limit = rows.next().saturating_add(count.saturating_mul(4));
-        *self = Index::of_columns(alloc, wanted, count / 2 + 1, limit)?;
+        *self = Index::of_columns(
+            alloc,
+            wanted,
+            count.saturating_mul(2).saturating_add(1),
+            limit,
+        )?;
         Ok(())
     }
 
