@@ -1,5 +1,5 @@
 -- What a claim of a column says of its value set.
-use Rattle.std.proofs.Common.{◌≡◌, ℕ, Bool, true, false, cond, List, [], ◌∷◌, fold, filter, Some, None, nat_eq, refl, sym, ap, ◌∙◌, arith}
+use Rattle.std.proofs.Common.{◌≡◌, ℕ, true, false, cond, List, [], ◌∷◌, fold, Some, None, nat_eq, refl, sym, ap, ◌∙◌, arith}
 use Rattle.cq_value.specs.declared.value.Value.{Value}
 use Rattle.cq_tree.specs.declared.expression.Cond.{Cond}
 use Rattle.cq_planning.specs.Conjuncts.{equalities}
