@@ -1,5 +1,7 @@
+pub mod AloneLaws
 pub mod AscendLaws
 pub mod BegunLaws
+pub mod ClaimLaws
 pub mod NumberLaws
 pub mod PlaceLaws
 pub mod FromNodes

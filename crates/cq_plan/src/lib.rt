@@ -2,7 +2,9 @@
 //! `cq_planning` give.
 #![tactic(auto)]
 
+mod alone;
 mod blocks;
+mod claims;
 mod class_lists;
 mod groups;
 mod sets;
@@ -10,6 +12,7 @@ mod statements;
 mod walk;
 mod writes;
 
+pub use alone::table_alone;
 pub use blocks::{Touched, prune, touches};
 pub use class_lists::{Classes, classes};
 pub use groups::in_order;

@@ -3,9 +3,10 @@ ghost use Rattle.std.specs.List.{flat_map};
 ghost use Rattle.cq_tree.specs.declared.statement.Statement.TheVariants as statement;
 ghost use Rattle.cq_planning.specs.Touched.{touched as touched_by_rule};
 
+use crate::alone::table_alone;
 use crate::blocks::touches;
 use crate::groups::in_order;
-use crate::walk::Touch;
+use crate::walk::{Touch, groups_under};
 use crate::writes::{groups_of_rows, groups_of_where};
 use cq_catalog::Catalog;
 use cq_tree::{Query, ShardOp, Statement};
@@ -32,12 +33,23 @@ fn joined_groups(alloc: Global, touches: Items<Touch>) -> Result<Positions, NoMe
     Ok(groups)
 }
 
-/// The groups that a query touches, in ascending order.
-pub fn touched_by_query(alloc: Global, catalog: &Catalog, q: &Query) -> Result<Positions, NoMemory>
+/// The groups that a query touches, in ascending order, by what each of its occurrences of tables touches.
+fn touched_by_each(alloc: Global, catalog: &Catalog, q: &Query) -> Result<Positions, NoMemory>
     ensures { IfOk result (λ groups. groups ≡ touched_by_rule catalog.now (statement.Select q.now)) }
 {
     let groups = joined_groups(alloc, touches(alloc, catalog, q)?)?;
     in_order(alloc, catalog, groups.as_slice())
+}
+
+/// The groups that a query touches, in ascending order.
+#[tactic(auto, using(crate::proofs::AloneLaws::touched_alone_is))]
+pub fn touched_by_query(alloc: Global, catalog: &Catalog, q: &Query) -> Result<Positions, NoMemory>
+    ensures { IfOk result (λ groups. groups ≡ touched_by_rule catalog.now (statement.Select q.now)) }
+{
+    match table_alone(q) {
+        Some(table) => groups_under(alloc, catalog, table, &q.filter),
+        None => touched_by_each(alloc, catalog, q),
+    }
 }
 
 /// The groups that a write touches.

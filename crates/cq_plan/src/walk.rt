@@ -12,6 +12,7 @@ ghost use Rattle.cq_shape.specs.Labels.{label};
 ghost use Rattle.cq_plan.specs.Begun.{set_at as set_at_by_rule, set_of, sets_under, begun, one_begun, seen};
 ghost use Rattle.cq_plan.specs.Touches.{touches, touched_alone, given_by, as_one};
 
+use crate::alone::{home_under, one_group};
 use crate::groups::groups_in;
 use crate::sets::{Base, Begun, BegunList, Right, key_set};
 use cq_catalog::Catalog;
@@ -240,8 +241,8 @@ pub fn put_alone(
     put_query(alloc, catalog, q, Items::new(alloc), found)
 }
 
-/// The groups that a table touches under a WHERE alone, in ascending order.
-pub fn groups_under(
+/// The groups that a table touches under a WHERE alone, in ascending order, by the walk over a FROM of this table.
+fn groups_walked(
     alloc: Global,
     catalog: &Catalog,
     table: u32,
@@ -259,4 +260,19 @@ pub fn groups_under(
     };
     let (groups, _list) = table_in(alloc, catalog, base, nothing(), table, 0)?;
     Ok(groups)
+}
+
+/// The groups that a table touches under a WHERE alone, in ascending order.
+pub fn groups_under(
+    alloc: Global,
+    catalog: &Catalog,
+    table: u32,
+    filter: &Cond,
+) -> Result<Positions, NoMemory>
+    ensures { IfOk result (λ v. v ≡ in_order catalog.now (touched_by_where catalog.now table filter.now)) }
+{
+    match home_under(catalog, table, filter) {
+        Some(group) => one_group(alloc, group),
+        None => groups_walked(alloc, catalog, table, filter),
+    }
 }

@@ -1,3 +1,4 @@
+pub mod AloneLaws
 pub mod FlawLaws
 pub mod BlockLaws
 pub mod CutLaws

@@ -7,7 +7,7 @@ use crate::blocks::put_block;
 use crate::cuts::has_loose_cut;
 use crate::flaws::Flaws;
 use cq_catalog::Catalog;
-use cq_plan::{changes_distribution, row_without_value};
+use cq_plan::{changes_distribution, row_without_value, table_alone};
 use cq_tree::{Query, ShardOp, Statement, Unsupported};
 use cq_value::{Items, NoMemory};
 use std::alloc::Global;
@@ -68,8 +68,9 @@ fn lowest(flaws: &[Flaws], is_cut: bool) -> Option<Unsupported>
     }
 }
 
+/// The refusal of a query by the flaws of its blocks.
 #[tactic(auto, using(crate::proofs::LowestLaws::lowest_is))]
-fn refusal_of_query(
+fn refusal_of_blocks(
     alloc: Global,
     q: &Query,
     catalog: &Catalog,
@@ -80,6 +81,22 @@ fn refusal_of_query(
     let mut flaws = Items::new(alloc);
     put_block(alloc, catalog, q, repartition, &mut flaws)?;
     Ok(lowest(flaws.as_slice(), has_loose_cut(q)))
+}
+
+/// The refusal of a query: none of one that reads a table alone.
+#[tactic(auto, using(crate::proofs::AloneLaws::alone_has_none))]
+fn refusal_of_query(
+    alloc: Global,
+    q: &Query,
+    catalog: &Catalog,
+    repartition: bool,
+) -> Result<Option<Unsupported>, NoMemory>
+    ensures { IfOk result (λ r. r ≡ refusal_of_query_by_rule repartition catalog.now q.now) }
+{
+    match table_alone(q) {
+        Some(_) => Ok(None),
+        None => refusal_of_blocks(alloc, q, catalog, repartition),
+    }
 }
 
 /// Why planning doesn't support a statement (Citus, "SQL Support and Workarounds"), where `repartition` says whether

@@ -423,3 +423,11 @@ pub notes_more : (before index after : Index) (cs : List Change) (k : ℕ) (c : 
     Notes before after (take (k + 1) cs)
 notes_more before index after cs k c old within read new t h =
     subst (λ (u : Table). Holds after u.pairs) (sym (applied_more cs k c t within ∙ ap (λ x. changed (applied t (take k cs)) x) (sym read))) (new (applied t (take k cs)) (old t h))
+
+-- ids that are below the next one are below a bound from there on
+below_next : (ps : List Pair) (next upto : ℕ) → IsAscending ps next → next ≤ upto → AllByRecursion (λ (p : Pair). p.0 < upto) ps
+below_next [] next upto up h = tt
+below_next (p ∷ ps) next upto up h = let l : p.0 < next = up.0 in (omega arith, below_next ps next upto up.2 h)
+
+pub all_below : (ps : List Pair) (next upto : ℕ) → IsAscending ps next → next ≤ upto → All (λ (p : Pair). p.0 < upto) ps
+all_below ps next upto up h = All-from_recursion (λ (p : Pair). p.0 < upto) ps (below_next ps next upto up h)

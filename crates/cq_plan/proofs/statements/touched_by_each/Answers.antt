@@ -3,7 +3,7 @@ use Rattle.std.specs.Prelude.{IfOk}
 use Rattle.std.specs.List.{flat_map}
 use Rattle.cq_planning.specs.Touched.{in_order}
 use Rattle.cq_plan.proofs.OrderLaws.{touched_together}
-use Rattle.cq_plan.proofs.statements.touched_by_query.Goals as goal
+use Rattle.cq_plan.proofs.statements.touched_by_each.Goals as goal
 
 pub returns : goal.returns
 returns c =

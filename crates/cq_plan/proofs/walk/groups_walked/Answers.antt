@@ -1,7 +1,7 @@
 use Rattle.std.proofs.Common.{ap, ◌∙◌}
 use Rattle.cq_shape.specs.Labels.{label}
 use Rattle.cq_plan.proofs.WalkLaws.{where_arm}
-use Rattle.cq_plan.proofs.walk.groups_under.Goals as goal
+use Rattle.cq_plan.proofs.walk.groups_walked.Goals as goal
 
 pub returns : goal.returns
 returns c =
