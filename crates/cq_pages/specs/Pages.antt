@@ -9,9 +9,9 @@ use Rattle.cq_value.specs.Tables.{Pair, IsAscending, with_new_row, without_row}
 abbrev pub pairs_of : List (List Pair) → List Pair
 pairs_of pages = flat_map (λ page. page) pages
 
--- a page is not empty, and has at most 64 rows
+-- a page is not empty, and has at most 128 rows
 abbrev pub IsPage : List Pair → Type 0
-IsPage page = (0 < length page) × (length page ≤ 64)
+IsPage page = (0 < length page) × (length page ≤ 128)
 
 -- ids ascend
 pub record Ascends (pairs : List Pair) : Type 0 where

@@ -9,7 +9,7 @@ use cq_value::{Change, Changes, NoMemory, Row};
 use std::alloc::Global;
 use std::marker::Model;
 
-/// A numbered table: rows with ids, which ascend and are below the next id. The rows stand in pages of at most 64, which tables
+/// A numbered table: rows with ids, which ascend and are below the next id. The rows stand in pages of at most 128, which tables
 /// share until one of them changes.
 #[derive(Debug, Drop)]
 pub struct Numbered {

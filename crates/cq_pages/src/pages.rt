@@ -91,7 +91,7 @@ pub(crate) fn add(alloc: Global, pages: &mut Vec<Page>, id: u64, row: Row) -> Re
     ensures full { AllByRecursion IsPage pages.new.items }
 {
     let count = pages.len();
-    if count > 0 && pages[count - 1].pairs().len() < 64 {
+    if count > 0 && pages[count - 1].pairs().len() < 128 {
         return pages[count - 1].push(id, row);
     }
     match pages.push(Page::new(alloc, id, row)?) {
