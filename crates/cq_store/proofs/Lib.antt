@@ -1,3 +1,4 @@
 mod MeetingLaws
 mod IndexLaws
 pub mod TakingLaws
+pub mod MadeLaws

@@ -1,5 +1,5 @@
-ghost use Rattle.std.specs.Prelude.{◌≡◌, [], filter, IfOk, OnOk, OnErr};
-ghost use Rattle.cq_value.specs.Changes.{Fit};
+ghost use Rattle.std.specs.Prelude.{◌≡◌, [], filter, IfOk, IfSome, OnOk, OnErr};
+ghost use Rattle.cq_value.specs.Changes.{Fit, applied};
 ghost use Rattle.cq_store.specs.Stores.{has_values, meets_one, meets_any, steady_spare};
 
 use crate::indexes::Indexes;
@@ -9,9 +9,43 @@ use cq_pages::Numbered;
 use cq_value::{Changes, Duplicate, NoMemory, Positions, Row, Rows};
 use std::alloc::Global;
 use std::marker::Model;
+use std::mem;
 
-/// A store in memory, which never fails. While changes are staged it has the table that they make, which shares the pages that
-/// stay, so that a commit takes no memory. Rows are found by indexes of the columns that were looked for last.
+/// A table as it was before a commit, and the changes of that commit.
+#[derive(Drop)]
+struct Former {
+    rows: Numbered,
+    changes: Changes,
+}
+
+impl Former {
+    /// What was before a commit, where catching up with it takes less than sharing the pages.
+    fn before(rows: Numbered, changes: Changes) -> Option<Former>
+        requires { Fit rows changes }
+        ensures { IfSome result (λ f. (f.rows ≡ rows) × (f.changes ≡ changes)) }
+    {
+        if changes.len() <= rows.pages().len() as u64 {
+            Some(Former { rows, changes })
+        } else {
+            None
+        }
+    }
+
+    /// The table after the commit.
+    fn caught_up(self) -> Result<Numbered, NoMemory>
+        requires { Fit self.rows self.changes }
+        ensures { IfOk result (λ t. t ≡ applied self.rows self.changes) }
+    {
+        let Former { rows, changes } = self;
+        let mut rows = rows;
+        rows.apply_all(changes)?;
+        Ok(rows)
+    }
+}
+
+/// A store in memory, which never fails. While changes are staged it has the table that they make, so that a commit takes no memory.
+/// That table is the one before the last commit, which catches up, so that a write touches what it changes alone; where it isn't there, it
+/// shares the pages that stay. Rows are found by indexes of the columns that were looked for last.
 #[derive(Drop)]
 pub struct MemStore {
     alloc: Global,
@@ -21,19 +55,20 @@ pub struct MemStore {
     indexes: Indexes,
     staged: Changes,
     built: Option<Numbered>,
+    former: Option<Former>,
 }
 
 impl Model for MemStore {
     ghost use Rattle.std.specs.Prelude.{◌≡◌, [], true, MatchOption};
-    ghost use Rattle.cq_value.specs.Changes.{applied};
     ghost use Rattle.cq_store.specs.Indexes.{HoldAll};
     ghost use Rattle.cq_store.specs.Stores.{StoreState};
+    ghost use Rattle.cq_store.specs.Made.{IsMade, IsCaughtUp};
 
     ghost Value = { StoreState };
 
     ghost view = { λ s. record { node = s.node; shard = s.shard; rows = s.rows; staged = s.staged; faults = 0; steady = true } };
 
-    ghost invariant = { λ s. MatchOption s.built (s.staged ≡ []) (λ t. t ≡ applied s.rows s.staged) × HoldAll s.indexes s.rows.pairs };
+    ghost invariant = { λ s. (MatchOption s.built (s.staged ≡ []) (IsMade s.rows s.staged) × IsCaughtUp s.rows s.former) × HoldAll s.indexes s.rows.pairs };
 }
 
 impl MemStore {
@@ -49,6 +84,7 @@ impl MemStore {
             indexes: Indexes::new(alloc),
             staged: Changes::new(alloc),
             built: None,
+            former: None,
         }
     }
 
@@ -100,6 +136,17 @@ impl MemStore {
         Ok(false)
     }
 
+    /// A table equal to the rows, to be changed.
+    fn draft(&mut self) -> Result<Numbered, NoMemory>
+        ensures rows { IfOk result (λ t. t ≡ self.old.rows) }
+        ensures same { self.new ≡ self.old }
+    {
+        match self.former.take() {
+            Some(former) => former.caught_up(),
+            None => self.rows.share(),
+        }
+    }
+
     /// Stages a copy of changes, and builds the table that they make.
     pub(crate) fn stage_copy(&mut self, changes: &Changes) -> Result<(), NoMemory>
         requires nothing { self.old.staged ≡ [] }
@@ -108,7 +155,7 @@ impl MemStore {
         ensures err { OnErr result (self.new ≡ self.old) }
     {
         let staged = changes.copy(self.alloc)?;
-        let mut built = self.rows.share()?;
+        let mut built = self.draft()?;
         built.apply_all(changes.copy(self.alloc)?)?;
         self.staged = staged;
         self.built = Some(built);
@@ -156,8 +203,9 @@ impl Store for MemStore {
     fn commit(&mut self) {
         if let Some(built) = self.built.take() {
             self.indexes.note_all(self.alloc, &self.staged);
-            self.rows = built;
-            self.staged = Changes::new(self.alloc);
+            let rows = mem::replace(&mut self.rows, built);
+            let changes = mem::replace(&mut self.staged, Changes::new(self.alloc));
+            self.former = Former::before(rows, changes);
         }
     }
 
@@ -170,6 +218,7 @@ impl Store for MemStore {
         self.shard = 0;
         self.staged = Changes::new(self.alloc);
         self.built = None;
+        self.former = None;
         self.rows = Numbered::new(self.alloc);
         self.indexes = Indexes::new(self.alloc);
     }
