@@ -205,7 +205,7 @@ impl Store for MemStore {
             self.indexes.note_all(self.alloc, &self.staged);
             let rows = mem::replace(&mut self.rows, built);
             let changes = mem::replace(&mut self.staged, Changes::new(self.alloc));
-            self.former = Former::before(rows, changes);
+            drop(mem::replace(&mut self.former, Former::before(rows, changes)));
         }
     }
 
