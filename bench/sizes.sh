@@ -1,11 +1,11 @@
 #!/bin/sh
-# How long statements by the key take in one shard of 10,000 rows and of 100,000, in citus_run, sqlite3 and psql: that they don't grow with the
-# table. One statement of each kind runs before, since the first may build an index.
-# Usage: bench/sizes.sh [statements of each kind, 4000 if left out]
+# How long reads, INSERTs, UPDATEs and DELETEs by the key take, as many of each, in one shard of 10,000 rows and of 100,000, in citus_run, sqlite3 and
+# psql: that they don't grow with the table. One statement of each kind runs before, since the first may build an index.
+# Usage: bench/sizes.sh [statements of each kind, 4900 if left out, and at most]
 set -eu
 top=$(cd "$(dirname "$0")/.." && pwd)
 . "$top/bench/common.sh"
-statements=${1:-4000}
+statements=${1:-4900}
 
 on_table 't (k bigint, v bigint, PRIMARY KEY (k))' "SELECT create_distributed_table('t', 'k', shard_count => 1)"
 
@@ -31,11 +31,11 @@ for_keys() {
 prepare
 for thousands in 10 100; do
     rows "$thousands" >"$work/rows"
-    for_keys "$thousands" 'SELECT v FROM t WHERE k = %d' >"$work/reads"
-    for_keys "$thousands" 'INSERT INTO t VALUES (1 + %d, 0)' >"$work/inserts"
-    for_keys "$thousands" 'UPDATE t SET v = v + 1 WHERE k = %d' >"$work/updates"
-    for_keys "$thousands" 'DELETE FROM t WHERE k = %d' >"$work/deletes"
-    for kind in reads inserts updates deletes; do
-        compare "$kind by the key in $thousands,000 rows" "$work/rows" "$work/$kind"
-    done
+    {
+        for_keys "$thousands" 'SELECT v FROM t WHERE k = %d'
+        for_keys "$thousands" 'INSERT INTO t VALUES (1 + %d, 0)'
+        for_keys "$thousands" 'UPDATE t SET v = v + 1 WHERE k = %d'
+        for_keys "$thousands" 'DELETE FROM t WHERE k = %d'
+    } >"$work/statements"
+    compare "statements by the key in $thousands,000 rows" "$work/rows" "$work/statements"
 done
