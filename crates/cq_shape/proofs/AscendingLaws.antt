@@ -1,5 +1,5 @@
 -- A sorted list in which equal values are put together is the ascending one.
-use Rattle.std.proofs.Common.{◌≡◌, ℕ, zero, suc, ◌+◌, Bool, true, false, cond, List, [], ◌∷◌, ◌++◌, fold, length, get_or, refl, sym, ap, subst, ◌∙◌, arith, append_assoc, Ordering, Less, Equal, Greater}
+use Rattle.std.proofs.Common.{◌≡◌, ℕ, zero, suc, ◌+◌, ◌≤◌, Bool, true, false, cond, List, [], ◌∷◌, ◌++◌, fold, length, get_or, refl, sym, ap, subst, ◌∙◌, arith, append_assoc, Ordering, Less, Equal, Greater}
 use Rattle.std.specs.Ordering.{is_lt, is_eq, ordering_reverse}
 use Rattle.std.proofs.lemmas.Cmp.{tied_itself}
 use Rattle.cq_value.specs.declared.value.Value.{Value}
@@ -114,6 +114,12 @@ sorted_once (x ∷ xs) = placed_once x (sorted value_cmp xs) ∙ ap (put_value x
 
 pub once_is : (xs : List Value) → each_once (sorted value_cmp xs) ≡ ascending xs
 once_is xs = from_behind (sorted value_cmp xs) ∙ sorted_once xs
+
+-- one value is in order
+pub few_are : (xs : List Value) → length xs ≤ 1 → xs ≡ ascending xs
+few_are [] h = refl
+few_are (x ∷ []) h = refl
+few_are (x ∷ (y ∷ ys)) h = absurd (omega arith)
 
 pub last_at : (xs : List Value) (v : Value) (k : ℕ) (d : Value) → k + 1 ≡ length xs → ends_with xs v ≡ same_value (get_or xs k d) v
 last_at [] v k d h = absurd (omega arith)

@@ -43,9 +43,12 @@ fn once(alloc: Global, values: Values) -> Result<Values, NoMemory>
 }
 
 /// The values in ascending order, each once.
-#[tactic(auto, using(crate::proofs::AscendingLaws::once_is))]
+#[tactic(auto, using(crate::proofs::AscendingLaws::once_is, crate::proofs::AscendingLaws::few_are))]
 pub fn ascending(alloc: Global, values: Values) -> Result<Values, NoMemory>
     ensures { IfOk result (λ all. all ≡ ascending_by_rule values) }
 {
+    if values.len() <= 1 {
+        return Ok(values);
+    }
     once(alloc, in_order(values)?)
 }

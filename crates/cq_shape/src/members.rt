@@ -12,7 +12,7 @@ use std::alloc::Global;
 pub fn copy_values(alloc: Global, values: &[Value]) -> Result<Values, NoMemory>
     ensures { IfOk result (λ all. all ≡ values.now) }
 {
-    let mut all = Values::new(alloc);
+    let mut all = Values::with_room(alloc, values.len() as u64)?;
     for value in values {
         all.put(value.copy(alloc)?)?;
     }

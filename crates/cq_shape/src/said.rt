@@ -16,7 +16,7 @@ pub type Said = (u32, Values);
 fn one_value(alloc: Global, column: u32, value: &Value) -> Result<Said, NoMemory>
     ensures { IfOk result (λ p. p ≡ (column, value.now ∷ [])) }
 {
-    let mut values = Values::new(alloc);
+    let mut values = Values::with_room(alloc, 1)?;
     values.put(value.copy(alloc)?)?;
     Ok((column, values))
 }
@@ -116,16 +116,12 @@ fn either(alloc: Global, c: &Cond) -> Result<Option<Said>, NoMemory>
 }
 
 /// The values but NULL.
-fn known(alloc: Global, values: Values) -> Result<Values, NoMemory>
-    ensures { IfOk result (λ kept. kept ≡ filter is_known values) }
+fn known(values: Values) -> Values
+    ensures { result ≡ filter is_known values }
 {
-    let mut kept = Values::new(alloc);
-    for value in values.into_vec() {
-        if !matches!(value, Value::Null) {
-            kept.put(value)?;
-        }
-    }
-    Ok(kept)
+    let mut kept = values.into_vec();
+    kept.retain(|value| !matches!(value, Value::Null));
+    Items::from_vec(kept)
 }
 
 /// What a conjunct says of a column, if it is `x = literal`, `literal = x` or `x IN (literals)`: its values in ascending order, each once,
@@ -134,7 +130,7 @@ fn values_said(alloc: Global, c: &Cond) -> Result<Option<Said>, NoMemory>
     ensures { IfOk result (λ r. r ≡ said_by_rule c.now) }
 {
     match either(alloc, c)? {
-        Some((column, values)) => Ok(Some((column, ascending(alloc, known(alloc, values)?)?))),
+        Some((column, values)) => Ok(Some((column, ascending(alloc, known(values))?))),
         None => Ok(None),
     }
 }
