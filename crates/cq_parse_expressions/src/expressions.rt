@@ -327,14 +327,12 @@ impl<
         ensures { Reads (descent.term (descent.below self.now.grammar.left) parser.old) result parser.new }
     {
         let first = self.unary(parser)?;
-        let rest = self.factors(parser)?;
-        if rest.as_slice().is_empty() {
+        if !parser.sees(MULTIPLY_SIGNS) {
             return Ok(first);
         }
-        Ok(Expr::Product {
-            first: boxed(parser, first)?,
-            rest,
-        })
+        let first = boxed(parser, first)?;
+        let rest = self.factors(parser)?;
+        Ok(Expr::Product { first, rest })
     }
 
     #[tactic(auto, unfolding(cq_grammar::specs::Descent::added))]
@@ -369,14 +367,12 @@ impl<
         ensures { Reads (descent.sum (descent.below self.now.grammar.left) parser.old) result parser.new }
     {
         let first = self.term(parser)?;
-        let rest = self.terms(parser)?;
-        if rest.as_slice().is_empty() {
+        if !parser.sees(ADD_SIGNS) {
             return Ok(first);
         }
-        Ok(Expr::Sum {
-            first: boxed(parser, first)?,
-            rest,
-        })
+        let first = boxed(parser, first)?;
+        let rest = self.terms(parser)?;
+        Ok(Expr::Sum { first, rest })
     }
 
     /// An item of an IN list.
@@ -517,14 +513,12 @@ impl<
         ensures { Reads (descent.is (descent.below self.now.grammar.left) parser.old) result parser.new }
     {
         let first = self.comparison(parser)?;
-        let rest = self.null_tests(parser)?;
-        if rest.as_slice().is_empty() {
+        if !parser.sees(&[Kind::Is]) {
             return Ok(first);
         }
-        Ok(Expr::Is {
-            first: boxed(parser, first)?,
-            rest,
-        })
+        let first = boxed(parser, first)?;
+        let rest = self.null_tests(parser)?;
+        Ok(Expr::Is { first, rest })
     }
 
     #[tactic(auto, unfolding(cq_grammar::specs::Descent::negation))]
@@ -571,14 +565,12 @@ impl<
         ensures { Reads (descent.and_chain (descent.below self.now.grammar.left) parser.old) result parser.new }
     {
         let first = self.negation(parser)?;
-        let rest = self.and_parts(parser)?;
-        if rest.as_slice().is_empty() {
+        if !parser.sees(&[Kind::And]) {
             return Ok(first);
         }
-        Ok(Expr::And {
-            first: boxed(parser, first)?,
-            rest,
-        })
+        let first = boxed(parser, first)?;
+        let rest = self.and_parts(parser)?;
+        Ok(Expr::And { first, rest })
     }
 
     #[tactic(auto, unfolding(cq_grammar::specs::Descent::or_part))]
@@ -609,14 +601,12 @@ impl<
         ensures { Reads (descent.or_chain (descent.below self.now.grammar.left) parser.old) result parser.new }
     {
         let first = self.and_chain(parser)?;
-        let rest = self.or_parts(parser)?;
-        if rest.as_slice().is_empty() {
+        if !parser.sees(&[Kind::Or]) {
             return Ok(first);
         }
-        Ok(Expr::Or {
-            first: boxed(parser, first)?,
-            rest,
-        })
+        let first = boxed(parser, first)?;
+        let rest = self.or_parts(parser)?;
+        Ok(Expr::Or { first, rest })
     }
 
     /// A phrase of the rule.
