@@ -1,6 +1,6 @@
 # What the comparisons with sqlite3 and psql share. A script sets `top` to the root of the repository and reads this file; then it
-# names its table and compares. All programs run the same statements in one run of the script, over rows in memory. Each SELECT
-# must answer one row, and the rows must be those of sqlite3. Times are printed as ratios to sqlite3's time only.
+# names its table and compares. All programs run the same statements in one run of the script, over rows in memory. The rows that
+# SELECTs answer must be those of sqlite3. Times are printed as ratios to sqlite3's time only.
 
 work=$(mktemp -d)
 trap 'rm -rf "$work"' EXIT
@@ -66,10 +66,18 @@ best_of_three() {
     echo "$best"
 }
 
-# The rows that a program answered in its last run. citus_run writes each row before `(1 row)`, and an empty one for a distribution.
+# The rows that a program answered in its last run. citus_run writes them before their number, an empty one for a distribution, and the moves of a
+# rebalance, which the others don't have.
 rows_of() {
     case $1 in
-        citus_run) awk '$0 == "(1 row)" && row != "" { print row } { row = $0 }' "$work/$1.out" ;;
+        citus_run) awk '
+            /^\([0-9]+ rows?\)$/ {
+                first = count - substr($1, 2)
+                for (i = first; i < count; i++) if (lines[i] != "" && lines[first - 1] !~ /^group\|source\|target/) print lines[i]
+                count = 0
+                next
+            }
+            { lines[count++] = $0 }' "$work/$1.out" ;;
         *) cat "$work/$1.out" ;;
     esac
 }
