@@ -9,6 +9,9 @@ use crate::scan::Scan;
 use cq_value::{Items, NoMemory};
 use std::alloc::Global;
 
+/// How many bytes of a statement there is room for at first.
+const ROOM: u64 = 64;
+
 /// Bytes, which contracts see as their list.
 pub type Bytes = Items<u8>;
 
@@ -101,6 +104,16 @@ fn put_all(alloc: Global, list: &mut Bytes, bytes: &[u8]) -> Result<(), NoMemory
     }
 }
 
+/// Puts a byte last; the first one takes room for more.
+fn put(alloc: Global, list: &mut Bytes, b: u8) -> Result<(), NoMemory>
+    ensures { OnOk result (list.new ≡ list.old ++ b ∷ []) }
+{
+    if list.len() == 0 {
+        *list = Items::with_room(alloc, ROOM)?;
+    }
+    list.put(b)
+}
+
 fn code_len(bytes: &[u8]) -> usize
     ensures value { result ≡ prefix_len is_plain_code bytes.now }
     ensures within { result ≤ length bytes.now }
@@ -179,7 +192,7 @@ impl Cutter {
             }
             return Ok(self.gives(alloc, Place::Gap { fresh: false }));
         }
-        self.text.put(b)?;
+        put(alloc, &mut self.text, b)?;
         Ok(self.goes(Place::Text(scan.next(b))))
     }
 

@@ -4,11 +4,14 @@ ghost use Rattle.cq_script.specs.Texts.{escaped, value_text, fields_line, row_li
 
 use crate::csv_table::csv_table;
 use crate::fault::push_fault;
-use crate::words::{push_escaped, push_with, push_words};
+use crate::words::{push_escaped, push_with, push_words, put_byte};
 use cq_answer::{Answer, Tag};
 use cq_value::{NoMemory, Row, Rows, Text, Value};
 use itoa::Buffer;
 use std::alloc::{AllocError, Global};
+
+/// How many bytes of a text there is room for at first.
+const ROOM: usize = 64;
 
 /// A field of a line.
 trait Field {
@@ -53,7 +56,7 @@ fn push_more<F: Field>(out: &mut Vec<u8>, fields: &[F]) -> Result<(), AllocError
     ensures { OnOk result (out.new.items ≡ out.old.items ++ flat_map (λ f. 124 ∷ F.text f) fields.now) }
 {
     for field in fields {
-        out.extend_from_slice(b"|")?;
+        put_byte(out, b'|')?;
         field.push(out)?;
     }
     Ok(())
@@ -77,7 +80,7 @@ fn push_line<F: Field>(out: &mut Vec<u8>, fields: &[F]) -> Result<(), AllocError
     ensures { OnOk result (out.new.items ≡ out.old.items ++ fields_line (map F.text fields.now)) }
 {
     push_fields(out, fields)?;
-    out.extend_from_slice(b"\n")
+    put_byte(out, b'\n')
 }
 
 #[tactic(auto, unfolding(crate::specs::Texts::row_line))]
@@ -104,7 +107,7 @@ fn push_count(out: &mut Vec<u8>, n: u64) -> Result<(), AllocError>
         return out.extend_from_slice(b"(1 row)\n");
     }
     let mut buffer = Buffer::new();
-    out.extend_from_slice(b"(")?;
+    put_byte(out, b'(')?;
     out.extend_from_slice(buffer.format(n).as_bytes())?;
     out.extend_from_slice(b" rows)\n")
 }
@@ -130,7 +133,7 @@ fn push_answer(out: &mut Vec<u8>, answer: &Answer) -> Result<(), AllocError>
     match answer {
         Answer::Tag(tag) => {
             push_tag(out, *tag)?;
-            out.extend_from_slice(b"\n")
+            put_byte(out, b'\n')
         }
         Answer::Table { names, rows } => {
             push_line(out, names.as_slice())?;
@@ -140,7 +143,7 @@ fn push_answer(out: &mut Vec<u8>, answer: &Answer) -> Result<(), AllocError>
         Answer::Failed(fault) => {
             out.extend_from_slice(b"ERROR ")?;
             push_fault(out, fault)?;
-            out.extend_from_slice(b"\n")
+            put_byte(out, b'\n')
         }
     }
 }
@@ -149,7 +152,9 @@ fn push_answer(out: &mut Vec<u8>, answer: &Answer) -> Result<(), AllocError>
 fn render_plain(alloc: Global, answer: &Answer) -> Result<Vec<u8>, NoMemory>
     ensures { IfOk result (λ text. text.items ≡ text_of answer.now) }
 {
-    let mut out = Vec::new(alloc);
+    let Ok(mut out) = Vec::with_capacity(alloc, ROOM) else {
+        return Err(NoMemory);
+    };
     match push_answer(&mut out, answer) {
         Ok(()) => Ok(out),
         Err(_) => Err(NoMemory),

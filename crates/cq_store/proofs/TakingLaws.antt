@@ -1,70 +1,78 @@
--- A list of stores is parted, store by store: what is out, what stays, what is still to be parted; and what holds of the parts.
-use Rattle.std.proofs.Common.{◌≡◌, ◌≢◌, ◌⊎◌, inl, inr, Bool, cond, All, slice_index_or, vec_capacity, length, count_by, ℕ, zero, suc, ◌+◌, ◌-◌, ◌<◌, ◌≤◌, true, false, List, [], ◌∷◌, ◌++◌, map, refl, sym, ap, ◌∙◌, arith, append_assoc, append-nil}
-use Rattle.std.proofs.lemmas.Bool.{ne_eqb, eqb-true}
+-- The first spare stores are moved out of a list, one by one: what is out and what stays; and what holds of the parts.
+use Rattle.std.proofs.Common.{◌≡◌, ◌⊎◌, inl, inr, Bool, not, cond, All, slice_index_or, vec_capacity, length, count_by, ℕ, zero, suc, ◌+◌, ◌<◌, ◌≤◌, true, false, List, [], ◌∷◌, ◌++◌, map, refl, sym, ap, ◌∙◌, arith, append_assoc, append-nil}
+use Rattle.std.proofs.lemmas.Bool.{eqb-true}
 use Rattle.std.proofs.lemmas.List.Elements.{All-from_recursion, recursion_from_All, All-map, All-filter, All-take, filter_passes}
-use Rattle.std.specs.List.{AllByRecursion}
+use Rattle.std.specs.List.{AllByRecursion, prefix_len, remove}
+use Rattle.cq_value.proofs.Truths.{two_ways}
 use Rattle.std.proofs.lemmas.List.{map-append, length-map, length-take-le}
 use Rattle.std.proofs.lemmas.List.Recursion.{is_count_by}
 use Rattle.std.specs.declared.vec.Vec.{Vec}
 use Rattle.cq_store.specs.Stores.{StoreState, IsSpare}
 use Rattle.cq_store.specs.Workers.{keeps_no_shard, spares, taken, kept, room}
 
-taken_spare : (m : ℕ) (s : StoreState) (rest : List StoreState) → s.shard ≡ 0 → taken (suc m) (s ∷ rest) ≡ s ∷ taken m rest
-taken_spare m s rest e = rw e refl
+-- where the first spare store of a list stands
+abbrev pub first_place : {B : Type 0} → (B → StoreState) → List B → ℕ
+first_place view xs = prefix_len (λ x. not (keeps_no_shard (view x))) xs
 
-kept_spare : (m : ℕ) (s : StoreState) (rest : List StoreState) → s.shard ≡ 0 → kept (suc m) (s ∷ rest) ≡ kept m rest
-kept_spare m s rest e = rw e refl
+-- what is taken and kept of a list whose first spare store is x, at the place k
+record Steps {B : Type 0} (view : B → StoreState) (m : ℕ) (xs : List B) (k : ℕ) (x : B) : Type 0 where
+  takes : taken (suc m) (map view xs) ≡ view x ∷ taken m (map view (remove xs k))
+  keeps : kept (suc m) (map view xs) ≡ kept m (map view (remove xs k))
 
-taken_other : (m : ℕ) (s : StoreState) (rest : List StoreState) → (m ≡ 0) ⊎ (s.shard ≢ 0) → taken m (s ∷ rest) ≡ taken m rest
-taken_other zero s rest h = refl
-taken_other (suc m) s rest (inl e) = absurd (omega arith)
-taken_other (suc m) s rest (inr u) = let e = ne_eqb s.shard 0 u in rw e refl
+kept_past : (m : ℕ) (s : StoreState) (rest : List StoreState) → keeps_no_shard s ≡ false → kept m (s ∷ rest) ≡ s ∷ kept m rest
+kept_past zero s rest f = refl
+kept_past (suc m) s rest f = rw f refl
 
-kept_other : (m : ℕ) (s : StoreState) (rest : List StoreState) → (m ≡ 0) ⊎ (s.shard ≢ 0) → kept m (s ∷ rest) ≡ s ∷ kept m rest
-kept_other zero s rest h = refl
-kept_other (suc m) s rest (inl e) = absurd (omega arith)
-kept_other (suc m) s rest (inr u) = let e = ne_eqb s.shard 0 u in rw e refl
+steps_at : {B : Type 0} (view : B → StoreState) (m : ℕ) (xs : List B) (x : B) (k : ℕ) → k ≡ first_place view xs → k < length xs → x ≡ slice_index_or xs k x → Steps view m xs k x
+steps_at view m [] x k e h v = absurd (omega arith)
+steps_at view m (y ∷ ys) x zero e h v = elim (two_ways (keeps_no_shard (view y))) [
+  | inl t ↦ record { takes = rw t (λ i. view (sym v i) ∷ taken m (map view ys)); keeps = rw t refl }
+  | inr f ↦ (let bad : 0 ≡ 1 + first_place view ys = (rw f at e) in absurd (omega arith))
+]
+steps_at view m (y ∷ ys) x (suc k) e h v = elim (two_ways (keeps_no_shard (view y))) [
+  | inl t ↦ (let bad : suc k ≡ 0 = (rw t at e) in absurd (omega arith))
+  | inr f ↦ (
+      let next : suc k ≡ 1 + first_place view ys = (rw f at e) in
+      let after : Steps view m ys k x = steps_at view m ys x k (omega arith) (omega arith) v in
+      record { takes = rw f after.takes; keeps = rw f (ap (λ r. view y ∷ r) after.keeps ∙ sym (kept_past m (view y) (map view (remove ys k)) f)) })
+]
 
-taken_none : (m : ℕ) → taken m [] ≡ []
-taken_none zero = refl
-taken_none (suc m) = refl
-
-kept_none : (m : ℕ) → kept m [] ≡ []
-kept_none zero = refl
-kept_none (suc m) = refl
+-- where none is spare, none is taken and all are kept
+none_spare : {B : Type 0} (view : B → StoreState) (m : ℕ) (xs : List B) → first_place view xs ≡ length xs → (taken m (map view xs) ≡ []) × (kept m (map view xs) ≡ map view xs)
+none_spare view zero xs h = (refl, refl)
+none_spare view (suc m) [] h = (refl, refl)
+none_spare view (suc m) (x ∷ xs) h = elim (two_ways (keeps_no_shard (view x))) [
+  | inl t ↦ (let bad : 0 ≡ suc (length xs) = (rw t at h) in absurd (omega arith))
+  | inr f ↦ (
+      let less : 1 + first_place view xs ≡ suc (length xs) = (rw f at h) in
+      let after = none_spare view (suc m) xs (omega arith) in
+      rw f (after.0, ap (λ r. view x ∷ r) after.1))
+]
 
 -- of all, whose first n spare ones are wanted, m are missing yet
-pub record Parts {B : Type 0} (view : B → StoreState) (n : ℕ) (all out stays : List B) (m : ℕ) (rest : List B) : Type 0 where
+pub record Parts {B : Type 0} (view : B → StoreState) (n : ℕ) (all out : List B) (m : ℕ) (rest : List B) : Type 0 where
   pub takes : taken n (map view all) ≡ map view out ++ taken m (map view rest)
-  pub keeps : kept n (map view all) ≡ map view stays ++ kept m (map view rest)
+  pub keeps : kept n (map view all) ≡ kept m (map view rest)
 
 -- a list to which one more is put last, by what it is put before
 put_last : {B : Type 0} (view : B → StoreState) (xs ys : List B) (x : B) (rest : List StoreState) → ys ≡ xs ++ x ∷ [] → map view xs ++ view x ∷ rest ≡ map view ys ++ rest
 put_last view xs ys x rest e = rw (e, map-append view xs (x ∷ [])) (sym (append_assoc (map view xs) (view x ∷ []) rest))
 
-pub parts_spare : {B : Type 0} {view : B → StoreState} {n : ℕ} {all out stays : List B} {m : ℕ} {rest : List B} {more : List B} {x : B} {after : List B}
-    → Parts view n all out stays m rest → rest ≡ x ∷ after → more ≡ out ++ x ∷ [] → (view x).shard ≡ 0 → 0 < m → Parts view n all more stays (m - 1) after
-parts_spare {m = zero} p r o e h = absurd (omega arith)
-parts_spare {view = view} {n = n} {all = all} {out = out} {stays = stays} {m = suc m} {more = more} {x = x} {after = after} p r o e h =
-    let down : suc m - 1 ≡ m = omega arith in
-    let takes : taken n (map view all) ≡ map view out ++ view x ∷ taken m (map view after) =
-    p.takes ∙ rw (r, taken_spare m (view x) (map view after) e) refl in
-    let keeps : kept n (map view all) ≡ map view stays ++ kept m (map view after) =
-    p.keeps ∙ rw (r, kept_spare m (view x) (map view after) e) refl in
-    rw down (record { takes = takes ∙ put_last view out more x _ o; keeps = keeps })
+pub parts_one : {B : Type 0} {view : B → StoreState} {n : ℕ} {all out : List B} {a : ℕ} {rest more left : List B} {x : B} (m k : ℕ)
+    → Parts view n all out a rest → a ≡ suc m → k ≡ first_place view rest → k < length rest → x ≡ slice_index_or rest k x → more ≡ out ++ x ∷ [] → left ≡ remove rest k
+    → Parts view n all more m left
+parts_one {view = view} {out = out} {rest = rest} {more = more} {x = x} m k p a e h v o l =
+    let here : Steps view m rest k x = steps_at view m rest x k e h v in
+    rw l (record {
+      takes = (rw a at p.takes) ∙ ap (λ r. map view out ++ r) here.takes ∙ put_last view out more x (taken m (map view (remove rest k))) o;
+      keeps = (rw a at p.keeps) ∙ here.keeps;
+    })
 
-pub parts_other : {B : Type 0} {view : B → StoreState} {n : ℕ} {all out stays : List B} {m : ℕ} {rest : List B} {more : List B} {x : B} {after : List B}
-    → Parts view n all out stays m rest → rest ≡ x ∷ after → more ≡ stays ++ x ∷ [] → (m ≡ 0) ⊎ ((view x).shard ≢ 0) → Parts view n all out more m after
-parts_other {view = view} {stays = stays} {m = m} {more = more} {x = x} {after = after} p r o h =
-    record {
-      takes = p.takes ∙ rw (r, taken_other m (view x) (map view after) h) refl;
-      keeps = p.keeps ∙ rw (r, kept_other m (view x) (map view after) h) refl ∙ put_last view stays more x _ o;
-    }
-
-pub parts_end : {B : Type 0} {view : B → StoreState} {n : ℕ} {all out stays : List B} {m : ℕ} {rest : List B} → Parts view n all out stays m rest → rest ≡ []
-    → (map view out ≡ taken n (map view all)) × (map view stays ≡ kept n (map view all))
-parts_end {view = view} {out = out} {stays = stays} {m = m} p e =
-    (sym (p.takes ∙ rw (e, taken_none m) (append-nil (map view out))), sym (p.keeps ∙ rw (e, kept_none m) (append-nil (map view stays))))
+pub parts_end : {B : Type 0} {view : B → StoreState} {n : ℕ} {all out : List B} {m : ℕ} {rest : List B} → Parts view n all out m rest → (m ≡ 0) ⊎ (first_place view rest ≡ length rest)
+    → (map view out ≡ taken n (map view all)) × (map view rest ≡ kept n (map view all))
+parts_end {view = view} {out = out} {m = m} {rest = rest} p h =
+    let none : (taken m (map view rest) ≡ []) × (kept m (map view rest) ≡ map view rest) = elim h [ inl e ↦ rw e (refl, refl) | inr e ↦ none_spare view m rest e ] in
+    (sym (p.takes ∙ rw none.0 (append-nil (map view out))), sym (p.keeps ∙ none.1))
 
 pub spares_counted : {B : Type 0} (view : B → StoreState) (xs : List B) → length (spares (map view xs)) ≡ count_by (λ x. keeps_no_shard (view x)) xs
 spares_counted view xs = is_count_by (λ ys. length (spares (map view ys))) (λ y. keeps_no_shard (view y)) refl one_more xs

@@ -1,10 +1,10 @@
-ghost use Rattle.std.specs.Prelude.{◌≡◌, ◌+◌, ◌-◌, ◌<◌, ◌≤◌, [], ◌∷◌, ◌++◌, length, map, All, IfOk, OnOk, OnErr, IfErr, vec_len, vec_capacity};
+ghost use Rattle.std.specs.Prelude.{◌≡◌, ◌+◌, ◌-◌, ◌<◌, ◌≤◌, [], ◌∷◌, ◌++◌, not, length, map, All, IfOk, OnOk, OnErr, IfErr, vec_len, vec_capacity};
 ghost use Rattle.cq_store.specs.Stores.{StoreState};
-ghost use Rattle.cq_store.specs.Workers.{spares, taken, kept, room, RefusesTake};
+ghost use Rattle.std.specs.List.{prefix_len};
+ghost use Rattle.cq_store.specs.Workers.{keeps_no_shard, spares, taken, kept, room, RefusesTake};
 
 use crate::store::{BoxedStore, Store};
 use cq_value::NoMemory;
-use std::mem;
 use thiserror::Error;
 
 /// Why a worker gave no stores: fewer are spare than are needed, or there was no memory for their list.
@@ -30,24 +30,28 @@ fn count_spares<S: Store>(stores: &[S]) -> u64
     stores.iter().filter(|store| store.shard() == 0).count() as u64
 }
 
-/// Puts the first n spare stores into one list, and the others into another.
-fn part<S: Store>(stores: Vec<S>, n: u64, spare: &mut Vec<S>, others: &mut Vec<S>)
-    requires spare { spare.old.items ≡ [] }
-    requires others { others.old.items ≡ [] }
-    requires room { n ≤ vec_capacity spare.old }
-    requires more { vec_len stores ≤ vec_capacity others.old }
-    ensures spare { map S.state spare.new.items ≡ taken n (map S.state stores.items) }
-    ensures others { map S.state others.new.items ≡ kept n (map S.state stores.items) }
-    ensures room { vec_capacity others.new ≡ vec_capacity others.old }
+/// The place of the first spare store, or the number of stores, where none is spare.
+fn first_spare<S: Store>(stores: &[S]) -> usize
+    ensures value { result ≡ prefix_len (λ s. not (keeps_no_shard (S.state s))) stores.now }
+    ensures within { result ≤ length stores.now }
 {
-    let mut missing = n;
-    for store in stores {
-        if missing > 0 && store.shard() == 0 {
-            missing -= 1;
-            spare.push_reserved(store);
-        } else {
-            others.push_reserved(store);
+    stores.iter().take_while(|store| store.shard() != 0).count()
+}
+
+/// Moves the first n spare stores into a list, and leaves the others in order.
+fn move_spares<S: Store>(stores: &mut Vec<S>, n: u64, spare: &mut Vec<S>)
+    requires spare { spare.old.items ≡ [] }
+    requires room { n ≤ vec_capacity spare.old }
+    ensures spare { map S.state spare.new.items ≡ taken n (map S.state stores.old.items) }
+    ensures others { map S.state stores.new.items ≡ kept n (map S.state stores.old.items) }
+    ensures room { vec_capacity stores.new ≡ vec_capacity stores.old }
+{
+    for _ in 0..n {
+        let place = first_spare(stores);
+        if place == stores.len() {
+            return;
         }
+        spare.push_reserved(stores.remove(place));
     }
 }
 
@@ -114,17 +118,10 @@ impl<S: Store> Worker<S> {
         if free < n {
             return Err(TakeError::NoRoom { free, needed: n });
         }
-        // Both lists have their memory before a store moves.
-        let alloc = *self.stores.allocator();
-        let Ok(mut taken) = Vec::with_capacity(alloc, n as usize) else {
+        let Ok(mut taken) = Vec::with_capacity(*self.stores.allocator(), n as usize) else {
             return Err(TakeError::Memory);
         };
-        let Ok(mut kept) = Vec::with_capacity(alloc, self.stores.capacity()) else {
-            return Err(TakeError::Memory);
-        };
-        let stores = mem::replace(&mut self.stores, Vec::new(alloc));
-        part(stores, n, &mut taken, &mut kept);
-        self.stores = kept;
+        move_spares(&mut self.stores, n, &mut taken);
         Ok(taken)
     }
 

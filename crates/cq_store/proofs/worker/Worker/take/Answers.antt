@@ -1,4 +1,4 @@
-use Rattle.std.proofs.Common.{◌≤◌, ◌∙◌, length, map, arith}
+use Rattle.std.proofs.Common.{◌≤◌, length, map, arith}
 use Rattle.cq_store.specs.Workers.{spares}
 use Rattle.cq_store.proofs.TakingLaws.{room_risen}
 use Rattle.cq_store.proofs.worker.Worker.take.Goals as goal
@@ -8,5 +8,5 @@ returns-clause-room g c =
     let stores = c.args.self.now.stores in
     let counted = rw c.deref.ensures.value at c.count_spares-free.ensures in
     let enough : c.args.n ≤ length (spares (map g.S.Store.state stores.items)) = omega arith in
-    let stays = rw c.replace-stores.ensures.value at c.part.ensures.others in
-    room_risen g.S.Store.state c.args.n stores c.part.new.others enough stays (c.part.ensures.room ∙ c.in-Ok-with_capacity.ensures.exact ∙ c.capacity.ensures)
+    let stays = c.move_spares.ensures.others in
+    room_risen g.S.Store.state c.args.n stores c.move_spares.new.stores enough stays c.move_spares.ensures.room
