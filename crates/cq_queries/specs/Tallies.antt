@@ -21,10 +21,14 @@ one_more (Int n) = Int (n +ℤ pos 1)
 one_more Null = Null
 one_more (Text t) = Null
 
+-- one more, where a value isn't NULL
+abbrev pub counted : Value → Value → Value
+counted n v = if is_known v then one_more n else n
+
 -- what an aggregate comes to with one row more
 abbrev pub with_row : Results → Row → Agg → Value → Value
 with_row results row agg.CountAll v = one_more v
-with_row results row (agg.Count e) v = if is_known (value_of e row results) then one_more v else v
+with_row results row (agg.Count e) v = counted v (value_of e row results)
 with_row results row (agg.Sum e) v = added v (value_of e row results)
 with_row results row (agg.Min e) v = lesser_of v (value_of e row results)
 with_row results row (agg.Max e) v = greater_of v (value_of e row results)

@@ -87,6 +87,17 @@ fn look_first<'a>(es: &'a [Expr], row: &'a Row, results: &Lookups<'_>) -> Operan
     Operand::Null
 }
 
+/// The same. Most expressions are columns, whose values are found without a further call.
+pub fn glance<'a>(e: &'a Expr, row: &'a Row, results: &Lookups<'_>) -> Operand<'a>
+    requires { IsSafe e.now row.now results.now }
+    ensures { owned result ≡ value_of e.now row.now results.now }
+{
+    match e {
+        Expr::Column(at) => column_of(row, *at),
+        _ => look(e, row, results),
+    }
+}
+
 /// Whether a condition holds of a row, by SQL's three-valued logic. Takes no memory.
 ///
 /// Conditions: the columns are in the row, the results in the list, and values fit 128 bits, as the widths of the binder make

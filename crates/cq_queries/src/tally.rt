@@ -3,9 +3,9 @@ ghost use Rattle.cq_meaning.specs.Values.{Results as TheResults};
 ghost use Rattle.cq_meaning.specs.Groups.{added, greater_of, lesser_of, aggregate};
 ghost use Rattle.cq_meaning.specs.Safety.{Fits};
 ghost use Rattle.cq_queries.specs.Operands.{owned};
-ghost use Rattle.cq_queries.specs.Tallies.{one_more as one_more_by_rule, with_row, tally_over, tally_with, CanTake, CanTally};
+ghost use Rattle.cq_queries.specs.Tallies.{one_more, counted, with_row, tally_over, tally_with, CanTake, CanTally};
 
-use crate::expression::look;
+use crate::expression::glance;
 use crate::members::Lookups;
 use crate::operand::{self, Operand};
 use cq_tree::{Agg, Expr};
@@ -14,70 +14,65 @@ use std::alloc::Global;
 use std::cmp::Ordering;
 use std::marker::Model;
 
-fn one_more(n: Operand<'_>) -> Operand<'_>
-    requires { Fits (one_more_by_rule (owned n)) }
-    ensures { owned result ≡ one_more_by_rule (owned n.entry) }
+fn add_one(n: &mut Operand<'_>)
+    requires { Fits (one_more (owned n.old)) }
+    ensures { owned n.new ≡ one_more (owned n.old) }
 {
     match n {
-        Operand::Int(x) => Operand::Int(x + 1),
-        _ => Operand::Null,
+        Operand::Int(x) => *x += 1,
+        _ => *n = Operand::Null,
     }
 }
 
-/// A count, and one more where a value isn't NULL.
-fn count_known<'a>(n: Operand<'a>, e: &Expr, row: &Row, results: &Lookups<'_>) -> Operand<'a>
-    requires { CanTake results.now row.now (Agg.Count e.now) (owned n) }
-    ensures { owned result ≡ with_row results.now row.now (Agg.Count e.now) (owned n.entry) }
-{
-    match look(e, row, results) {
-        Operand::Null => n,
-        _ => one_more(n),
-    }
-}
-
-fn add_known<'a>(sum: Operand<'a>, v: Operand<'a>) -> Operand<'a>
-    requires { Fits (added (owned sum) (owned v)) }
-    ensures { owned result ≡ added (owned sum.entry) (owned v.entry) }
+/// Counts a value that isn't NULL.
+fn count_known<'a>(n: &mut Operand<'a>, v: Operand<'a>)
+    requires { Fits (one_more (owned n.old)) }
+    ensures { owned n.new ≡ counted (owned n.old) (owned v.entry) }
 {
     match v {
-        Operand::Int(y) => match sum {
-            Operand::Int(x) => Operand::Int(x + y),
-            _ => v,
-        },
-        _ => sum,
+        Operand::Null => {}
+        _ => add_one(n),
     }
 }
 
-fn greater<'a>(best: Operand<'a>, v: Operand<'a>) -> Operand<'a>
-    ensures { owned result ≡ greater_of (owned best.entry) (owned v.entry) }
+fn add_known<'a>(sum: &mut Operand<'a>, v: Operand<'a>)
+    requires { Fits (added (owned sum.old) (owned v)) }
+    ensures { owned sum.new ≡ added (owned sum.old) (owned v.entry) }
+{
+    if let Operand::Int(y) = v {
+        match sum {
+            Operand::Int(x) => *x += y,
+            _ => *sum = v,
+        }
+    }
+}
+
+fn take_greater<'a>(best: &mut Operand<'a>, v: Operand<'a>)
+    ensures { owned best.new ≡ greater_of (owned best.old) (owned v.entry) }
 {
     match v {
-        Operand::Null => best,
-        _ => match best {
-            Operand::Null => v,
+        Operand::Null => {}
+        _ => match *best {
+            Operand::Null => *best = v,
             _ => {
-                if operand::order(best, v) == Ordering::Less {
-                    v
-                } else {
-                    best
+                if operand::order(*best, v) == Ordering::Less {
+                    *best = v;
                 }
             }
         },
     }
 }
 
-fn lesser<'a>(best: Operand<'a>, v: Operand<'a>) -> Operand<'a>
-    ensures { owned result ≡ lesser_of (owned best.entry) (owned v.entry) }
+fn take_lesser<'a>(best: &mut Operand<'a>, v: Operand<'a>)
+    ensures { owned best.new ≡ lesser_of (owned best.old) (owned v.entry) }
 {
     match v {
-        Operand::Null => best,
-        _ => match best {
-            Operand::Null => v,
+        Operand::Null => {}
+        _ => match *best {
+            Operand::Null => *best = v,
             _ => {
-                if operand::order(v, best) == Ordering::Less {
-                    v
-                } else {
-                    best
+                if operand::order(v, *best) == Ordering::Less {
+                    *best = v;
                 }
             }
         },
@@ -98,16 +93,16 @@ fn none_yet<'a>(a: &Agg) -> Operand<'a>
 }
 
 /// What an aggregate comes to with one row more.
-fn take_row<'a>(a: &'a Agg, so_far: Operand<'a>, row: &'a Row, results: &Lookups<'_>) -> Operand<'a>
-    requires { CanTake results.now row.now a.now (owned so_far) }
-    ensures { owned result ≡ with_row results.now row.now a.now (owned so_far.entry) }
+fn take_row<'a>(a: &'a Agg, so_far: &mut Operand<'a>, row: &'a Row, results: &Lookups<'_>)
+    requires { CanTake results.now row.now a.now (owned so_far.old) }
+    ensures { owned so_far.new ≡ with_row results.now row.now a.now (owned so_far.old) }
 {
     match a {
-        Agg::CountAll => one_more(so_far),
-        Agg::Count(e) => count_known(so_far, e, row, results),
-        Agg::Sum(e) => add_known(so_far, look(e, row, results)),
-        Agg::Min(e) => lesser(so_far, look(e, row, results)),
-        Agg::Max(e) => greater(so_far, look(e, row, results)),
+        Agg::CountAll => add_one(so_far),
+        Agg::Count(e) => count_known(so_far, glance(e, row, results)),
+        Agg::Sum(e) => add_known(so_far, glance(e, row, results)),
+        Agg::Min(e) => take_lesser(so_far, glance(e, row, results)),
+        Agg::Max(e) => take_greater(so_far, glance(e, row, results)),
     }
 }
 
@@ -147,7 +142,7 @@ impl<'a> Tally<'a> {
         requires { CanTally results.now row.now self.old }
         ensures { self.new ≡ tally_with results.now row.now self.old }
     {
-        self.so_far = take_row(self.agg, self.so_far, row, results);
+        take_row(self.agg, &mut self.so_far, row, results);
     }
 }
 

@@ -93,13 +93,30 @@ pub fn put_part(parts: &mut Parts, table: u32, pile: Pile) -> Result<(), NoMemor
     })
 }
 
+/// The rows. Where they are several, each is made anew, so that they lie beside each other in memory, in which those that the statement lists
+/// lie among the rows of other groups.
+fn laid_out(alloc: Global, rows: Rows) -> Result<Rows, NoMemory>
+    ensures { IfOk result (λ laid. laid ≡ rows) }
+{
+    if rows.len() < 2 {
+        return Ok(rows);
+    }
+    let mut laid = Rows::with_room(alloc, rows.len())?;
+    for row in rows.into_vec() {
+        laid.put(Row::shared(alloc, row.into_values(alloc)?)?)?;
+    }
+    Ok(laid)
+}
+
 /// The parts that these piles make.
 pub fn parts_by(alloc: Global, table: u32, piles: Vec<Pile>) -> Result<Parts, NoMemory>
     ensures { IfOk result (λ parts. parts ≡ parts_of table piles.items) }
 {
     let mut parts = Parts::new(alloc);
     for pile in piles {
-        put_part(&mut parts, table, pile)?;
+        let Pile { group, rows } = pile;
+        let rows = laid_out(alloc, rows)?;
+        put_part(&mut parts, table, Pile { group, rows })?;
     }
     Ok(parts)
 }
