@@ -1,5 +1,5 @@
 -- Rows that are put into the pile of their group one after another are divided by their groups.
-use Rattle.std.proofs.Common.{◌≡◌, ℕ, zero, suc, ◌+◌, ◌<◌, ◌≤◌, Bool, true, false, cond, List, [], ◌∷◌, ◌++◌, map, filter, length, inl, inr, refl, sym, ap, ◌∙◌, arith, add-one, nat_eq}
+use Rattle.std.proofs.Common.{◌≡◌, ℕ, zero, suc, ◌+◌, ◌<◌, ◌≤◌, Bool, true, false, cond, List, [], ◌∷◌, ◌++◌, map, filter, length, get_or, inl, inr, refl, sym, ap, ◌∙◌, arith, add-one, nat_eq}
 use Rattle.std.proofs.Common.{eq-eqb}
 use Rattle.std.proofs.lemmas.List.{append-nil}
 use Rattle.std.proofs.lemmas.List.Elements.{filter-append}
@@ -96,6 +96,11 @@ parts_are f table rows (g ∷ gs) =
     ∙ one_part table g (filter (λ (row : Row). nat_eq (f row) g) rows) (among g (map f rows)) (λ g. as_part (g, Insert table (filter (λ (row : Row). nat_eq (f row) g) rows))) (filter (λ g. among g (map f rows)) gs) (touched_rows f rows g) refl
 
 -- ---- one row
+
+pub only_row : (rows : List Row) (row : Row) → 1 ≤ length rows → length rows < 2 → row ≡ get_or rows 0 row → rows ≡ row ∷ []
+only_row [] row some few is = absurd (omega arith)
+only_row (r ∷ []) row some few is = ap (λ r. r ∷ []) (sym is)
+only_row (r ∷ s ∷ rows) row some few is = absurd (omega arith)
 
 module _ (f : Row → ℕ) (table : ℕ) (row : Row) where
   none_behind : (s n : ℕ) → f row < s → parts_of table (map (the_pile f (row ∷ [])) (numbers s n)) ≡ []
