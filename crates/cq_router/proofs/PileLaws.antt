@@ -1,5 +1,5 @@
 -- Rows that are put into the pile of their group one after another are divided by their groups.
-use Rattle.std.proofs.Common.{◌≡◌, ℕ, zero, suc, ◌+◌, ◌<◌, Bool, true, false, cond, List, [], ◌∷◌, ◌++◌, map, filter, length, inl, inr, refl, sym, ap, ◌∙◌, arith, add-one, nat_eq}
+use Rattle.std.proofs.Common.{◌≡◌, ℕ, zero, suc, ◌+◌, ◌<◌, ◌≤◌, Bool, true, false, cond, List, [], ◌∷◌, ◌++◌, map, filter, length, get_or, inl, inr, refl, sym, ap, ◌∙◌, arith, add-one, nat_eq}
 use Rattle.std.proofs.Common.{eq-eqb}
 use Rattle.std.proofs.lemmas.List.{append-nil}
 use Rattle.std.proofs.lemmas.List.Elements.{filter-append}
@@ -9,7 +9,7 @@ use Rattle.cq_meaning.specs.Values.{Row}
 use Rattle.cq_planning.specs.Touched.{numbers, among}
 use Rattle.cq_router.specs.declared.insertion.Part.{Part}
 use Rattle.cq_router.specs.declared.insertion.Pile.{Pile}
-use Rattle.cq_router.proofs.NumberLaws.{turned}
+use Rattle.cq_router.proofs.NumberLaws.{other_number, turned}
 use Rattle.cq_router.specs.Piles.{pile_of, piles, higher, added, as_part, part_by, parts_of}
 
 -- ---- numbers
@@ -94,3 +94,26 @@ parts_are f table rows [] = refl
 parts_are f table rows (g ∷ gs) =
     ap (λ ps. part_by table g (filter (λ (row : Row). nat_eq (f row) g) rows) ++ ps) (parts_are f table rows gs)
     ∙ one_part table g (filter (λ (row : Row). nat_eq (f row) g) rows) (among g (map f rows)) (λ g. as_part (g, Insert table (filter (λ (row : Row). nat_eq (f row) g) rows))) (filter (λ g. among g (map f rows)) gs) (touched_rows f rows g) refl
+
+-- ---- one row
+
+pub only_row : (rows : List Row) (row : Row) → 1 ≤ length rows → length rows < 2 → row ≡ get_or rows 0 row → rows ≡ row ∷ []
+only_row [] row some few is = absurd (omega arith)
+only_row (r ∷ []) row some few is = ap (λ r. r ∷ []) (sym is)
+only_row (r ∷ s ∷ rows) row some few is = absurd (omega arith)
+
+module _ (f : Row → ℕ) (table : ℕ) (row : Row) where
+  none_behind : (s n : ℕ) → f row < s → parts_of table (map (the_pile f (row ∷ [])) (numbers s n)) ≡ []
+  none_behind s zero less = refl
+  none_behind s (suc n) less = rw (other_number (f row) s (λ e. omega arith)) (none_behind (s + 1) n (omega arith))
+
+  one_from : (s n : ℕ) → s ≤ f row → f row < s + n → part_by table (f row) (row ∷ []) ≡ parts_of table (map (the_pile f (row ∷ [])) (numbers s n))
+  one_from s zero a b = absurd (omega arith)
+  one_from s (suc n) a b = elim (two_ways (nat_eq (f row) s)) [
+    | inl y ↦ (let e : f row ≡ s = same_number (f row) s y in rw y (λ i. as_part (e i, Insert table (row ∷ [])) ∷ sym (none_behind (s + 1) n (omega arith)) i))
+    | inr m ↦ (let d : f row ≡ s → ⊥ = λ e. (let bad : true ≡ false = sym (eq-eqb (f row) s e) ∙ m in cc) in rw m (one_from (s + 1) n (omega arith) (omega arith)))
+  ]
+
+-- the part of one row is what the piles make of it
+pub one_row : (f : Row → ℕ) (table n : ℕ) (row : Row) → f row < n → part_by table (f row) (row ∷ []) ≡ parts_of table (piles f n (row ∷ []))
+one_row f table n row less = one_from f table row 0 n (omega arith) (omega arith)

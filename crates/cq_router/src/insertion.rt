@@ -25,7 +25,7 @@ pub struct Pile {
 }
 
 /// The group of a row of a distributed table, by its value in this column.
-fn home_of(catalog: &Catalog, table: u32, column: u32, row: &Row) -> u32
+pub fn home_of(catalog: &Catalog, table: u32, column: u32, row: &Row) -> u32
     requires { IsDistributed (place_at catalog.now table) }
     ensures group { result ≡ home catalog.now table column row.now }
     ensures within { result < catalog.now.groups }

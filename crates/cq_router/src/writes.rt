@@ -1,9 +1,10 @@
 ghost use Rattle.std.specs.Prelude.{◌≡◌, IfOk, map};
 ghost use Rattle.cq_tree.specs.declared.write.ShardOp.TheVariants.{Insert};
+ghost use Rattle.cq_catalog.specs.Placement.{place_at, IsDistributed};
 ghost use Rattle.cq_planning.specs.Parts.{parts as parts_by_rule};
-ghost use Rattle.cq_router.specs.Piles.{as_part, part_by};
+ghost use Rattle.cq_router.specs.Piles.{as_part, home, part_by, parts_of, piles};
 
-use crate::insertion::{Part, Parts, Pile, divide, parts_by, put_part};
+use crate::insertion::{Part, Parts, Pile, divide, home_of, parts_by, put_part};
 use cq_catalog::{Catalog, Place};
 use cq_copies::CopyTree;
 use cq_plan::groups_of_where;
@@ -22,6 +23,27 @@ fn whole_part(alloc: Global, table: u32, group: u32, rows: &Rows) -> Result<Part
     Ok(parts)
 }
 
+/// The parts of an INSERT into a distributed table, by its distribution column: each row goes to its group. One row takes no pile.
+#[tactic(auto, using(crate::proofs::PileLaws::one_row))]
+fn divided_parts(
+    alloc: Global,
+    catalog: &Catalog,
+    table: u32,
+    column: u32,
+    rows: &Rows,
+) -> Result<Parts, NoMemory>
+    requires { IsDistributed (place_at catalog.now table) }
+    ensures { IfOk result (λ v. v ≡ parts_of table (piles (home catalog.now table column) catalog.now.groups rows.now)) }
+{
+    match rows.as_slice() {
+        [row] => whole_part(alloc, table, home_of(catalog, table, column, row), rows),
+        several => {
+            let piles = divide(alloc, catalog, table, column, several)?;
+            parts_by(alloc, table, piles)
+        }
+    }
+}
+
 /// The parts of an INSERT: each row goes to its group.
 #[tactic(auto, using(crate::proofs::PartLaws::insert_local, crate::proofs::PartLaws::insert_distributed, crate::proofs::PartLaws::insert_reference))]
 fn parts_of_rows(
@@ -34,10 +56,7 @@ fn parts_of_rows(
 {
     match place_of(catalog, table) {
         Place::Local => Ok(Parts::new(alloc)),
-        Place::Distributed { column, .. } => {
-            let piles = divide(alloc, catalog, table, column, rows.as_slice())?;
-            parts_by(alloc, table, piles)
-        }
+        Place::Distributed { column, .. } => divided_parts(alloc, catalog, table, column, rows),
         Place::Reference { group, .. } => whole_part(alloc, table, group, rows),
     }
 }
