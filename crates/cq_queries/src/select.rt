@@ -65,7 +65,7 @@ pub fn values(alloc: Global, es: &[Expr], row: &Row, results: &Lookups<'_>) -> R
     requires { All (λ e. IsSafe e row.now results.now) es.now }
     ensures { IfOk result (λ values. values ≡ items_of es.now results.now row.now) }
 {
-    let mut values = Values::new(alloc);
+    let mut values = Values::with_room(alloc, es.len() as u64)?;
     for e in es {
         values.put(eval(alloc, e, row, results)?)?;
     }
@@ -82,7 +82,7 @@ pub fn values_of_all(
     requires { AreSafeOver es.now results.now rows.now }
     ensures { IfOk result (λ all. all ≡ map (items_of es.now results.now) rows.now) }
 {
-    let mut all = Rows::new(alloc);
+    let mut all = Rows::with_room(alloc, rows.len() as u64)?;
     for row in rows {
         all.put(values(alloc, es, row, results)?)?;
     }
