@@ -83,16 +83,9 @@ impl Grouping {
             None => &[],
         }
     }
-
-    pub fn into_groups(self) -> Vec<Group>
-        ensures { result.items ≡ self }
-    {
-        let Grouping { groups, .. } = self;
-        groups
-    }
 }
 
-pub fn push_group(groups: &mut Vec<Group>, group: Group) -> Result<(), NoMemory>
+fn push_group(groups: &mut Vec<Group>, group: Group) -> Result<(), NoMemory>
     ensures ok { OnOk result (groups.new.items ≡ groups.old.items ++ group ∷ []) }
     ensures err { OnErr result (groups.new.items ≡ groups.old.items) }
 {

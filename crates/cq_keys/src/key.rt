@@ -50,13 +50,13 @@ impl Eq for RowKey {
     ghost laws = { on_equiv (λ k. k.row) (eq_by_cmp_equiv row_cmp_total) };
 }
 
-/// Feeds a value to a hash.
+/// Feeds a value to a hash: of a number its lower 64 bits, of which most have no more.
 fn feed<H: Hasher>(v: &Value, state: &mut H)
     ensures { state.new ≡ fold H.write state.old (value_writes v.now) }
 {
     match v {
         Value::Null => state.write_u8(0),
-        Value::Int(x) => x.hash(state),
+        Value::Int(x) => { state.write_u64((x.cast_unsigned() & 0xFFFF_FFFF_FFFF_FFFF) as u64) }
         Value::Text(t) => t.as_str().hash(state),
     }
 }

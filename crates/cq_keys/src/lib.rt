@@ -5,6 +5,6 @@ mod grouping;
 mod key;
 mod once;
 
-pub use grouping::{Grouping, push_group};
+pub use grouping::Grouping;
 pub use key::RowKey;
 pub use once::distinct;
