@@ -1,0 +1,20 @@
+-- A joined row is joined again: with none, one and several rows, with a condition beside the equal columns, with NULL, and by LEFT JOIN.
+CREATE TABLE customers (id bigint, region bigint, name text, PRIMARY KEY (id));
+CREATE TABLE orders (customer bigint, id bigint, amount integer, PRIMARY KEY (customer, id));
+CREATE TABLE regions (id bigint, name text, PRIMARY KEY (id));
+CREATE TABLE notes (region bigint, line bigint, note text, PRIMARY KEY (region, line));
+SELECT create_distributed_table('customers', 'id', shard_count => 4);
+SELECT create_distributed_table('orders', 'customer', colocate_with => 'customers');
+SELECT create_reference_table('regions');
+SELECT create_reference_table('notes');
+INSERT INTO customers VALUES (1, 0, 'Ada'), (2, 1, 'Bob'), (3, NULL, 'Cyd'), (4, 7, NULL), (5, 1, 'Eve');
+INSERT INTO orders VALUES (1, 1, 10), (1, 2, 20), (2, 1, 30), (3, 1, 40), (4, 1, 50), (5, 1, NULL), (6, 1, 60);
+INSERT INTO regions VALUES (0, 'north'), (1, 'east'), (2, NULL);
+INSERT INTO notes VALUES (0, 1, 'cold'), (0, 2, 'wide'), (0, 3, NULL), (1, 1, 'warm');
+SELECT o.customer, o.id, c.name, r.name FROM orders o JOIN customers c ON o.customer = c.id JOIN regions r ON c.region = r.id ORDER BY o.customer, o.id;
+SELECT o.customer, o.id, c.name, n.line, n.note FROM orders o JOIN customers c ON o.customer = c.id JOIN notes n ON c.region = n.region ORDER BY o.customer, o.id, n.line;
+SELECT o.customer, o.id, n.note FROM orders o JOIN customers c ON o.customer = c.id JOIN notes n ON c.region = n.region AND n.line * 10 >= o.amount ORDER BY o.customer, o.id, n.line;
+SELECT o.customer, c.name, r.name, n.note FROM orders o JOIN customers c ON o.customer = c.id JOIN regions r ON c.region = r.id JOIN notes n ON r.id = n.region WHERE n.line < 3 ORDER BY o.customer, o.id, n.line;
+SELECT o.customer, o.id, c.name, r.name FROM orders o JOIN customers c ON o.customer = c.id LEFT JOIN regions r ON c.region = r.id ORDER BY o.customer, o.id;
+SELECT o.customer, c.name, n.note FROM orders o LEFT JOIN customers c ON o.customer = c.id LEFT JOIN notes n ON c.region = n.region ORDER BY o.customer, o.id, n.line;
+SELECT o.customer, c.id, n.line FROM orders o, customers c, notes n WHERE o.customer = c.id AND c.region = n.region AND n.note <> 'cold' ORDER BY o.customer, o.id, n.line;
