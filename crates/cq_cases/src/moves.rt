@@ -13,6 +13,7 @@ use cq_top::{Retired, RunLog};
 use cq_value::Value;
 use std::alloc::{AllocError, Global};
 use std::process::Abort;
+use std::random::RandomSource;
 use std::sync::Wait;
 use std::test::Fail;
 use std::thread::Threads;
@@ -124,7 +125,7 @@ fn done(alloc: Global, answers: &[Answered]) -> Result<Vec<u8>, Fail> {
 }
 
 /// Runs a script.
-fn run_failing<R: Threads + Wait + Sync>(
+fn run_failing<R: Threads + Wait + Sync + RandomSource>(
     rt: &R,
     alloc: Global,
     script: Vec<u8>,
@@ -222,7 +223,7 @@ fn expect_told<R: Abort>(rt: &R, log: &RunLog<FaultStore>) {
 }
 
 /// Whether a store failed. Then the retired ones are told of, and the stores hold what they do where the statements that didn't fail run alone.
-fn has_failed<R: Threads + Wait + Sync + Abort>(
+fn has_failed<R: Threads + Wait + Sync + RandomSource + Abort>(
     rt: &R,
     alloc: Global,
     log: &RunLog<FaultStore>,
@@ -242,7 +243,7 @@ fn has_failed<R: Threads + Wait + Sync + Abort>(
 }
 
 /// Runs the script, looks at what it left, and gives whether a store failed.
-fn fails<R: Threads + Wait + Sync + Abort>(
+fn fails<R: Threads + Wait + Sync + RandomSource + Abort>(
     rt: &R,
     alloc: Global,
     failing: Failing,

@@ -8,6 +8,7 @@ use cq_script::{MemSink, MemSource};
 use cq_store::{FaultStore, Worker};
 use cq_top::{IdleGate, RunLog, Status, make_workers, run_over};
 use std::alloc::{AllocError, Global};
+use std::random::RandomSource;
 use std::sync::Wait;
 use std::thread::Threads;
 
@@ -55,7 +56,7 @@ pub fn failing_workers(
 }
 
 /// Runs a source's script over the workers. The journals are written at the end.
-pub fn run_script<R: Threads + Wait + Sync>(
+pub fn run_script<R: Threads + Wait + Sync + RandomSource>(
     rt: &R,
     alloc: Global,
     mut workers: Vec<Worker<FaultStore>>,
@@ -85,7 +86,7 @@ pub fn run_script<R: Threads + Wait + Sync>(
 }
 
 /// What `run_script` came to, without its log and its workers: how the run ended, and what it wrote.
-pub fn run_written<R: Threads + Wait + Sync>(
+pub fn run_written<R: Threads + Wait + Sync + RandomSource>(
     rt: &R,
     alloc: Global,
     workers: Vec<Worker<FaultStore>>,

@@ -35,6 +35,7 @@ use cq_tree::{Query, QueryError, Who};
 use cq_value::{Names, NoMemory, Rows};
 use cq_whole::{run_statement, tables_of};
 use std::alloc::Global;
+use std::hash::RandomState;
 
 /// The most rows of a group of a query.
 const MOST_ROWS: u64 = 2147483648;
@@ -63,16 +64,17 @@ fn answer_with(names: Names, rows: Result<Rows, QueryError>) -> Answer
 }
 
 /// The answer of a query over the rows of its tables.
-fn compute(alloc: Global, query: &Query, names: Names, tables: &Tables) -> Answer
+fn compute(alloc: Global, hash: RandomState, query: &Query, names: Names, tables: &Tables) -> Answer
     requires { IsComputable query.now tables.now }
     ensures { Computes query.now tables.now names result }
 {
-    answer_with(names, run_statement(alloc, query, tables))
+    answer_with(names, run_statement(alloc, hash, query, tables))
 }
 
 /// The answer of a query over what its looks read, computed in this way.
 fn compute_seen(
     alloc: Global,
+    hash: RandomState,
     catalog: &Catalog,
     query: &Query,
     way: Way,
@@ -84,12 +86,16 @@ fn compute_seen(
     requires whole { IsComputable query.now (merged seen) }
     ensures { Computes query.now (merged seen) names result }
 {
-    answer_with(names, run_seen(alloc, catalog, query, way, looks, seen))
+    answer_with(
+        names,
+        run_seen(alloc, hash, catalog, query, way, looks, seen),
+    )
 }
 
 /// The answer of a query by its looks and what it wants of its tables, each of which is a Read in its group's journal then.
 fn look_and_compute<S: Store>(
     alloc: Global,
+    hash: RandomState,
     groups: &mut Vec<GroupState<S>>,
     who: Who,
     near: u32,
@@ -114,12 +120,13 @@ fn look_and_compute<S: Store>(
         Ok(seen) => seen,
         Err(error) => return Answer::Failed(fault_of(error)),
     };
-    compute_seen(alloc, catalog, query, way, names, looks, seen)
+    compute_seen(alloc, hash, catalog, query, way, names, looks, seen)
 }
 
 /// The answer of a query by the rows of its one shard that its WHERE demands; the group's journal has a Read then.
 fn pick_and_compute<S: Store>(
     alloc: Global,
+    hash: RandomState,
     groups: &mut Vec<GroupState<S>>,
     who: Who,
     near: u32,
@@ -146,13 +153,14 @@ fn pick_and_compute<S: Store>(
     let Ok(()) = tables.put((shard.table, rows)) else {
         return Answer::Failed(Fault::Memory);
     };
-    compute(alloc, query, names, &tables)
+    compute(alloc, hash, query, names, &tables)
 }
 
 /// The answer of a query over the shard groups of a catalogue, of which those of reference tables are on so many nodes. Where it names a
 /// store, that one failed meanwhile.
 pub fn answer_query<S: Store>(
     alloc: Global,
+    hash: RandomState,
     catalog: &Catalog,
     nodes: u32,
     groups: &mut Vec<GroupState<S>>,
@@ -174,7 +182,7 @@ pub fn answer_query<S: Store>(
     let looks = planned.as_slice();
     let near = near_node(catalog, nodes, looks);
     match shard_alone(query, looks) {
-        Some(shard) => pick_and_compute(alloc, groups, who, near, query, shard),
+        Some(shard) => pick_and_compute(alloc, hash, groups, who, near, query, shard),
         None => {
             let Ok(wants) = wants_of(alloc, catalog, query) else {
                 return Answer::Failed(Fault::Memory);
@@ -182,7 +190,9 @@ pub fn answer_query<S: Store>(
             let Ok(way) = way_of(alloc, catalog, query, looks) else {
                 return Answer::Failed(Fault::Memory);
             };
-            look_and_compute(alloc, groups, who, near, catalog, query, way, looks, &wants)
+            look_and_compute(
+                alloc, hash, groups, who, near, catalog, query, way, looks, &wants,
+            )
         }
     }
 }

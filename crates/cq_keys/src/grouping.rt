@@ -6,6 +6,7 @@ use cq_meaning::Group;
 use cq_value::{NoMemory, Row, Rows};
 use std::alloc::Global;
 use std::collections::HashMap;
+use std::hash::RandomState;
 use std::marker::Model;
 
 /// Groups of rows, each found by hashing its keys. Contracts see the list of groups.
@@ -13,7 +14,7 @@ use std::marker::Model;
 pub struct Grouping {
     alloc: Global,
     groups: Vec<Group>,
-    places: HashMap<RowKey, u64>,
+    places: HashMap<RowKey, u64, RandomState>,
 }
 
 impl Model for Grouping {
@@ -29,14 +30,14 @@ impl Model for Grouping {
 }
 
 impl Grouping {
-    /// No groups.
-    pub fn new(alloc: Global) -> Grouping
+    /// No groups, to be found by a hash with this secret.
+    pub fn new(alloc: Global, hash: RandomState) -> Grouping
         ensures { result ≡ [] }
     {
         Grouping {
             alloc,
             groups: Vec::new(alloc),
-            places: HashMap::new(alloc),
+            places: HashMap::with_hasher(alloc, hash),
         }
     }
 

@@ -8,9 +8,10 @@ use crate::key::RowKey;
 use cq_value::{NoMemory, Row, Rows};
 use std::alloc::Global;
 use std::collections::HashSet;
+use std::hash::RandomState;
 
 /// Puts a key into a set, and says whether it is new there.
-fn put_key(seen: &mut HashSet<RowKey>, key: RowKey) -> Result<bool, NoMemory>
+fn put_key(seen: &mut HashSet<RowKey, RandomState>, key: RowKey) -> Result<bool, NoMemory>
     ensures new { IfOk result (λ new. new ≡ not (contains (λ a b. same_row a.row b.row) seen.old key)) }
     ensures more { OnOk result ((q : TheKey) → contains (λ a b. same_row a.row b.row) seen.new q ≡ (same_row key.row q.row || contains (λ a b. same_row a.row b.row) seen.old q)) }
 {
@@ -20,11 +21,11 @@ fn put_key(seen: &mut HashSet<RowKey>, key: RowKey) -> Result<bool, NoMemory>
     }
 }
 
-/// DISTINCT: of rows that are the same the first, in their order.
-pub fn distinct(alloc: Global, rows: Rows) -> Result<Rows, NoMemory>
+/// DISTINCT: of rows that are the same the first, in their order. They are found by a hash with this secret.
+pub fn distinct(alloc: Global, hash: RandomState, rows: Rows) -> Result<Rows, NoMemory>
     ensures { IfOk result (λ all. all ≡ distinct_rows rows) }
 {
-    let mut seen = HashSet::new(alloc);
+    let mut seen = HashSet::with_hasher(alloc, hash);
     let mut all = Rows::new(alloc);
     for row in rows.into_vec() {
         let key = RowKey {

@@ -14,6 +14,7 @@ use cq_tree::{Agg, Expr};
 use cq_value::{NoMemory, Row, Rows, Values};
 use std::alloc::Global;
 use std::collections::HashMap;
+use std::hash::RandomState;
 use std::marker::Model;
 use std::mem;
 
@@ -70,7 +71,7 @@ impl<'a> TalliedGroup<'a> {
 pub struct Tallying<'a> {
     alloc: Global,
     groups: Vec<TalliedGroup<'a>>,
-    places: HashMap<LentKey<'a>, u64>,
+    places: HashMap<LentKey<'a>, u64, RandomState>,
 }
 
 impl<'a> Model for Tallying<'a> {
@@ -115,13 +116,13 @@ fn rows_of(alloc: Global, groups: &[TalliedGroup<'_>]) -> Result<Rows, NoMemory>
 
 impl<'a> Tallying<'a> {
     /// No groups.
-    fn new(alloc: Global) -> Tallying<'a>
+    fn new(alloc: Global, hash: RandomState) -> Tallying<'a>
         ensures { result ≡ [] }
     {
         Tallying {
             alloc,
             groups: Vec::new(alloc),
-            places: HashMap::new(alloc),
+            places: HashMap::with_hasher(alloc, hash),
         }
     }
 
@@ -185,6 +186,7 @@ impl<'a> Tallying<'a> {
 /// The groups of rows by the values of expressions, in the order of their first rows, with their aggregates: in one pass over the rows.
 pub fn tally_groups<'a>(
     alloc: Global,
+    hash: RandomState,
     es: &'a [Expr],
     aggs: &'a [Agg],
     rows: &'a [Row],
@@ -194,7 +196,7 @@ pub fn tally_groups<'a>(
     requires aggregates { All (λ g. All (IsSafeAggregate results.now g.rows) aggs.now) (groups_by (items_of es.now results.now) rows.now) }
     ensures { IfOk result (λ groups. groups ≡ map (tallied results.now aggs.now) (groups_by (items_of es.now results.now) rows.now)) }
 {
-    let mut groups = Tallying::new(alloc);
+    let mut groups = Tallying::new(alloc, hash);
     let mut key = LentKey::new(alloc);
     for row in rows {
         key.take(es, row, results)?;
@@ -206,6 +208,7 @@ pub fn tally_groups<'a>(
 /// A row of each group of GROUP BY, where there are keys: the keys and then the aggregates.
 pub fn rows_of_groups(
     alloc: Global,
+    hash: RandomState,
     es: &[Expr],
     aggs: &[Agg],
     rows: &[Row],
@@ -216,13 +219,14 @@ pub fn rows_of_groups(
     requires aggregates { All (λ g. All (IsSafeAggregate results.now g.rows) aggs.now) (groups_of es.now results.now rows.now) }
     ensures { IfOk result (λ made. made ≡ map (group_row aggs.now results.now) (groups_of es.now results.now rows.now)) }
 {
-    let groups = tally_groups(alloc, es, aggs, rows, results)?;
+    let groups = tally_groups(alloc, hash, es, aggs, rows, results)?;
     groups.rows(alloc)
 }
 
 /// Whether one of these groups has more than 2^31 rows.
 pub fn is_one_large(
     alloc: Global,
+    hash: RandomState,
     es: &[Expr],
     rows: &[Row],
     results: &Lookups<'_>,
@@ -231,6 +235,6 @@ pub fn is_one_large(
     requires keys { AreSafeOver es.now results.now rows.now }
     ensures { IfOk result (λ b. b ≡ list_any is_large_group (groups_of es.now results.now rows.now)) }
 {
-    let groups = tally_groups(alloc, es, &[], rows, results)?;
+    let groups = tally_groups(alloc, hash, es, &[], rows, results)?;
     Ok(groups.has_large())
 }

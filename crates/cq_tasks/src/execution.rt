@@ -13,6 +13,7 @@ use cq_queries::{Tables, run_query};
 use cq_tree::{Combine, Query, QueryError};
 use cq_value::{Items, NoMemory, Results, Rows};
 use std::alloc::Global;
+use std::hash::RandomState;
 use std::mem;
 
 /// What each task reads of its own.
@@ -56,6 +57,7 @@ fn split_off(alloc: Global, tables: &mut Tables, count: u64) -> Result<Tables, N
 /// The rows of a task over the tables beside it and its own.
 fn run_task(
     alloc: Global,
+    hash: RandomState,
     task: &Query,
     beside: &mut Tables,
     own: &mut Tables,
@@ -69,7 +71,7 @@ fn run_task(
 {
     let count = beside.len();
     memory(join(beside, mem::replace(own, Tables::new(alloc))))?;
-    let rows = run_query(alloc, task, beside, results)?;
+    let rows = run_query(alloc, hash, task, beside, results)?;
     *own = memory(split_off(alloc, beside, count))?;
     Ok(rows)
 }
@@ -77,6 +79,7 @@ fn run_task(
 /// The rows of each task, over the tables beside it and its own. Each one's tables are put back when it is done.
 fn run_tasks(
     alloc: Global,
+    hash: RandomState,
     task: &Query,
     beside: &mut Tables,
     parts: &mut Parts,
@@ -91,7 +94,7 @@ fn run_tasks(
     let mut all = RowsList::new(alloc);
     for part in mem::replace(parts, Parts::new(alloc)).into_vec() {
         let mut own = part;
-        let rows = run_task(alloc, task, beside, &mut own, results)?;
+        let rows = run_task(alloc, hash, task, beside, &mut own, results)?;
         memory(all.put(rows))?;
         memory(parts.put(own))?;
     }
@@ -106,6 +109,7 @@ fn run_tasks(
 /// of all tasks together, has more than 2^31 rows; want of memory (Citus, "Query Processing").
 pub fn run_by_tasks(
     alloc: Global,
+    hash: RandomState,
     query: &Query,
     kind: Combine,
     beside: &mut Tables,
@@ -120,7 +124,7 @@ pub fn run_by_tasks(
     ensures lent { OnOk result ((beside.new ≡ beside.old) × (parts.new ≡ parts.old)) }
 {
     let task = memory(partial(alloc, query, kind))?;
-    let rows = run_tasks(alloc, &task, beside, parts, results);
+    let rows = run_tasks(alloc, hash, &task, beside, parts, results);
     drop(task);
-    combine(alloc, query, kind, rows?, results)
+    combine(alloc, hash, query, kind, rows?, results)
 }

@@ -25,7 +25,9 @@ use cq_script::{Sink, Source};
 use cq_store::{Store, Worker};
 use cq_words::{Settled, WordsError, read_words};
 use std::alloc::Global;
+use std::hash::RandomState;
 use std::mem;
+use std::random::RandomSource;
 use std::sync::Wait;
 use std::thread::Threads;
 
@@ -42,9 +44,14 @@ const PLAIN: Settled = Settled {
     generate: None,
 };
 
-/// What the words ask for, where there are as many workers; or how the run ends at once.
-fn settle(alloc: Global, words: &[String], workers: usize) -> Result<Settled, Ending>
-    ensures ok { IfOk result (λ s. (settled_by (map string_bytes words.now) ≡ Some s) × (s.workers ≤ workers) × (0 < s.workers) × (s.workers ≤ 16)) }
+/// What the words ask for, where there are as many workers, and the secret of the run's hashed maps; or how the run ends at once.
+fn settle<R: RandomSource>(
+    rt: &R,
+    alloc: Global,
+    words: &[String],
+    workers: usize,
+) -> Result<(Settled, RandomState), Ending>
+    ensures ok { IfOk result (λ s. (settled_by (map string_bytes words.now) ≡ Some s.0) × (s.0.workers ≤ workers) × (0 < s.0.workers) × (s.0.workers ≤ 16)) }
     ensures err { IfErr result (λ ending. ((ending ≡ Ending.Usage) × IsMisused (map string_bytes words.now) workers) ⊎ (ending ≡ Ending.Memory)) }
 {
     match read_words(alloc, words) {
@@ -52,7 +59,10 @@ fn settle(alloc: Global, words: &[String], workers: usize) -> Result<Settled, En
             if settled.workers as usize > workers {
                 return Err(Ending::Usage);
             }
-            Ok(settled)
+            match RandomState::new(rt) {
+                Ok(hash) => Ok((settled, hash)),
+                Err(_) => Err(Ending::Memory),
+            }
         }
         Err(WordsError::Usage) => Err(Ending::Usage),
         Err(WordsError::Memory) => Err(Ending::Memory),
@@ -117,6 +127,7 @@ fn serve<S: Store, I: Source, K: Sink, G: Gate>(
 /// Answers the script over the workers, and gives how the run ended.
 fn run_script<S: Store, I: Source, K: Sink, G: Gate>(
     alloc: Global,
+    hash: RandomState,
     settled: Settled,
     source: &mut I,
     sink: &mut K,
@@ -145,15 +156,15 @@ fn run_script<S: Store, I: Source, K: Sink, G: Gate>(
     if log.journals.reserve(MOST_GROUPS).is_err() {
         return Ending::Memory;
     }
-    let mut serving = Serving::new(alloc, settled, mem::replace(workers, Vec::new(alloc)));
+    let mut serving = Serving::new(alloc, hash, settled, mem::replace(workers, Vec::new(alloc)));
     let ending = serve(alloc, gate, &mut serving, source, sink);
     close(serving, workers, log);
     ending
 }
 
 /// The same as `run`, over stores of any one kind.
-pub fn run_over<R: Threads + Wait + Sync, S: Store, I: Source, K: Sink, G: Gate>(
-    _rt: &R,
+pub fn run_over<R: Threads + Wait + Sync + RandomSource, S: Store, I: Source, K: Sink, G: Gate>(
+    rt: &R,
     alloc: Global,
     words: &[String],
     source: &mut I,
@@ -171,9 +182,9 @@ pub fn run_over<R: Threads + Wait + Sync, S: Store, I: Source, K: Sink, G: Gate>
     ensures accounts { AllAccounted S.state (asked (map string_bytes words.now)).workers log.new.catalog (journals_of log.new) log.new.answers workers.new.items }
     ensures retired { AllByRecursion (IsRetired S.state) log.new.retired }
 {
-    match settle(alloc, words, workers.len()) {
-        Ok(settled) => {
-            let ending = run_script(alloc, settled, source, sink, gate, workers, log);
+    match settle(rt, alloc, words, workers.len()) {
+        Ok((settled, hash)) => {
+            let ending = run_script(alloc, hash, settled, source, sink, gate, workers, log);
             end_with(alloc, sink, &settled, ending, &log.journals)
         }
         Err(ending) => end_with(alloc, sink, &PLAIN, ending, &log.journals),
@@ -187,7 +198,7 @@ pub fn run_over<R: Threads + Wait + Sync, S: Store, I: Source, K: Sink, G: Gate>
 /// of a store may fail: its statement is answered so then, with the store's count of faults before and after, and leaves all as it was; one that
 /// failed as it was to take a shard's rows in a move is retired. The log is new, and keeps the answers, the catalogue, each group's journal and the
 /// retired stores. Gives the status that the process ends with.
-pub fn run<R: Threads + Wait + Sync, S: Source, K: Sink, G: Gate>(
+pub fn run<R: Threads + Wait + Sync + RandomSource, S: Source, K: Sink, G: Gate>(
     rt: &R,
     alloc: Global,
     words: &[String],

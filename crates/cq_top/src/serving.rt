@@ -14,6 +14,7 @@ use cq_tree::Who;
 use cq_value::NoMemory;
 use cq_words::Settled;
 use std::alloc::Global;
+use std::hash::RandomState;
 
 /// The settings of a run's start: 32 shards for a new table, pools of 16, and repartition joins as the command line says (Citus
 /// documentation, "Configuration Reference").
@@ -50,7 +51,12 @@ fn pending(number: u64, settings: Settings) -> Answered
 
 impl<S: Store> Serving<S> {
     /// Before the first statement: no table, the first settings and no answer, over these workers. Takes no memory.
-    pub fn new(alloc: Global, settled: Settled, workers: Vec<Worker<S>>) -> Serving<S>
+    pub fn new(
+        alloc: Global,
+        hash: RandomState,
+        settled: Settled,
+        workers: Vec<Worker<S>>,
+    ) -> Serving<S>
         requires idle { AreIdle S.state workers.items }
         requires some { 0 < settled.workers }
         requires few { settled.workers ≤ 16 }
@@ -64,6 +70,7 @@ impl<S: Store> Serving<S> {
             coordinator: Coordinator {
                 cluster: Cluster::new(alloc, workers, settled.workers),
                 settings,
+                hash,
             },
             answers: AnsweredList::new(alloc),
             settled,
