@@ -1,13 +1,10 @@
--- What a binary search finds, and what it tells of IN.
-use Rattle.std.proofs.Common.{◌≡◌, ℕ, ℤ, ◌<◌, Bool, true, false, List, [], ◌∷◌, length, get_or, refl, sym, ap, ◌∙◌, arith, Ordering, Less, Equal, Greater}
+-- What a set of values finds, and what it tells of IN.
+use Rattle.std.proofs.Common.{◌≡◌, ℕ, ℤ, Bool, true, false, List, [], ◌∷◌, ◌++◌, length, refl, sym, ap, ◌∙◌, arith, Ordering, Less, Equal, Greater}
 use Rattle.std.specs.Prelude.{◌||◌, ◌&&◌, not, nat_lt}
-use Rattle.std.specs.List.{list_any, list_all, HoldsAt}
-use Rattle.std.specs.List.Sorted.{IsPermutation, IsNonDecreasingBy, IsPartitionPoint}
-use Rattle.std.specs.Ordering.{is_eq, ordering_reverse, ordering_index}
-use Rattle.std.proofs.lemmas.List.Folds.{list_any_at, list_any_none}
-use Rattle.std.proofs.lemmas.List.Sorted.{searchable_from_sorted, list_any-IsPermutation}
-use native.Mathlib.Decide.{dec_lt}
+use Rattle.std.specs.List.{list_any, list_all}
+use Rattle.std.specs.Ordering.{is_eq}
 use Rattle.std.proofs.lemmas.Bool.{lt-ltb}
+use Rattle.std.proofs.lemmas.Cmp.{eq_by_cmp_equiv}
 use Rattle.cq_value.specs.declared.value.Value.{Value}
 use Rattle.cq_value.specs.declared.value.Value.TheVariants.{Null, Int, Text}
 use Rattle.cq_value.specs.declared.value.Truth.{Truth}
@@ -17,26 +14,20 @@ use Rattle.cq_value.specs.Order.{value_cmp}
 use Rattle.cq_value.proofs.OrderLaws.{value_cmp_total}
 use Rattle.cq_meaning.specs.Logic.{or_of, equals, meets, is_yes, null_test, among}
 use Rattle.cq_meaning.specs.Values.{Row, column, same_value}
-use Rattle.cq_queries.specs.Members.{first_column, among_values, is_number, is_text, is_unknown, are_found, are_unsure, verdict, IsInOrder}
+use Rattle.cq_queries.specs.Members.{first_column, among_values, is_number, is_text, is_unknown, are_found, are_unsure, verdict}
 
--- ---- a binary search
+-- ---- a set of values
 
-same_turned : (v y : Value) (o : Ordering) → value_cmp y v ≡ o → same_value v y ≡ is_eq (ordering_reverse o)
-same_turned v y o e = ap is_eq (value_cmp_total.antisymm v y ∙ ap ordering_reverse e)
+same_turned : (x y : Value) → same_value x y ≡ same_value y x
+same_turned = (eq_by_cmp_equiv value_cmp_total).symm
 
-pub found_among : (xs : List Value) (v : Value) (i : ℕ) → i < length xs → HoldsAt (λ y. value_cmp y v ≡ Equal) xs i → true ≡ list_any (same_value v) xs
-found_among xs v i h at = sym (list_any_at (same_value v) xs i v h (same_turned v (get_or xs i v) Equal (at v)))
-
-pub none_among : (xs : List Value) (v : Value) (i : ℕ) → IsInOrder xs →
-    (IsNonDecreasingBy (λ y. ordering_index (value_cmp y v)) xs → IsPartitionPoint (λ y. value_cmp y v ≡ Less) (λ y. value_cmp y v ≡ Greater) xs i) → false ≡ list_any (same_value v) xs
-none_among xs v i up f = sym (list_any_none (same_value v) xs (λ k d h. at k d h (dec_lt k i)))
-  where
-    parts : IsPartitionPoint (λ y. value_cmp y v ≡ Less) (λ y. value_cmp y v ≡ Greater) xs i
-    parts = f (searchable_from_sorted value_cmp_total (λ y. y) xs v up)
-
-    at : (k : ℕ) (d : Value) → k < length xs → Dec (k < i) → same_value v (get_or xs k d) ≡ false
-    at k d h (yes l) = same_turned v (get_or xs k d) Less (parts.0 k d (omega arith) l)
-    at k d h (no l) = same_turned v (get_or xs k d) Greater (parts.1 k d (omega arith) h)
+pub one_member : (q v : Value) (values : List Value) → (same_value v q || list_any (same_value q) values) ≡ list_any (same_value q) (values ++ v ∷ [])
+one_member q v [] = ap (λ b. b || false) (same_turned v q)
+one_member q v (w ∷ values) =
+    elim (same_value q w) as (λ b. (same_value v q || (b || list_any (same_value q) values)) ≡ (b || list_any (same_value q) (values ++ v ∷ []))) [
+      | true ↦ (elim (same_value v q) as (λ c. (c || true) ≡ true) [ true ↦ refl | false ↦ refl ])
+      | false ↦ one_member q v values
+    ]
 
 -- ---- IN
 
@@ -55,13 +46,6 @@ among_is x (y ∷ ys) = ap (or_of (equals x y)) (among_is x ys) ∙ one_more (eq
 pub among_rows : (x : Value) (rows : List Row) → among x rows ≡ among_values x (first_column rows)
 among_rows x [] = refl
 among_rows x (r ∷ rows) = ap (or_of (equals x (column r 0))) (among_rows x rows)
-
--- in any order
-pub among_order : (x : Value) (xs ys : List Value) → IsPermutation xs ys → among_values x xs ≡ among_values x ys
-among_order x xs ys p =
-    among_is x xs
-    ∙ ((λ i. verdict (list_any-IsPermutation (λ y. is_yes (equals x y)) xs ys p i) (list_any-IsPermutation (λ y. is_unknown (equals x y)) xs ys p i))
-    ∙ sym (among_is x ys))
 
 -- ---- what is found
 
@@ -121,9 +105,9 @@ unsure_text s ys = sym (not_all (λ y. is_unknown (equals (Text s) y)) is_text e
     each (Int m) = refl
     each (Text t) = meets_known (value_cmp (Text s) (Text t))
 
-pub unsure_null : (ys : List Value) → nat_lt 0 (length ys) ≡ are_unsure Null ys
+pub unsure_null : (rows : List Row) → nat_lt 0 (length rows) ≡ are_unsure Null (first_column rows)
 unsure_null [] = refl
-unsure_null (y ∷ ys) = lt-ltb 0 (length (y ∷ ys)) (omega arith) ∙ sym (ap (λ t. is_unknown t || are_unsure Null ys) (known_null y))
+unsure_null (r ∷ rows) = lt-ltb 0 (length (r ∷ rows)) (omega arith) ∙ sym (ap (λ t. is_unknown t || are_unsure Null (first_column rows)) (known_null (column r 0)))
   where
     known_null : (y : Value) → equals Null y ≡ Unknown
     known_null Null = refl

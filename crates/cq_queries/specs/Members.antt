@@ -1,15 +1,15 @@
--- IN over values, and what of it an order of the values tells.
-use Rattle.std.specs.Prelude.{List, [], ◌∷◌, map, Bool, true, false}
+-- IN over values, and what of it a set of the values tells.
+use Rattle.std.specs.Prelude.{◌≡◌, List, [], ◌∷◌, map, Bool, true, false}
 use Rattle.std.specs.List.{list_any}
-use Rattle.std.specs.List.Sorted.{IsSortedBy}
-use Rattle.std.specs.Ordering.{is_lt}
-use Rattle.cq_value.specs.Order.{value_cmp}
+use Rattle.std.specs.HashSet.{HashSet, contains}
 use Rattle.cq_value.specs.declared.value.Value.{Value}
 use Rattle.cq_value.specs.declared.value.Value.TheVariants.{Null, Int, Text}
 use Rattle.cq_value.specs.declared.value.Truth.{Truth}
 use Rattle.cq_value.specs.declared.value.Truth.TheVariants.{Yes, No, Unknown}
 use Rattle.cq_meaning.specs.Logic.{or_of, equals, is_yes}
-use Rattle.cq_meaning.specs.Values.{Row, column}
+use Rattle.cq_meaning.specs.Values.{Row, column, same_value}
+use Rattle.cq_queries.specs.declared.operand.Operand.{Operand}
+use Rattle.cq_queries.specs.Operands.{owned, same_operand}
 
 -- the values of the first column
 abbrev pub first_column : List Row → List Value
@@ -43,9 +43,9 @@ are_found x ys = list_any (λ y. is_yes (equals x y)) ys
 abbrev pub are_unsure : Value → List Value → Bool
 are_unsure x ys = list_any (λ y. is_unknown (equals x y)) ys
 
--- the values ascend
-abbrev pub IsInOrder : List Value → Type 0
-IsInOrder = IsSortedBy (λ x y. is_lt (value_cmp x y))
+-- the set has the values, and no others
+abbrev pub AreMembers : {S : Type 0} → List Value → HashSet Operand S → Type 0
+AreMembers values set = (q : Operand) → contains same_operand set q ≡ list_any (same_value (owned q)) values
 
 -- true where it is of one of the values, and else unknown where it is of one of them
 abbrev pub verdict : Bool → Bool → Truth

@@ -1,5 +1,5 @@
-//! The reads of the worker engine: it computes expressions and the rows of a query. Joins on equal columns, groups and DISTINCT
-//! find rows by hashing; all else is plain.
+//! The reads of the worker engine: it computes expressions and the rows of a query. Joins on equal columns, groups, DISTINCT
+//! and IN find rows by hashing; all else is plain.
 #![tactic(auto)]
 
 mod aggregate;

@@ -1,86 +1,94 @@
-ghost use Rattle.std.specs.Prelude.{◌≡◌, IfOk};
-ghost use Rattle.std.specs.List.{list_any, list_all};
-ghost use Rattle.std.specs.List.Sorted.{IsPermutation};
-ghost use Rattle.cq_meaning.specs.Values.{same_value};
+ghost use Rattle.std.specs.Prelude.{◌≡◌, ◌||◌, IfOk, OnOk};
+ghost use Rattle.std.specs.List.{list_all};
+ghost use Rattle.std.specs.HashSet.{contains};
+ghost use Rattle.cq_meaning.specs.Values.{column};
 ghost use Rattle.cq_meaning.specs.Logic.{among};
-ghost use Rattle.cq_queries.specs.Operands.{owned};
-ghost use Rattle.cq_queries.specs.Members.{first_column, among_values, verdict as verdict_by_rule, are_found, are_unsure as are_unsure_by_rule, is_number as is_number_by_rule, is_text as is_text_by_rule, IsInOrder};
+ghost use Rattle.cq_queries.specs.declared.operand.Operand.{Operand as TheOperand};
+ghost use Rattle.cq_queries.specs.Operands.{owned, same_operand};
+ghost use Rattle.cq_queries.specs.Members.{first_column, among_values, verdict as verdict_by_rule, are_found, are_unsure as are_unsure_by_rule, is_number as is_number_by_rule, is_text as is_text_by_rule, AreMembers};
 
 use crate::expression::cell;
 use crate::logic;
 use crate::operand::{self, Operand};
 use cq_tree::Op;
-use cq_value::{Items, NoMemory, Results, Rows, Truth, Value, Values, order};
+use cq_value::{Items, NoMemory, Results, Row, Rows, Truth};
 use std::alloc::Global;
+use std::collections::HashSet;
 use std::marker::Model;
 
 /// So few rows are looked through.
 const FEW: u64 = 8;
 
-fn is_number(v: &Value) -> bool
-    ensures { result ≡ is_number_by_rule v.now }
+fn is_number(v: Operand<'_>) -> bool
+    ensures { result ≡ is_number_by_rule (owned v.entry) }
 {
-    matches!(v, Value::Int(_))
+    matches!(v, Operand::Int(_))
 }
 
-fn is_text(v: &Value) -> bool
-    ensures { result ≡ is_text_by_rule v.now }
+fn is_text(v: Operand<'_>) -> bool
+    ensures { result ≡ is_text_by_rule (owned v.entry) }
 {
-    matches!(v, Value::Text(_))
+    matches!(v, Operand::Text(_))
 }
 
-fn are_numbers(values: &[Value]) -> bool
-    ensures { result ≡ list_all is_number_by_rule values.now }
+/// Whether the values of the first column are numbers.
+fn are_numbers(rows: &[Row]) -> bool
+    ensures { result ≡ list_all (λ row. is_number_by_rule (column row 0)) rows.now }
 {
-    values.iter().all(is_number)
+    rows.iter().all(|row| is_number(cell(row, 0)))
 }
 
-fn are_texts(values: &[Value]) -> bool
-    ensures { result ≡ list_all is_text_by_rule values.now }
+/// Whether the values of the first column are texts.
+fn are_texts(rows: &[Row]) -> bool
+    ensures { result ≡ list_all (λ row. is_text_by_rule (column row 0)) rows.now }
 {
-    values.iter().all(is_text)
+    rows.iter().all(|row| is_text(cell(row, 0)))
 }
 
-/// Values in their order, among which a binary search finds one. Contracts see the values.
+fn put_value<'a>(values: &mut HashSet<Operand<'a>>, v: Operand<'a>) -> Result<(), NoMemory>
+    ensures { OnOk result ((q : TheOperand) → contains same_operand values.new q ≡ (same_operand v.entry q || contains same_operand values.old q)) }
+{
+    match values.insert(v) {
+        Ok(_) => Ok(()),
+        Err(_) => Err(NoMemory),
+    }
+}
+
+/// The values of the first column, each once.
+fn first_values<'a>(alloc: Global, rows: &'a Rows) -> Result<HashSet<Operand<'a>>, NoMemory>
+    ensures { IfOk result (AreMembers (first_column rows.now)) }
+{
+    let mut values = HashSet::new(alloc);
+    for row in rows.as_slice() {
+        put_value(&mut values, cell(row, 0))?;
+    }
+    Ok(values)
+}
+
+/// Rows, with the values of their first column in a set that lends their texts. Contracts see those values.
 #[derive(Drop)]
-struct Members {
-    values: Values,
+struct Members<'a> {
+    rows: &'a Rows,
+    values: HashSet<Operand<'a>>,
     are_numbers: bool,
     are_texts: bool,
 }
 
-impl Model for Members {
+impl<'a> Model for Members<'a> {
     ghost use Rattle.std.specs.Prelude.{List, ◌≡◌};
-    ghost use Rattle.cq_value.specs.declared.value.Value as value;
-    ghost use Rattle.cq_queries.specs.Members.{IsInOrder, is_number, is_text};
+    ghost use Rattle.std.specs.Coded.{codes};
     ghost use Rattle.std.specs.List.{list_all};
+    ghost use Rattle.cq_value.specs.declared.value.Value.{Value as TheValue};
+    ghost use Rattle.cq_value.specs.contracts.value.Value as value;
+    ghost use Rattle.cq_queries.specs.Members.{first_column, is_number, is_text, AreMembers};
 
-    ghost Value = { List value.Value };
+    ghost Value = { List TheValue };
 
-    ghost view = { λ m. m.values };
+    ghost coded = { Prim.hlevel (codes, value.the_row.coded) };
 
-    ghost invariant = { λ m. IsInOrder m.values × (m.are_numbers ≡ list_all is_number m.values) × (m.are_texts ≡ list_all is_text m.values) };
-}
+    ghost view = { λ m. first_column m.rows.now };
 
-/// The values in their order.
-fn in_order(values: Values) -> Values
-    ensures up { IsInOrder result }
-    ensures permutation { IsPermutation values result }
-{
-    let mut all = values.into_vec();
-    all.sort_unstable_by(|a, b| order(a, b));
-    Items::from_vec(all)
-}
-
-/// Whether a value that isn't NULL is among values in their order.
-fn is_found(v: Operand<'_>, values: &[Value]) -> bool
-    requires { IsInOrder values.now }
-    ensures { result ≡ list_any (same_value (owned v.entry)) values.now }
-{
-    match values.binary_search_by(|other| operand::order(operand::lend(other), v)) {
-        Ok(_) => true,
-        Err(_) => false,
-    }
+    ghost invariant = { λ m. AreMembers (first_column m.rows.now) m.values × (m.are_numbers ≡ list_all is_number (first_column m.rows.now)) × (m.are_texts ≡ list_all is_text (first_column m.rows.now)) };
 }
 
 /// What `IN` comes to, where a value was found or not, and where one is unsure.
@@ -94,20 +102,16 @@ fn verdict(is_found: bool, is_unsure: bool) -> Truth
     }
 }
 
-impl Members {
-    fn new(values: Values) -> Members
-        ensures { IsPermutation values result }
+impl<'a> Members<'a> {
+    fn new(alloc: Global, rows: &'a Rows) -> Result<Members<'a>, NoMemory>
+        ensures { IfOk result (λ m. m ≡ first_column rows.now) }
     {
-        let values = in_order(values);
-        let (are_numbers, are_texts) = (
-            are_numbers(values.as_slice()),
-            are_texts(values.as_slice()),
-        );
-        Members {
-            values,
-            are_numbers,
-            are_texts,
-        }
+        Ok(Members {
+            rows,
+            values: first_values(alloc, rows)?,
+            are_numbers: are_numbers(rows.as_slice()),
+            are_texts: are_texts(rows.as_slice()),
+        })
     }
 
     /// Whether `v = w` of one of the values.
@@ -116,7 +120,7 @@ impl Members {
     {
         match v {
             Operand::Null => false,
-            _ => is_found(v, self.values.as_slice()),
+            _ => self.values.contains(&v),
         }
     }
 
@@ -125,7 +129,7 @@ impl Members {
         ensures { result ≡ are_unsure_by_rule (owned v.entry) self.now }
     {
         match v {
-            Operand::Null => self.values.len() > 0,
+            Operand::Null => self.rows.len() > 0,
             Operand::Int(_) => !self.are_numbers,
             Operand::Text(_) => !self.are_texts,
         }
@@ -143,13 +147,12 @@ impl Members {
 #[derive(Drop)]
 pub struct Listed<'a> {
     rows: &'a Rows,
-    members: Option<Members>,
+    members: Option<Members<'a>>,
 }
 
 impl<'a> Model for Listed<'a> {
-    ghost use Rattle.std.specs.Prelude.{List, IfSome};
+    ghost use Rattle.std.specs.Prelude.{List, ◌≡◌, IfSome};
     ghost use Rattle.std.specs.Coded.{codes};
-    ghost use Rattle.std.specs.List.Sorted.{IsPermutation};
     ghost use Rattle.cq_value.specs.contracts.value.Value as value;
     ghost use Rattle.cq_meaning.specs.Values.{Row as TheRow};
     ghost use Rattle.cq_queries.specs.Members.{first_column};
@@ -160,22 +163,11 @@ impl<'a> Model for Listed<'a> {
 
     ghost coded = { Prim.hlevel (codes, value.the_row.coded) };
 
-    ghost invariant = { λ l. IfSome l.members (λ m. IsPermutation (first_column l.rows.now) m) };
+    ghost invariant = { λ l. IfSome l.members (λ m. m ≡ first_column l.rows.now) };
 }
 
 /// Results, as expressions look at them.
 pub type Lookups<'a> = Items<Listed<'a>>;
-
-/// The values of the first column.
-fn first_values(alloc: Global, rows: &Rows) -> Result<Values, NoMemory>
-    ensures { IfOk result (λ values. values ≡ first_column rows.now) }
-{
-    let mut values = Values::new(alloc);
-    for row in rows.as_slice() {
-        values.put(operand::take(alloc, cell(row, 0))?)?;
-    }
-    Ok(values)
-}
 
 /// Whether these are many rows of one column.
 fn are_many(rows: &Rows) -> bool {
@@ -202,7 +194,7 @@ impl<'a> Listed<'a> {
         ensures { IfOk result (λ listed. listed ≡ rows.now) }
     {
         let members = if are_many(rows) {
-            Some(Members::new(first_values(alloc, rows)?))
+            Some(Members::new(alloc, rows)?)
         } else {
             None
         };
@@ -227,7 +219,7 @@ impl<'a> Listed<'a> {
     }
 }
 
-/// Results, with the values of those that have many rows of one column in their order.
+/// Results, with the values of those that have many rows of one column in a set.
 ///
 /// Errors: want of memory.
 pub fn lookups_of<'a>(alloc: Global, results: &'a Results) -> Result<Lookups<'a>, NoMemory>
