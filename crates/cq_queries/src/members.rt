@@ -14,6 +14,7 @@ use cq_tree::Op;
 use cq_value::{Items, NoMemory, Results, Row, Rows, Truth};
 use std::alloc::Global;
 use std::collections::HashSet;
+use std::hash::RandomState;
 use std::marker::Model;
 
 /// So few rows are looked through.
@@ -45,7 +46,10 @@ fn are_texts(rows: &[Row]) -> bool
     rows.iter().all(|row| is_text(cell(row, 0)))
 }
 
-fn put_value<'a>(values: &mut HashSet<Operand<'a>>, v: Operand<'a>) -> Result<(), NoMemory>
+fn put_value<'a>(
+    values: &mut HashSet<Operand<'a>, RandomState>,
+    v: Operand<'a>,
+) -> Result<(), NoMemory>
     ensures { OnOk result ((q : TheOperand) → contains same_operand values.new q ≡ (same_operand v.entry q || contains same_operand values.old q)) }
 {
     match values.insert(v) {
@@ -55,10 +59,14 @@ fn put_value<'a>(values: &mut HashSet<Operand<'a>>, v: Operand<'a>) -> Result<()
 }
 
 /// The values of the first column, each once.
-fn first_values<'a>(alloc: Global, rows: &'a Rows) -> Result<HashSet<Operand<'a>>, NoMemory>
+fn first_values<'a>(
+    alloc: Global,
+    hash: RandomState,
+    rows: &'a Rows,
+) -> Result<HashSet<Operand<'a>, RandomState>, NoMemory>
     ensures { IfOk result (AreMembers (first_column rows.now)) }
 {
-    let mut values = HashSet::new(alloc);
+    let mut values = HashSet::with_hasher(alloc, hash);
     for row in rows.as_slice() {
         put_value(&mut values, cell(row, 0))?;
     }
@@ -69,7 +77,7 @@ fn first_values<'a>(alloc: Global, rows: &'a Rows) -> Result<HashSet<Operand<'a>
 #[derive(Drop)]
 struct Members<'a> {
     rows: &'a Rows,
-    values: HashSet<Operand<'a>>,
+    values: HashSet<Operand<'a>, RandomState>,
     are_numbers: bool,
     are_texts: bool,
 }
@@ -103,12 +111,12 @@ fn verdict(is_found: bool, is_unsure: bool) -> Truth
 }
 
 impl<'a> Members<'a> {
-    fn new(alloc: Global, rows: &'a Rows) -> Result<Members<'a>, NoMemory>
+    fn new(alloc: Global, hash: RandomState, rows: &'a Rows) -> Result<Members<'a>, NoMemory>
         ensures { IfOk result (λ m. m ≡ first_column rows.now) }
     {
         Ok(Members {
             rows,
-            values: first_values(alloc, rows)?,
+            values: first_values(alloc, hash, rows)?,
             are_numbers: are_numbers(rows.as_slice()),
             are_texts: are_texts(rows.as_slice()),
         })
@@ -190,11 +198,11 @@ fn is_among(v: Operand<'_>, rows: &Rows) -> Truth
 }
 
 impl<'a> Listed<'a> {
-    fn new(alloc: Global, rows: &'a Rows) -> Result<Listed<'a>, NoMemory>
+    fn new(alloc: Global, hash: RandomState, rows: &'a Rows) -> Result<Listed<'a>, NoMemory>
         ensures { IfOk result (λ listed. listed ≡ rows.now) }
     {
         let members = if are_many(rows) {
-            Some(Members::new(alloc, rows)?)
+            Some(Members::new(alloc, hash, rows)?)
         } else {
             None
         };
@@ -222,12 +230,16 @@ impl<'a> Listed<'a> {
 /// Results, with the values of those that have many rows of one column in a set.
 ///
 /// Errors: want of memory.
-pub fn lookups_of<'a>(alloc: Global, results: &'a Results) -> Result<Lookups<'a>, NoMemory>
+pub fn lookups_of<'a>(
+    alloc: Global,
+    hash: RandomState,
+    results: &'a Results,
+) -> Result<Lookups<'a>, NoMemory>
     ensures { IfOk result (λ lookups. lookups ≡ results.now) }
 {
     let mut lookups = Lookups::new(alloc);
     for rows in results.as_slice() {
-        lookups.put(Listed::new(alloc, rows)?)?;
+        lookups.put(Listed::new(alloc, hash, rows)?)?;
     }
     Ok(lookups)
 }
