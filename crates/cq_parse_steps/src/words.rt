@@ -1,4 +1,4 @@
-ghost use Rattle.std.specs.Prelude.{◌≡◌, ℕ, List, length, bytes_eq};
+ghost use Rattle.std.specs.Prelude.{◌≡◌, ℕ, List, ◌∷◌, bytes_eq};
 ghost use Rattle.cq_grammar.specs.declared.kind.Kind.TheVariants.{Name};
 ghost use Rattle.cq_grammar.specs.Words as spec;
 ghost use Rattle.cq_parse_steps.specs.Entries.{entries};
@@ -31,121 +31,170 @@ fn kind_of_sign(sign: Sign) -> Kind
     }
 }
 
-/// The words of two letters, with their kinds.
-const TWO: &[(&str, Kind)] = &[
-    ("as", Kind::As),
-    ("by", Kind::By),
-    ("in", Kind::In),
-    ("is", Kind::Is),
-    ("on", Kind::On),
-    ("or", Kind::Or),
-    ("to", Kind::To),
-];
-
-/// The words of three letters, with their kinds.
-const THREE: &[(&str, Kind)] = &[
+/// The words that begin with a, with their kinds.
+const A: &[(&str, Kind)] = &[
     ("all", Kind::All),
     ("and", Kind::And),
+    ("as", Kind::As),
     ("asc", Kind::Asc),
-    ("end", Kind::End),
-    ("key", Kind::Key),
-    ("max", Kind::Max),
-    ("min", Kind::Min),
-    ("not", Kind::Not),
-    ("set", Kind::Set),
-    ("sum", Kind::Sum),
-    ("csv", Kind::Csv),
-    ("int", Kind::Int),
-    ("off", Kind::Off),
 ];
 
-/// The words of four letters, with their kinds.
-const FOUR: &[(&str, Kind)] = &[
-    ("case", Kind::Case),
-    ("copy", Kind::Copy),
-    ("desc", Kind::Desc),
-    ("else", Kind::Else),
-    ("from", Kind::From),
-    ("into", Kind::Into),
-    ("join", Kind::Join),
-    ("left", Kind::Left),
-    ("null", Kind::Null),
-    ("then", Kind::Then),
-    ("when", Kind::When),
-    ("with", Kind::With),
-    ("text", Kind::Text),
-];
-
-/// The words of five letters, with their kinds.
-const FIVE: &[(&str, Kind)] = &[
-    ("count", Kind::Count),
-    ("cross", Kind::Cross),
-    ("group", Kind::Group),
-    ("inner", Kind::Inner),
-    ("limit", Kind::Limit),
-    ("order", Kind::Order),
-    ("outer", Kind::Outer),
-    ("table", Kind::Table),
-    ("where", Kind::Where),
-    ("stdin", Kind::Stdin),
-];
-
-/// The words of six letters, with their kinds.
-const SIX: &[(&str, Kind)] = &[
-    ("create", Kind::Create),
-    ("delete", Kind::Delete),
-    ("having", Kind::Having),
-    ("insert", Kind::Insert),
-    ("offset", Kind::Offset),
-    ("select", Kind::Select),
-    ("update", Kind::Update),
-    ("values", Kind::Values),
-    ("bigint", Kind::Bigint),
-    ("format", Kind::Format),
-    ("header", Kind::Header),
-];
-
-/// The words of seven letters, with their kinds.
-const SEVEN: &[(&str, Kind)] = &[
+/// The words that begin with b, with their kinds.
+const B: &[(&str, Kind)] = &[
     ("between", Kind::Between),
-    ("explain", Kind::Explain),
-    ("primary", Kind::Primary),
-    ("integer", Kind::Integer),
+    ("by", Kind::By),
+    ("bigint", Kind::Bigint),
 ];
 
-/// The words of eight letters, with their kinds.
-const EIGHT: &[(&str, Kind)] = &[("coalesce", Kind::Coalesce), ("distinct", Kind::Distinct)];
-
-/// The words of more letters, with their kinds.
-const LONG: &[(&str, Kind)] = &[
+/// The words that begin with c, with their kinds.
+const C: &[(&str, Kind)] = &[
+    ("case", Kind::Case),
+    ("coalesce", Kind::Coalesce),
+    ("copy", Kind::Copy),
+    ("count", Kind::Count),
+    ("create", Kind::Create),
+    ("cross", Kind::Cross),
+    ("csv", Kind::Csv),
     ("create_distributed_table", Kind::Call),
     ("create_reference_table", Kind::Call),
     ("citus_move_shard_placement", Kind::Call),
-    ("rebalance_table_shards", Kind::Call),
+];
+
+/// The words that begin with d, with their kinds.
+const D: &[(&str, Kind)] = &[
+    ("delete", Kind::Delete),
+    ("desc", Kind::Desc),
+    ("distinct", Kind::Distinct),
+];
+
+/// The words that begin with e, with their kinds.
+const E: &[(&str, Kind)] = &[
+    ("else", Kind::Else),
+    ("end", Kind::End),
+    ("explain", Kind::Explain),
+];
+
+/// The words that begin with f, with their kinds.
+const F: &[(&str, Kind)] = &[("from", Kind::From), ("format", Kind::Format)];
+
+/// The words that begin with g, with their kinds.
+const G: &[(&str, Kind)] = &[
+    ("group", Kind::Group),
     ("get_rebalance_table_shards_plan", Kind::Call),
 ];
 
-/// The words that a word of so many letters may be, with their kinds.
-fn words_of(len: usize) -> &'static [(&'static str, Kind)]
-    ensures { (word : List ℕ) → length word ≡ len → spec.kind_of_word word ≡ spec.found_in (entries result.now) Name word }
+/// The words that begin with h, with their kinds.
+const H: &[(&str, Kind)] = &[("having", Kind::Having), ("header", Kind::Header)];
+
+/// The words that begin with i, with their kinds.
+const I: &[(&str, Kind)] = &[
+    ("in", Kind::In),
+    ("inner", Kind::Inner),
+    ("insert", Kind::Insert),
+    ("into", Kind::Into),
+    ("is", Kind::Is),
+    ("int", Kind::Int),
+    ("integer", Kind::Integer),
+];
+
+/// The words that begin with j, with their kinds.
+const J: &[(&str, Kind)] = &[("join", Kind::Join)];
+
+/// The words that begin with k, with their kinds.
+const K: &[(&str, Kind)] = &[("key", Kind::Key)];
+
+/// The words that begin with l, with their kinds.
+const L: &[(&str, Kind)] = &[("left", Kind::Left), ("limit", Kind::Limit)];
+
+/// The words that begin with m, with their kinds.
+const M: &[(&str, Kind)] = &[("max", Kind::Max), ("min", Kind::Min)];
+
+/// The words that begin with n, with their kinds.
+const N: &[(&str, Kind)] = &[("not", Kind::Not), ("null", Kind::Null)];
+
+/// The words that begin with o, with their kinds.
+const O: &[(&str, Kind)] = &[
+    ("offset", Kind::Offset),
+    ("on", Kind::On),
+    ("or", Kind::Or),
+    ("order", Kind::Order),
+    ("outer", Kind::Outer),
+    ("off", Kind::Off),
+];
+
+/// The words that begin with p, with their kinds.
+const P: &[(&str, Kind)] = &[("primary", Kind::Primary)];
+
+/// The words that begin with r, with their kinds.
+const R: &[(&str, Kind)] = &[("rebalance_table_shards", Kind::Call)];
+
+/// The words that begin with s, with their kinds.
+const S: &[(&str, Kind)] = &[
+    ("select", Kind::Select),
+    ("set", Kind::Set),
+    ("sum", Kind::Sum),
+    ("stdin", Kind::Stdin),
+];
+
+/// The words that begin with t, with their kinds.
+const T: &[(&str, Kind)] = &[
+    ("table", Kind::Table),
+    ("then", Kind::Then),
+    ("to", Kind::To),
+    ("text", Kind::Text),
+];
+
+/// The words that begin with u, with their kinds.
+const U: &[(&str, Kind)] = &[("update", Kind::Update)];
+
+/// The words that begin with v, with their kinds.
+const V: &[(&str, Kind)] = &[("values", Kind::Values)];
+
+/// The words that begin with w, with their kinds.
+const W: &[(&str, Kind)] = &[
+    ("when", Kind::When),
+    ("where", Kind::Where),
+    ("with", Kind::With),
+];
+
+/// The words that begin with this letter, with their kinds.
+fn words_of(first: u8) -> &'static [(&'static str, Kind)]
+    ensures { (rest : List ℕ) → spec.kind_of_word (first ∷ rest) ≡ spec.found_in (entries result.now) Name (first ∷ rest) }
 {
-    match len {
-        0 | 1 => &[],
-        2 => TWO,
-        3 => THREE,
-        4 => FOUR,
-        5 => FIVE,
-        6 => SIX,
-        7 => SEVEN,
-        8 => EIGHT,
-        _ => LONG,
+    match first {
+        b'a' => A,
+        b'b' => B,
+        b'c' => C,
+        b'd' => D,
+        b'e' => E,
+        b'f' => F,
+        b'g' => G,
+        b'h' => H,
+        b'i' => I,
+        b'j' => J,
+        b'k' => K,
+        b'l' => L,
+        b'm' => M,
+        b'n' => N,
+        b'o' => O,
+        b'p' => P,
+        b'r' => R,
+        b's' => S,
+        b't' => T,
+        b'u' => U,
+        b'v' => V,
+        b'w' => W,
+        _ => &[],
     }
 }
 
-/// Whether the bytes are the same. Most words differ in the first.
+/// Whether the bytes are the same. Most words differ in their number.
 fn are_same(a: &[u8], b: &[u8]) -> bool
     ensures { result ≡ bytes_eq a.now b.now }
 {
+    if a.len() != b.len() {
+        return false;
+    }
     let mut left = a;
     let mut right = b;
     'bytes: while let Some((first, rest)) = split(left) {
@@ -173,11 +222,15 @@ fn found_in(words: &[(&str, Kind)], word: &str) -> Kind
     Kind::Name
 }
 
-/// The kind of a word, which is looked for among those of its length.
+/// The kind of a word, which is looked for among those that begin as it does.
+#[tactic(auto, unfolding(cq_grammar::specs::Words::kind_of_word))]
 fn kind_of_word(word: &str) -> Kind
     ensures { result ≡ spec.kind_of_word word.now }
 {
-    found_in(words_of(word.len()), word)
+    match split(word.as_bytes()) {
+        Some((first, _)) => found_in(words_of(first), word),
+        None => Kind::Name,
+    }
 }
 
 /// What the grammar tells a token by.

@@ -1,7 +1,9 @@
 -- The steps of the loops, and the digits of literals.
-use Rattle.std.proofs.Common.{◌≡◌, ℕ, ℤ, zero, suc, ◌+◌, ◌/◌, ◌^◌, ◌<◌, ◌≤◌, Bool, true, false, cond, max, List, [], ◌∷◌, drop, length, get_or, refl, sym, ap, ◌∙◌, subst, arith, add-one, drop-cons}
-use Rattle.std.specs.Prelude.{nat_eq, slice_index_or, unsigned_abs}
-use Rattle.std.proofs.lemmas.Nat.{pow-add}
+use Rattle.std.proofs.Common.{◌≡◌, ℕ, zero, suc, ◌+◌, ◌*◌, ◌/◌, ◌-◌, ◌^◌, ◌<◌, ◌≤◌, true, false, cond, min, max, List, [], ◌∷◌, drop, length, get_or, refl, sym, ap, ◌∙◌, subst, arith, add-one, drop-cons}
+use Rattle.std.specs.Prelude.{nat_eq}
+use Rattle.std.proofs.lemmas.Nat.{pow-add, leading_length}
+use Rattle.std.proofs.lemmas.Bool.{ne_eqb}
+use Rattle.std.specs.Int.Count.{count_leading_zeros}
 use Rattle.cq_tree.specs.declared.expression.Expr.{Expr}
 use Rattle.cq_tree.specs.declared.expression.Arm.{Arm}
 use Rattle.cq_meaning.specs.Widths.{digits_in, bits}
@@ -46,3 +48,19 @@ digits_above (suc most) n h =
 
 pub digits_below : (n : ℕ) → n < 340282366920938463463374607431768211456 → n ≤ 2 ^ digits_in 128 n
 digits_below n h = let k = digits_above 128 n h in omega (arith, k)
+
+-- a number of m digits: 2 ^ (m - 1) or more, and below 2 ^ m
+digits_of : (most n m : ℕ) → n < 2 ^ m → 2 ^ m ≤ 2 * n + 1 → min most m ≡ digits_in most n
+digits_of zero n m below above = omega arith
+digits_of (suc most) n zero below above = let none : n ≡ 0 = omega (arith, below) in rw none (omega arith)
+digits_of (suc most) n (suc m) below above =
+    let some : nat_eq n 0 ≡ false = ne_eqb n 0 (λ e. omega (arith, below, above, twice m, e)) in
+    let rest = digits_of most (n / 2) m (half_below n m below) (omega (arith, above, twice m)) in
+    rw some (omega (arith, rest))
+
+-- as the processor counts them
+pub digits_counted : (most n : ℕ) → n < 340282366920938463463374607431768211456 → min most (128 - count_leading_zeros 128 n) ≡ digits_in most n
+digits_counted most n h =
+    let (m, whole, below, above) = leading_length 128 n h in
+    let same : 128 - count_leading_zeros 128 n ≡ m = omega (arith, whole) in
+    rw same (digits_of most n m below above)

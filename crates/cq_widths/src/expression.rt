@@ -34,15 +34,12 @@ pub fn multiplied(j: u32, k: u32) -> Option<u32>
 }
 
 /// How many binary digits a number has, if it has at most so many.
+#[tactic(auto, using(crate::proofs::StepLaws::digits_counted))]
 fn digits_in(most: u32, n: u128) -> u32
     ensures is { result ≡ digits most n }
     ensures few { result ≤ most }
 {
-    if most == 0 || n == 0 {
-        0
-    } else {
-        1 + digits_in(most - 1, n / 2)
-    }
+    most.min(128 - n.leading_zeros())
 }
 
 fn literal_bits(v: &Value) -> u32

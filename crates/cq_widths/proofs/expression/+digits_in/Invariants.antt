@@ -1,4 +1,0 @@
-use Rattle.cq_widths.proofs.expression.+digits_in.Given as goal
-
-abbrev pub decreases-digits_in : goal.decreases-digits_in
-decreases-digits_in l = l.most
