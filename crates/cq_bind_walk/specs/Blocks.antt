@@ -17,10 +17,9 @@ use Rattle.cq_reading.specs.Scopes.{World, Context}
 use Rattle.cq_reading.specs.Parts.{ItemPart, OrderPart}
 use Rattle.cq_reading.specs.Expressions.{Layer}
 use Rattle.cq_reading.specs.Relations.{from_of}
-use Rattle.cq_reading.specs.Selects.{look, at_most, targets, read_target, item_of, group_keys, having_of, order_keys, before_grouping, after_grouping, filter_of, limit_of, offset_of}
+use Rattle.cq_reading.specs.Selects.{look, at_most, targets, read_target, item_of, group_keys, having_of, order_keys, before_grouping, after_grouping, filter_of}
 use Rattle.cq_reading.specs.Walk.{groups, block_of, part_of, item_part, from_part, group_part, having_part, order_part}
 use Rattle.cq_bind_names.specs.declared.blocks.Outer.{Outer}
-use Rattle.cq_bind_names.specs.declared.blocks.Clauses.{Clauses}
 use Rattle.cq_bind_walk.specs.declared.selects.Rows.{Rows}
 use Rattle.cq_bind_walk.specs.declared.selects.Shape.{Shape}
 
@@ -97,9 +96,6 @@ inner_reading q w =
     at_most 512 limited.Outputs (read_target (after_grouping w r (groups q) keys false)) (targets r.columns q.items) then (λ outputs.
     order_keys (after_grouping w r (groups q) keys false) outputs q.distinct q.order (record { items = map item_of outputs; keys = [] }) then (λ order.
     look then (λ found. give (block_of q r filter keys having outputs order found))))))))
-
-abbrev pub clauses_of : Layer Select-F → Clauses
-clauses_of q = record { grouped = groups q; distinct = q.distinct; limit = limit_of q.limit; offset = offset_of q.offset }
 
 -- the block, of what was found in it
 abbrev pub found_with : Outer → Found

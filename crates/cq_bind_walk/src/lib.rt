@@ -3,6 +3,7 @@
 #![tactic(auto)]
 
 mod knot;
+mod outputs;
 mod selects;
 mod walk;
 

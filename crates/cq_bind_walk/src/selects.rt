@@ -10,15 +10,16 @@ ghost use Rattle.cq_bind_calls.specs.Calls.{Nests};
 ghost use Rattle.cq_bind_walk.specs.Blocks as blocks;
 ghost use Rattle.cq_bind_walk.specs.Blocks.{layer_of};
 
+use crate::outputs::{count, names_of, outputs_of};
 use crate::walk::Selects;
 use cq_bind_calls::alloc_of;
 use cq_bind_lists::Lists;
 use cq_bind_looks::groups;
-use cq_bind_names::{Clauses, Outer, Parts, block_of, enter, leave, unordered};
+use cq_bind_names::{Outer, enter, leave, unordered};
 use cq_bind_relations::Froms;
 use cq_grammar::{Count, Expr, Item, OrderKey, Select};
 use cq_reading::{BindError, Block, Bound, Found, Ordered, Relations, Scope, ShownList, World};
-use cq_tree::{Cond, Exprs};
+use cq_tree::{Cond, Exprs, Queries, Query};
 use cq_value::{Items, NoMemory};
 use std::alloc::Global;
 
@@ -100,17 +101,6 @@ fn is_grouped(q: &Select) -> bool
     groups(q)
 }
 
-fn clauses_of(q: &Select) -> Clauses
-    ensures { result ≡ blocks.clauses_of (layer_of q.now) }
-{
-    Clauses {
-        grouped: is_grouped(q),
-        distinct: q.distinct,
-        limit: limit_of(&q.limit),
-        offset: offset_of(&q.offset),
-    }
-}
-
 /// What is there and what was tried next, or its refusal.
 fn beside<A: Drop, B: Drop>(a: A, b: Result<B, BindError>) -> Result<(A, B), BindError>
     ensures { result ≡ blocks.made (λ y. (a, y)) b }
@@ -150,15 +140,29 @@ fn finished(
         outputs,
         order,
     } = shape;
-    let parts = Parts {
-        relations,
-        filter,
-        keys,
-        having,
-        order,
-        inner,
-    };
-    block_of(alloc, clauses_of(q), parts, outputs.as_slice())
+    let names = names_of(alloc, outputs.as_slice())?;
+    let shown = count(&outputs)?;
+    Ok(Block {
+        query: Query {
+            ctes: Queries::new(alloc),
+            subs: inner.subs,
+            from: relations.tree,
+            filter,
+            grouped: is_grouped(q),
+            keys,
+            aggs: inner.aggs,
+            having,
+            items: order.items,
+            shown,
+            distinct: q.distinct,
+            order: order.keys,
+            limit: limit_of(&q.limit),
+            offset: offset_of(&q.offset),
+            names,
+        },
+        outputs: outputs_of(alloc, outputs)?,
+        joined: relations.joined,
+    })
 }
 
 impl<

@@ -21,7 +21,7 @@ use crate::error::fault_of;
 use crate::looks::looks_at;
 use crate::near::near_node;
 use crate::reads::{Look, Looks, pick_group, read_groups};
-use crate::shard::{Shard, shard_alone};
+use crate::shard::{Shard, home_of, look_alone, shard_alone};
 use crate::tasks::run_seen;
 use crate::wanting::wants_of;
 use crate::ways::{Way, way_of};
@@ -41,12 +41,22 @@ use std::hash::RandomState;
 const MOST_ROWS: u64 = 2147483648;
 
 /// The looks of a query: in each group that it touches, those of its tables that have a shard there.
-fn plan(alloc: Global, catalog: &Catalog, query: &Query) -> Result<Looks, NoMemory>
+fn plan_groups(alloc: Global, catalog: &Catalog, query: &Query) -> Result<Looks, NoMemory>
     ensures { IfOk result (λ looks. looks ≡ looks_of catalog.now query.now) }
 {
     let groups = touched_by_query(alloc, catalog, query)?;
     let tables = tables_of(alloc, query)?;
     looks_at(alloc, catalog, tables.as_slice(), groups.as_slice())
+}
+
+/// The same. The look at a shard that the WHERE names needs neither list.
+fn plan(alloc: Global, catalog: &Catalog, query: &Query) -> Result<Looks, NoMemory>
+    ensures { IfOk result (λ looks. looks ≡ looks_of catalog.now query.now) }
+{
+    match home_of(catalog, query) {
+        Some(shard) => look_alone(alloc, shard),
+        None => plan_groups(alloc, catalog, query),
+    }
 }
 
 /// The answer of a query by its rows.

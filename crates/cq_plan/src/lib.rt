@@ -12,7 +12,7 @@ mod statements;
 mod walk;
 mod writes;
 
-pub use alone::table_alone;
+pub use alone::{home_under, table_alone};
 pub use blocks::{Touched, prune, touches};
 pub use class_lists::{Classes, classes};
 pub use groups::in_order;
