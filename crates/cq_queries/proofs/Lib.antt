@@ -1,5 +1,7 @@
 pub mod FirstLaws
 pub mod GroupPush
+pub mod JoinedLaws
+pub mod KeptLaws
 pub mod PairLaws
 pub mod PruneLaws
 pub mod StepLaws

@@ -1,4 +1,6 @@
+pub mod Cells
 pub mod Kept
+pub mod Joined
 pub mod LentKeys
 pub mod Operands
 pub mod Pruned

@@ -2,22 +2,17 @@ ghost use Rattle.std.specs.Prelude.{◌≡◌, ◌<◌, length, IfOk, All, optio
 ghost use Rattle.cq_meaning.specs.Values.{column};
 ghost use Rattle.cq_meaning.specs.Expressions.{value_of, truth_of};
 ghost use Rattle.cq_meaning.specs.Safety.{IsSafe, IsSafeCondition, IsSafeArm};
+ghost use Rattle.cq_queries.specs.Cells.{row_in};
 ghost use Rattle.cq_queries.specs.Operands.{owned};
 ghost use Rattle.cq_queries.specs.TreeLists.{arm_value_in, first_known_in};
 
+use crate::cells::Cells;
 use crate::logic;
 use crate::members::Lookups;
 use crate::operand::{self, Operand};
 use cq_tree::{Arm, Cond, Expr};
 use cq_value::{NoMemory, Row, Truth, Value};
 use std::alloc::Global;
-
-fn column_of<'a>(row: &'a Row, at: u32) -> Operand<'a>
-    requires { at < length row.now }
-    ensures { owned result ≡ column row.now at }
-{
-    operand::lend(&row.as_slice()[at as usize])
-}
 
 /// The value in a column, and NULL past the end.
 pub fn cell<'a>(row: &'a Row, at: u32) -> Operand<'a>
@@ -31,13 +26,13 @@ pub fn cell<'a>(row: &'a Row, at: u32) -> Operand<'a>
 
 /// The value of an expression over a row, with borrowed texts.
 #[cycle(eval)]
-pub fn look<'a>(e: &'a Expr, row: &'a Row, results: &Lookups<'_>) -> Operand<'a>
-    requires { IsSafe e.now row.now results.now }
-    ensures { owned result ≡ value_of e.now row.now results.now }
+pub fn look<'a>(e: &'a Expr, row: Cells<'a>, results: &Lookups<'_>) -> Operand<'a>
+    requires { IsSafe e.now (row_in row) results.now }
+    ensures { owned result ≡ value_of e.now (row_in row.entry) results.now }
 {
     match e {
         Expr::Literal(v) => operand::lend(v),
-        Expr::Column(at) => column_of(row, *at),
+        Expr::Column(at) => operand::lend(row.value(*at)),
         Expr::Neg(a) => operand::negate(look(a.get(), row, results)),
         Expr::Add(a, b) => {
             operand::add(look(a.get(), row, results), look(b.get(), row, results))
@@ -60,12 +55,12 @@ pub fn look<'a>(e: &'a Expr, row: &'a Row, results: &Lookups<'_>) -> Operand<'a>
 
 /// The value of the first arm whose condition is true.
 #[cycle(eval)]
-fn look_arms<'a>(arms: &'a [Arm], row: &'a Row, results: &Lookups<'_>) -> Option<Operand<'a>>
-    requires { All (IsSafeArm row.now results.now) arms.now }
-    ensures { option_map owned result ≡ arm_value_in arms.now row.now results.now }
+fn look_arms<'a>(arms: &'a [Arm], row: Cells<'a>, results: &Lookups<'_>) -> Option<Operand<'a>>
+    requires { All (IsSafeArm (row_in row) results.now) arms.now }
+    ensures { option_map owned result ≡ arm_value_in arms.now (row_in row.entry) results.now }
 {
     for arm in arms {
-        if test(&arm.when, row, results) == Truth::Yes {
+        if judge(&arm.when, row, results) == Truth::Yes {
             return Some(look(&arm.then, row, results));
         }
     }
@@ -74,9 +69,9 @@ fn look_arms<'a>(arms: &'a [Arm], row: &'a Row, results: &Lookups<'_>) -> Option
 
 /// The first value that isn't NULL.
 #[cycle(eval)]
-fn look_first<'a>(es: &'a [Expr], row: &'a Row, results: &Lookups<'_>) -> Operand<'a>
-    requires { All (λ e. IsSafe e row.now results.now) es.now }
-    ensures { owned result ≡ first_known_in es.now row.now results.now }
+fn look_first<'a>(es: &'a [Expr], row: Cells<'a>, results: &Lookups<'_>) -> Operand<'a>
+    requires { All (λ e. IsSafe e (row_in row) results.now) es.now }
+    ensures { owned result ≡ first_known_in es.now (row_in row.entry) results.now }
 {
     for e in es {
         let v = look(e, row, results);
@@ -88,24 +83,21 @@ fn look_first<'a>(es: &'a [Expr], row: &'a Row, results: &Lookups<'_>) -> Operan
 }
 
 /// The same. Most expressions are columns, whose values are found without a further call.
-pub fn glance<'a>(e: &'a Expr, row: &'a Row, results: &Lookups<'_>) -> Operand<'a>
-    requires { IsSafe e.now row.now results.now }
-    ensures { owned result ≡ value_of e.now row.now results.now }
+pub fn glance<'a>(e: &'a Expr, row: Cells<'a>, results: &Lookups<'_>) -> Operand<'a>
+    requires { IsSafe e.now (row_in row) results.now }
+    ensures { owned result ≡ value_of e.now (row_in row.entry) results.now }
 {
     match e {
-        Expr::Column(at) => column_of(row, *at),
+        Expr::Column(at) => operand::lend(row.value(*at)),
         _ => look(e, row, results),
     }
 }
 
-/// Whether a condition holds of a row, by SQL's three-valued logic. Takes no memory.
-///
-/// Conditions: the columns are in the row, the results in the list, and values fit 128 bits, as the widths of the binder make
-/// sure.
+/// Whether a condition holds, by SQL's three-valued logic. Takes no memory.
 #[cycle(eval)]
-pub fn test(c: &Cond, row: &Row, results: &Lookups<'_>) -> Truth
-    requires { IsSafeCondition c.now row.now results.now }
-    ensures { result ≡ truth_of c.now row.now results.now }
+pub fn judge(c: &Cond, row: Cells<'_>, results: &Lookups<'_>) -> Truth
+    requires { IsSafeCondition c.now (row_in row) results.now }
+    ensures { result ≡ truth_of c.now (row_in row.entry) results.now }
 {
     match c {
         Cond::Compare(op, a, b) => logic::holds(
@@ -114,11 +106,22 @@ pub fn test(c: &Cond, row: &Row, results: &Lookups<'_>) -> Truth
         ),
         Cond::IsNull(e) => operand::test_null(look(e, row, results)),
         Cond::InResult(e, i) => results.as_slice()[*i as usize].find(look(e, row, results)),
-        Cond::And(a, b) => logic::both(test(a.get(), row, results), test(b.get(), row, results)),
-        Cond::Or(a, b) => logic::either(test(a.get(), row, results), test(b.get(), row, results)),
-        Cond::Not(a) => logic::negated(test(a.get(), row, results)),
+        Cond::And(a, b) => logic::both(judge(a.get(), row, results), judge(b.get(), row, results)),
+        Cond::Or(a, b) => logic::either(judge(a.get(), row, results), judge(b.get(), row, results)),
+        Cond::Not(a) => logic::negated(judge(a.get(), row, results)),
         Cond::Always => Truth::Yes,
     }
+}
+
+/// Whether a condition holds of a row, by SQL's three-valued logic. Takes no memory.
+///
+/// Conditions: the columns are in the row, the results in the list, and values fit 128 bits, as the widths of the binder make
+/// sure.
+pub fn test(c: &Cond, row: &Row, results: &Lookups<'_>) -> Truth
+    requires { IsSafeCondition c.now row.now results.now }
+    ensures { result ≡ truth_of c.now row.now results.now }
+{
+    judge(c, Cells::One(row), results)
 }
 
 /// The value of an expression over a row.
@@ -128,5 +131,5 @@ pub fn eval(alloc: Global, e: &Expr, row: &Row, results: &Lookups<'_>) -> Result
     requires { IsSafe e.now row.now results.now }
     ensures { IfOk result (λ v. v ≡ value_of e.now row.now results.now) }
 {
-    operand::take(alloc, look(e, row, results))
+    operand::take(alloc, look(e, Cells::One(row), results))
 }

@@ -3,6 +3,7 @@
 #![tactic(auto)]
 
 mod aggregate;
+mod cells;
 mod expression;
 mod join;
 mod lent_key;
@@ -10,6 +11,7 @@ mod logic;
 mod members;
 mod nulls;
 mod operand;
+mod pairs;
 mod prune;
 mod query;
 mod relation;

@@ -1,10 +1,13 @@
 ghost use Rattle.std.specs.Prelude.{◌≡◌, IfOk, All, filter, map};
 ghost use Rattle.cq_meaning.specs.Expressions.{keeps, items_of};
 ghost use Rattle.cq_meaning.specs.Safety.{IsSafe, IsSafeCondition, AreSafeOver};
+ghost use Rattle.cq_queries.specs.Cells.{row_in, rows_in};
 
-use crate::expression::{eval, test};
+use crate::cells::{Cells, LentRows};
+use crate::expression::{glance, test};
 use crate::logic::is_true;
 use crate::members::Lookups;
+use crate::operand;
 use crate::relation::Relation;
 use cq_tree::{Cond, Expr};
 use cq_value::{NoMemory, Row, Rows, Values};
@@ -61,13 +64,18 @@ pub fn select<'a>(
 }
 
 /// The values of expressions over a row.
-pub fn values(alloc: Global, es: &[Expr], row: &Row, results: &Lookups<'_>) -> Result<Row, NoMemory>
-    requires { All (λ e. IsSafe e row.now results.now) es.now }
-    ensures { IfOk result (λ values. values ≡ items_of es.now results.now row.now) }
+pub fn values(
+    alloc: Global,
+    es: &[Expr],
+    row: Cells<'_>,
+    results: &Lookups<'_>,
+) -> Result<Row, NoMemory>
+    requires { All (λ e. IsSafe e (row_in row) results.now) es.now }
+    ensures { IfOk result (λ values. values ≡ items_of es.now results.now (row_in row.entry)) }
 {
     let mut values = Values::with_room(alloc, es.len() as u64)?;
     for e in es {
-        values.put(eval(alloc, e, row, results)?)?;
+        values.put(operand::take(alloc, glance(e, row, results))?)?;
     }
     Ok(Row::from_values(values))
 }
@@ -76,15 +84,15 @@ pub fn values(alloc: Global, es: &[Expr], row: &Row, results: &Lookups<'_>) -> R
 pub fn values_of_all(
     alloc: Global,
     es: &[Expr],
-    rows: &[Row],
+    rows: LentRows<'_>,
     results: &Lookups<'_>,
 ) -> Result<Rows, NoMemory>
-    requires { AreSafeOver es.now results.now rows.now }
-    ensures { IfOk result (λ all. all ≡ map (items_of es.now results.now) rows.now) }
+    requires { AreSafeOver es.now results.now (rows_in rows) }
+    ensures { IfOk result (λ all. all ≡ map (items_of es.now results.now) (rows_in rows.entry)) }
 {
-    let mut all = Rows::with_room(alloc, rows.len() as u64)?;
-    for row in rows {
-        all.put(values(alloc, es, row, results)?)?;
+    let mut all = Rows::with_room(alloc, rows.len())?;
+    for at in 0..rows.len() {
+        all.put(values(alloc, es, rows.row(at), results)?)?;
     }
     Ok(all)
 }

@@ -2,14 +2,16 @@ ghost use Rattle.std.specs.Prelude.{◌≡◌, [], ◌++◌, map, All, IfOk, OnO
 ghost use Rattle.cq_meaning.specs.Values.{Results as TheResults};
 ghost use Rattle.cq_meaning.specs.Groups.{added, greater_of, lesser_of, aggregate};
 ghost use Rattle.cq_meaning.specs.Safety.{Fits};
+ghost use Rattle.cq_queries.specs.Cells.{row_in};
 ghost use Rattle.cq_queries.specs.Operands.{owned};
 ghost use Rattle.cq_queries.specs.Tallies.{one_more, counted, with_row, tally_over, tally_with, CanTake, CanTally};
 
+use crate::cells::Cells;
 use crate::expression::glance;
 use crate::members::Lookups;
 use crate::operand::{self, Operand};
 use cq_tree::{Agg, Expr};
-use cq_value::{Items, NoMemory, Row, Truth, Values};
+use cq_value::{Items, NoMemory, Truth, Values};
 use std::alloc::Global;
 use std::cmp::Ordering;
 use std::marker::Model;
@@ -93,9 +95,9 @@ fn none_yet<'a>(a: &Agg) -> Operand<'a>
 }
 
 /// What an aggregate comes to with one row more.
-fn take_row<'a>(a: &'a Agg, so_far: &mut Operand<'a>, row: &'a Row, results: &Lookups<'_>)
-    requires { CanTake results.now row.now a.now (owned so_far.old) }
-    ensures { owned so_far.new ≡ with_row results.now row.now a.now (owned so_far.old) }
+fn take_row<'a>(a: &'a Agg, so_far: &mut Operand<'a>, row: Cells<'a>, results: &Lookups<'_>)
+    requires { CanTake results.now (row_in row) a.now (owned so_far.old) }
+    ensures { owned so_far.new ≡ with_row results.now (row_in row.entry) a.now (owned so_far.old) }
 {
     match a {
         Agg::CountAll => add_one(so_far),
@@ -138,17 +140,17 @@ impl<'a> Tally<'a> {
     }
 
     /// Adds a row.
-    fn add(&mut self, row: &'a Row, results: &Lookups<'_>)
-        requires { CanTally results.now row.now self.old }
-        ensures { self.new ≡ tally_with results.now row.now self.old }
+    fn add(&mut self, row: Cells<'a>, results: &Lookups<'_>)
+        requires { CanTally results.now (row_in row) self.old }
+        ensures { self.new ≡ tally_with results.now (row_in row.entry) self.old }
     {
         take_row(self.agg, &mut self.so_far, row, results);
     }
 }
 
-fn add_row<'a>(list: &mut Vec<Tally<'a>>, row: &'a Row, results: &Lookups<'_>)
-    requires { All (CanTally results.now row.now) list.old.items }
-    ensures { list.new.items ≡ map (tally_with results.now row.now) list.old.items }
+fn add_row<'a>(list: &mut Vec<Tally<'a>>, row: Cells<'a>, results: &Lookups<'_>)
+    requires { All (CanTally results.now (row_in row)) list.old.items }
+    ensures { list.new.items ≡ map (tally_with results.now (row_in row.entry)) list.old.items }
 {
     for t in list.iter_mut() {
         t.add(row, results);
@@ -199,9 +201,9 @@ impl<'a> Tallies<'a> {
     }
 
     /// Adds a row to each.
-    pub fn add(&mut self, row: &'a Row, results: &Lookups<'_>)
-        requires { All (CanTally results.now row.now) self.old }
-        ensures { self.new ≡ map (tally_with results.now row.now) self.old }
+    pub fn add(&mut self, row: Cells<'a>, results: &Lookups<'_>)
+        requires { All (CanTally results.now (row_in row)) self.old }
+        ensures { self.new ≡ map (tally_with results.now (row_in row.entry)) self.old }
     {
         add_row(&mut self.list, row, results);
     }

@@ -4,9 +4,11 @@ ghost use Rattle.cq_meaning.specs.Expressions.{items_of};
 ghost use Rattle.cq_meaning.specs.Groups.{group_row, groups_by, groups_of};
 ghost use Rattle.cq_meaning.specs.Limits.{is_large_group};
 ghost use Rattle.cq_meaning.specs.Safety.{AreSafeOver, IsSafeAggregate};
+ghost use Rattle.cq_queries.specs.Cells.{row_in, rows_in};
 ghost use Rattle.cq_queries.specs.LentKeys.{row_of};
 ghost use Rattle.cq_queries.specs.Tallied.{tallied, unseen, grown, row_of_tallied, is_large_tallied, found_or, put_changed, place_of, CanGrow};
 
+use crate::cells::{Cells, LentRows};
 use crate::lent_key::LentKey;
 use crate::members::Lookups;
 use crate::tally::Tallies;
@@ -28,9 +30,9 @@ pub struct TalliedGroup<'a> {
 
 impl<'a> TalliedGroup<'a> {
     /// Adds a row.
-    fn add(&mut self, row: &'a Row, results: &Lookups<'_>)
-        requires { CanGrow results.now row.now self.old }
-        ensures { self.new ≡ grown results.now row.now self.old }
+    fn add(&mut self, row: Cells<'a>, results: &Lookups<'_>)
+        requires { CanGrow results.now (row_in row) self.old }
+        ensures { self.new ≡ grown results.now (row_in row.entry) self.old }
     {
         self.rows += 1;
         self.tallies.add(row, results);
@@ -41,11 +43,11 @@ impl<'a> TalliedGroup<'a> {
         alloc: Global,
         keys: Values,
         aggs: &'a [Agg],
-        row: &'a Row,
+        row: Cells<'a>,
         results: &Lookups<'_>,
     ) -> Result<TalliedGroup<'a>, NoMemory>
-        requires { CanGrow results.now row.now (unseen results.now aggs.now keys) }
-        ensures { IfOk result (λ g. g ≡ grown results.now row.now (unseen results.now aggs.now keys)) }
+        requires { CanGrow results.now (row_in row) (unseen results.now aggs.now keys) }
+        ensures { IfOk result (λ g. g ≡ grown results.now (row_in row.entry) (unseen results.now aggs.now keys)) }
     {
         let mut group = TalliedGroup {
             keys,
@@ -148,11 +150,11 @@ impl<'a> Tallying<'a> {
         &mut self,
         key: &mut LentKey<'a>,
         aggs: &'a [Agg],
-        row: &'a Row,
+        row: Cells<'a>,
         results: &Lookups<'_>,
     ) -> Result<(), NoMemory>
-        requires { CanGrow results.now row.now (found_or (unseen results.now aggs.now (row_of key.old)) self.old) }
-        ensures { OnOk result (self.new ≡ put_changed (grown results.now row.now) (unseen results.now aggs.now (row_of key.old)) self.old) }
+        requires { CanGrow results.now (row_in row) (found_or (unseen results.now aggs.now (row_of key.old)) self.old) }
+        ensures { OnOk result (self.new ≡ put_changed (grown results.now (row_in row.entry)) (unseen results.now aggs.now (row_of key.old)) self.old) }
     {
         let alloc = self.alloc;
         match self.places.get(&*key).copied() {
@@ -189,16 +191,17 @@ pub fn tally_groups<'a>(
     hash: RandomState,
     es: &'a [Expr],
     aggs: &'a [Agg],
-    rows: &'a [Row],
+    rows: LentRows<'a>,
     results: &Lookups<'_>,
 ) -> Result<Tallying<'a>, NoMemory>
-    requires keys { AreSafeOver es.now results.now rows.now }
-    requires aggregates { All (λ g. All (IsSafeAggregate results.now g.rows) aggs.now) (groups_by (items_of es.now results.now) rows.now) }
-    ensures { IfOk result (λ groups. groups ≡ map (tallied results.now aggs.now) (groups_by (items_of es.now results.now) rows.now)) }
+    requires keys { AreSafeOver es.now results.now (rows_in rows) }
+    requires aggregates { All (λ g. All (IsSafeAggregate results.now g.rows) aggs.now) (groups_by (items_of es.now results.now) (rows_in rows)) }
+    ensures { IfOk result (λ groups. groups ≡ map (tallied results.now aggs.now) (groups_by (items_of es.now results.now) (rows_in rows.entry))) }
 {
     let mut groups = Tallying::new(alloc, hash);
     let mut key = LentKey::new(alloc);
-    for row in rows {
+    for at in 0..rows.len() {
+        let row = rows.row(at);
         key.take(es, row, results)?;
         groups.put(&mut key, aggs, row, results)?;
     }
@@ -211,13 +214,13 @@ pub fn rows_of_groups(
     hash: RandomState,
     es: &[Expr],
     aggs: &[Agg],
-    rows: &[Row],
+    rows: LentRows<'_>,
     results: &Lookups<'_>,
 ) -> Result<Rows, NoMemory>
     requires keyed { length es.now ≢ 0 }
-    requires keys { AreSafeOver es.now results.now rows.now }
-    requires aggregates { All (λ g. All (IsSafeAggregate results.now g.rows) aggs.now) (groups_of es.now results.now rows.now) }
-    ensures { IfOk result (λ made. made ≡ map (group_row aggs.now results.now) (groups_of es.now results.now rows.now)) }
+    requires keys { AreSafeOver es.now results.now (rows_in rows) }
+    requires aggregates { All (λ g. All (IsSafeAggregate results.now g.rows) aggs.now) (groups_of es.now results.now (rows_in rows)) }
+    ensures { IfOk result (λ made. made ≡ map (group_row aggs.now results.now) (groups_of es.now results.now (rows_in rows.entry))) }
 {
     let groups = tally_groups(alloc, hash, es, aggs, rows, results)?;
     groups.rows(alloc)
@@ -228,12 +231,12 @@ pub fn is_one_large(
     alloc: Global,
     hash: RandomState,
     es: &[Expr],
-    rows: &[Row],
+    rows: LentRows<'_>,
     results: &Lookups<'_>,
 ) -> Result<bool, NoMemory>
     requires keyed { length es.now ≢ 0 }
-    requires keys { AreSafeOver es.now results.now rows.now }
-    ensures { IfOk result (λ b. b ≡ list_any is_large_group (groups_of es.now results.now rows.now)) }
+    requires keys { AreSafeOver es.now results.now (rows_in rows) }
+    ensures { IfOk result (λ b. b ≡ list_any is_large_group (groups_of es.now results.now (rows_in rows.entry))) }
 {
     let groups = tally_groups(alloc, hash, es, &[], rows, results)?;
     Ok(groups.has_large())

@@ -91,26 +91,26 @@ look-returns-in-None t c = rw (c.in-Case.is, value_of_case) (search rules)
 pub look-returns-in-Coalesce : goal.look-returns-in-Coalesce
 look-returns-in-Coalesce t c = rw (c.in-Coalesce.is, value_of_coalesce) (search rules)
 
-pub test-test-requires : goal.test-test-requires
-test-test-requires t c = (search (rules, the_lemmas, c.in-And.is), rw c.get.ensures (safe_and _ _ c.in-And.a c.in-And.b (rw c.in-And.is at c.requires)).0)
+pub judge-judge-requires : goal.judge-judge-requires
+judge-judge-requires t c = (search (rules, the_lemmas, c.in-And.is), rw c.get.ensures (safe_and _ _ c.in-And.a c.in-And.b (rw c.in-And.is at c.requires)).0)
 
-pub test-test-requires-in-And : goal.test-test-requires-in-And
-test-test-requires-in-And t c = (search (rules, the_lemmas, c.in-And.is), rw c.get-in-And.ensures (safe_and _ _ c.in-And.a c.in-And.b (rw c.in-And.is at c.requires)).1)
+pub judge-judge-requires-in-And : goal.judge-judge-requires-in-And
+judge-judge-requires-in-And t c = (search (rules, the_lemmas, c.in-And.is), rw c.get-in-And.ensures (safe_and _ _ c.in-And.a c.in-And.b (rw c.in-And.is at c.requires)).1)
 
-pub test-returns-in-And : goal.test-returns-in-And
-test-returns-in-And t c = rw (c.in-And.is, truth_and) (search rules)
+pub judge-returns-in-And : goal.judge-returns-in-And
+judge-returns-in-And t c = rw (c.in-And.is, truth_and) (search rules)
 
-pub test-test-requires-in-Or : goal.test-test-requires-in-Or
-test-test-requires-in-Or t c = (search (rules, the_lemmas, c.in-Or.is), rw c.get-in-Or.ensures (safe_or _ _ c.in-Or.a c.in-Or.b (rw c.in-Or.is at c.requires)).0)
+pub judge-judge-requires-in-Or : goal.judge-judge-requires-in-Or
+judge-judge-requires-in-Or t c = (search (rules, the_lemmas, c.in-Or.is), rw c.get-in-Or.ensures (safe_or _ _ c.in-Or.a c.in-Or.b (rw c.in-Or.is at c.requires)).0)
 
-pub test-test-requires-in-Or-2 : goal.test-test-requires-in-Or-2
-test-test-requires-in-Or-2 t c = (search (rules, the_lemmas, c.in-Or.is), rw c.get-in-Or-2.ensures (safe_or _ _ c.in-Or.a c.in-Or.b (rw c.in-Or.is at c.requires)).1)
+pub judge-judge-requires-in-Or-2 : goal.judge-judge-requires-in-Or-2
+judge-judge-requires-in-Or-2 t c = (search (rules, the_lemmas, c.in-Or.is), rw c.get-in-Or-2.ensures (safe_or _ _ c.in-Or.a c.in-Or.b (rw c.in-Or.is at c.requires)).1)
 
-pub test-returns-in-Or : goal.test-returns-in-Or
-test-returns-in-Or t c = rw (c.in-Or.is, truth_or) (search rules)
+pub judge-returns-in-Or : goal.judge-returns-in-Or
+judge-returns-in-Or t c = rw (c.in-Or.is, truth_or) (search rules)
 
-pub test-test-requires-in-Not : goal.test-test-requires-in-Not
-test-test-requires-in-Not t c = (search (rules, the_lemmas, c.in-Not.is), rw c.get-in-Not.ensures (safe_not _ _ c.in-Not.a (rw c.in-Not.is at c.requires)))
+pub judge-judge-requires-in-Not : goal.judge-judge-requires-in-Not
+judge-judge-requires-in-Not t c = (search (rules, the_lemmas, c.in-Not.is), rw c.get-in-Not.ensures (safe_not _ _ c.in-Not.a (rw c.in-Not.is at c.requires)))
 
-pub test-returns-in-Not : goal.test-returns-in-Not
-test-returns-in-Not t c = rw (c.in-Not.is, truth_not) (search rules)
+pub judge-returns-in-Not : goal.judge-returns-in-Not
+judge-returns-in-Not t c = rw (c.in-Not.is, truth_not) (search rules)

@@ -2,6 +2,7 @@ use Rattle.std.proofs.Common.{rules, ◌≡◌, [], ◌∷◌, ◌++◌, sym, ap
 use Rattle.std.specs.Prelude.{None, Some, OnOk}
 use Rattle.std.proofs.lemmas.Grind.{common_steps}
 use Rattle.cq_queries.specs.declared.tallying.TalliedGroup.{TalliedGroup}
+use Rattle.cq_queries.specs.Cells.{row_in}
 use Rattle.cq_queries.specs.LentKeys.{row_of}
 use Rattle.cq_queries.specs.Tallied.{unseen, grown, put_changed, place_of, found_or, CanGrow}
 use Rattle.cq_queries.proofs.TalliedLaws.{at_place, put_at_place, set_places, put_missing, found_missing}
@@ -20,7 +21,7 @@ add-requires c =
     let g = c.index_mut.result.now in
     let is : g ≡ get_or gs c.in-Some.place g = search rules in
     let placed : place_of new.keys gs ≡ Some c.in-Some.place = sym (c.self.invariant c.args.key.now) ∙ (sym c.get.ensures.value ∙ (sym c.copied.ensures ∙ c.in-Some.is)) in
-    subst (CanGrow c.args.results.now c.args.row.now) (ap (found_or new) (sym c.self.view_is) ∙ ((at_place new gs c.in-Some.place g placed).1 ∙ sym is)) c.requires
+    subst (CanGrow c.args.results.now (row_in c.args.row)) (ap (found_or new) (sym c.self.view_is) ∙ ((at_place new gs c.in-Some.place g placed).1 ∙ sym is)) c.requires
 
 pub invariant_of-self : goal.invariant_of-self
 invariant_of-self c = λ q.
@@ -31,7 +32,7 @@ invariant_of-self c = λ q.
 
 pub returns-in-Some : goal.returns-in-Some
 returns-in-Some c =
-    let change = grown c.args.results.now c.args.row.now in
+    let change = grown c.args.results.now (row_in c.args.row) in
     let new = unseen c.args.results.now c.args.aggs.now (row_of c.args.key.now) in
     let gs = c.self.inside.groups.items in
     let g = c.index_mut.result.now in
@@ -45,14 +46,14 @@ of_row-requires c =
     let new = unseen c.args.results.now c.args.aggs.now (row_of c.args.key.now) in
     let gs = c.self.inside.groups.items in
     let missing : place_of new.keys gs ≡ None = sym (c.self.invariant c.args.key.now) ∙ (sym c.get.ensures.value ∙ (sym c.copied.ensures ∙ c.in-None.is)) in
-    let h : CanGrow c.args.results.now c.args.row.now new = subst (CanGrow c.args.results.now c.args.row.now) (ap (found_or new) (sym c.self.view_is) ∙ found_missing new gs missing) c.requires in
+    let h : CanGrow c.args.results.now (row_in c.args.row) new = subst (CanGrow c.args.results.now (row_in c.args.row)) (ap (found_or new) (sym c.self.view_is) ∙ found_missing new gs missing) c.requires in
     (h.0, h.1)
 
 pub returns-in_ok-group-in-None : goal.returns-in_ok-group-in-None
 returns-in_ok-group-in-None c =
     let results = c.args.results.now in
     let aggs = c.args.aggs.now in
-    let change = grown results c.args.row.now in
+    let change = grown results (row_in c.args.row) in
     let new = unseen results aggs (row_of c.args.key.now) in
     let gs = c.self.inside.groups.items in
     let all = c.args.self.now in
