@@ -6,5 +6,7 @@
 
 mod digits;
 mod expressions;
+mod nested;
+mod phrases;
 
 pub use expressions::Expressions;
