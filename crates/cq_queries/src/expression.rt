@@ -6,7 +6,7 @@ ghost use Rattle.cq_queries.specs.Cells.{row_in};
 ghost use Rattle.cq_queries.specs.Operands.{owned};
 ghost use Rattle.cq_queries.specs.TreeLists.{arm_value_in, first_known_in};
 
-use crate::cells::Cells;
+use crate::cells::{Cells, value_in};
 use crate::logic;
 use crate::members::Lookups;
 use crate::operand::{self, Operand};
@@ -82,14 +82,17 @@ fn look_first<'a>(es: &'a [Expr], row: Cells<'a>, results: &Lookups<'_>) -> Oper
     Operand::Null
 }
 
-/// The same. Most expressions are columns, whose values are found without a further call.
+/// The same. Most expressions are columns of one row, whose values are found without a further call.
 pub fn glance<'a>(e: &'a Expr, row: Cells<'a>, results: &Lookups<'_>) -> Operand<'a>
     requires { IsSafe e.now (row_in row) results.now }
     ensures { owned result ≡ value_of e.now (row_in row.entry) results.now }
 {
-    match e {
-        Expr::Column(at) => operand::lend(row.value(*at)),
-        _ => look(e, row, results),
+    match row {
+        Cells::One(one) => match e {
+            Expr::Column(at) => operand::lend(value_in(one, u64::from(*at))),
+            _ => look(e, row, results),
+        },
+        Cells::Two(..) => look(e, row, results),
     }
 }
 
