@@ -1,6 +1,8 @@
 //! The program: it answers the SQL script on standard input, or the one that its words ask for, over as many nodes as they say, whose
-//! stores are in memory, and writes the answers to standard output. Its exit status is the number of the run's status.
+//! stores are in memory, and writes the answers to standard output, in blocks. Its exit status is the number of the run's status.
 #![tactic(auto)]
+
+mod streams;
 
 ghost use Rattle.std.specs.Prelude.{IfOk};
 ghost use Rattle.cq_cluster.specs.Cluster.{IsWaiting};
@@ -11,6 +13,7 @@ use cq_top::{IdleGate, RunLog, Status, make_workers, run};
 use std::alloc::{AllocError, Global};
 use std::process::ExitCode;
 use std::{env, io};
+use streams::{AnswerWriter, Blocks, ScriptReader};
 
 /// The most nodes of a run.
 const NODES: u32 = 16;
@@ -40,8 +43,14 @@ fn main(rt: HostRuntime) -> ExitCode {
         return ExitCode::from(Status::Memory.number());
     };
     let mut log = RunLog::new(alloc);
-    let mut source = ReadSource::new(rt.stdin());
-    let mut sink = WriteSink::new(rt.stdout());
+    let Ok(blocks) = Blocks::new(alloc, rt.stdout()) else {
+        return ExitCode::from(Status::Memory.number());
+    };
+    let mut source = ReadSource::new(ScriptReader {
+        reader: rt.stdin(),
+        blocks: &blocks,
+    });
+    let mut sink = WriteSink::new(AnswerWriter { blocks: &blocks });
     let status = run(
         &rt,
         alloc,
@@ -52,5 +61,8 @@ fn main(rt: HostRuntime) -> ExitCode {
         &mut workers,
         &mut log,
     );
-    ExitCode::from(status.number())
+    match blocks.flush() {
+        Ok(()) => ExitCode::from(status.number()),
+        Err(_) => ExitCode::from(Status::WriteFault.number()),
+    }
 }

@@ -1,0 +1,27 @@
+-- IN over the rows of a subquery finds numbers and texts, each value once however often it stands there; NULL among them or before it is unknown, and few rows answer as many do.
+CREATE TABLE t (k bigint, v bigint, n text, PRIMARY KEY (k));
+CREATE TABLE few (k bigint, v bigint, n text, PRIMARY KEY (k));
+CREATE TABLE many (k bigint, v bigint, n text, PRIMARY KEY (k));
+SELECT create_distributed_table('t', 'k', shard_count => 4);
+SELECT create_reference_table('few');
+SELECT create_reference_table('many');
+INSERT INTO t VALUES (1, 3, 'c'), (2, 12, 'l'), (3, NULL, NULL), (4, -5, ''), (5, 9223372036854775807, 'Zürich'), (6, 0, '0');
+INSERT INTO few VALUES (1, 3, 'c'), (2, 3, 'c'), (3, 0, '');
+INSERT INTO many VALUES (1, 3, 'c'), (2, 3, 'c'), (3, 0, ''), (4, 1, 'b'), (5, 2, 'bb'), (6, 4, 'd'), (7, 5, 'e'), (8, -5, 'f'), (9, 6, 'Zürich'), (10, 9223372036854775807, 'g'), (11, 7, 'h'), (12, 8, 'i');
+SELECT k FROM t WHERE v IN (SELECT v FROM many) ORDER BY k;
+SELECT k FROM t WHERE NOT v IN (SELECT v FROM many) ORDER BY k;
+SELECT k FROM t WHERE n IN (SELECT n FROM many) ORDER BY k;
+SELECT k FROM t WHERE NOT n IN (SELECT n FROM many) ORDER BY k;
+SELECT k FROM t WHERE v IN (SELECT v FROM few) ORDER BY k;
+SELECT k FROM t WHERE n IN (SELECT n FROM few) ORDER BY k;
+INSERT INTO few VALUES (4, NULL, NULL);
+INSERT INTO many VALUES (13, NULL, NULL);
+SELECT k FROM t WHERE v IN (SELECT v FROM many) ORDER BY k;
+SELECT k FROM t WHERE NOT v IN (SELECT v FROM many) ORDER BY k;
+SELECT k FROM t WHERE n IN (SELECT n FROM many) OR v = 12 ORDER BY k;
+SELECT k FROM t WHERE NOT n IN (SELECT n FROM few) ORDER BY k;
+SELECT k FROM t WHERE v IN (SELECT v FROM many WHERE k < 0) ORDER BY k;
+SELECT k FROM t WHERE NOT v IN (SELECT v FROM many WHERE k < 0) ORDER BY k;
+SELECT k FROM t WHERE v - 1 IN (SELECT v FROM many WHERE v < 9) ORDER BY k;
+SELECT k FROM t WHERE COALESCE(v, 3) IN (SELECT v FROM many) ORDER BY k;
+SELECT count(*) FROM t WHERE v IN (SELECT v FROM many) AND NOT n IN (SELECT n FROM many WHERE k < 13);
