@@ -11,13 +11,14 @@ ghost use Rattle.cq_grammar.specs.Descent as descent;
 ghost use Rattle.cq_parse_steps.specs.Reads.{Reads};
 ghost use Rattle.cq_parse_clauses.specs.Selecting.{Selecting};
 
+use crate::parts::Parts;
 use cq_grammar::{
     Count, Expr, From, GroupBy, Having, Item, Join, Kind, Name, OrderKey, Refusal, Relation, Rule,
     Select,
 };
-use cq_parse_calls::{Grammar, direction_of, first_place};
+use cq_parse_calls::{Grammar, Phrase, direction_of, first_place, list_of, many_of};
 use cq_parse_steps::{
-    ALIASES, COLUMN_NAMES, DIRECTION_WORDS, INNER_WORDS, JOIN_WORDS, NAMES, Parser, list, many,
+    ALIASES, COLUMN_NAMES, DIRECTION_WORDS, INNER_WORDS, JOIN_WORDS, NAMES, Parser,
 };
 use cq_value::{Boxed, Items};
 
@@ -116,6 +117,431 @@ fn direction(parser: &mut Parser<'_>) -> Result<Option<(Kind, u64)>, Refusal>
     Ok(Some(word))
 }
 
+#[tactic(auto, unfolding(cq_grammar::specs::Descent::output))]
+fn output<P: Parts>(parts: &P, parser: &mut Parser<'_>) -> Result<Item, Refusal>
+    requires { P.callable parts.now }
+    ensures { Reads (descent.output (descent.below (P.left parts.now)) parser.old) result parser.new }
+{
+    let value = parts.or_chain(parser)?;
+    let name = behind_as(parser)?;
+    Ok(Item::Value { value, name })
+}
+
+/// What stands between the commas of a select list.
+#[derive(Drop)]
+struct SelectItem<'a, P> {
+    parts: &'a P,
+}
+
+impl<'a, P: Parts> Phrase for SelectItem<'a, P> {
+    type Tree = Item;
+
+    ghost reader = { λ p _. descent.select_item (descent.below (P.left p.parts.now)) };
+
+    ghost callable = { λ p. P.callable p.parts.now };
+
+    #[tactic(auto, unfolding(cq_grammar::specs::Descent::select_item))]
+    fn phrase(&self, parser: &mut Parser<'_>, _before: usize) -> Result<Item, Refusal> {
+        if parser.sees(&[Kind::Star]) {
+            let at = parser.the(Kind::Star)?;
+            Ok(Item::All { at })
+        } else if parser.sees_three(NAMES, &[Kind::Dot], &[Kind::Star]) {
+            all_of(parser)
+        } else {
+            output(self.parts, parser)
+        }
+    }
+}
+
+fn select_items<P: Parts>(parts: &P, parser: &mut Parser<'_>) -> Result<Items<Item>, Refusal>
+    requires { P.callable parts.now }
+    ensures { Reads (descent.list (λ _. descent.select_item (descent.below (P.left parts.now))) parser.old) result parser.new }
+{
+    list_of(&SelectItem { parts }, parser)
+}
+
+#[tactic(auto, unfolding(cq_grammar::specs::Descent::subquery))]
+fn subquery<P: Parts>(parts: &P, parser: &mut Parser<'_>) -> Result<Relation, Refusal>
+    requires { P.callable parts.now }
+    ensures { Reads (descent.subquery (descent.below (P.left parts.now)) parser.old) result parser.new }
+{
+    let at = parser.the(Kind::Open)?;
+    let select = parts.inside_select(parser)?;
+    let select = Boxed::new(parser.alloc(), select)?;
+    parser.the(Kind::Close)?;
+    let (word, alias) = alias(parser)?;
+    Ok(Relation::Subquery {
+        select,
+        spelled: word.is_some(),
+        alias,
+        at,
+    })
+}
+
+#[tactic(auto, unfolding(cq_grammar::specs::Descent::relation))]
+fn relation<P: Parts>(parts: &P, parser: &mut Parser<'_>) -> Result<Relation, Refusal>
+    requires { P.callable parts.now }
+    ensures { Reads (descent.relation (descent.below (P.left parts.now)) parser.old) result parser.new }
+{
+    if parser.sees(NAMES) {
+        table(parser)
+    } else {
+        subquery(parts, parser)
+    }
+}
+
+#[tactic(auto, unfolding(cq_grammar::specs::Descent::on))]
+fn on<P: Parts>(parts: &P, parser: &mut Parser<'_>) -> Result<Expr, Refusal>
+    requires { P.callable parts.now }
+    ensures { Reads (descent.on (descent.below (P.left parts.now)) parser.old) result parser.new }
+{
+    parser.the(Kind::On)?;
+    parts.or_chain(parser)
+}
+
+#[tactic(auto, unfolding(cq_grammar::specs::Descent::inner_join))]
+fn inner_join<P: Parts>(parts: &P, parser: &mut Parser<'_>) -> Result<Join, Refusal>
+    requires { P.callable parts.now }
+    ensures { Reads (descent.inner_join (descent.below (P.left parts.now)) parser.old) result parser.new }
+{
+    let word = parser.optional_the(Kind::Inner)?;
+    let at = parser.the(Kind::Join)?;
+    let relation = relation(parts, parser)?;
+    let on = on(parts, parser)?;
+    Ok(Join::Inner {
+        spelled: word.is_some(),
+        relation,
+        on,
+        at: first_place(word, at),
+    })
+}
+
+#[tactic(auto, unfolding(cq_grammar::specs::Descent::left_join))]
+fn left_join<P: Parts>(parts: &P, parser: &mut Parser<'_>) -> Result<Join, Refusal>
+    requires { P.callable parts.now }
+    ensures { Reads (descent.left_join (descent.below (P.left parts.now)) parser.old) result parser.new }
+{
+    let at = parser.the(Kind::Left)?;
+    let word = parser.optional_the(Kind::Outer)?;
+    parser.the(Kind::Join)?;
+    let relation = relation(parts, parser)?;
+    let on = on(parts, parser)?;
+    Ok(Join::Left {
+        spelled: word.is_some(),
+        relation,
+        on,
+        at,
+    })
+}
+
+#[tactic(auto, unfolding(cq_grammar::specs::Descent::cross_join))]
+fn cross_join<P: Parts>(parts: &P, parser: &mut Parser<'_>) -> Result<Join, Refusal>
+    requires { P.callable parts.now }
+    ensures { Reads (descent.cross_join (descent.below (P.left parts.now)) parser.old) result parser.new }
+{
+    let at = parser.the(Kind::Cross)?;
+    parser.the(Kind::Join)?;
+    let relation = relation(parts, parser)?;
+    Ok(Join::Cross { relation, at })
+}
+
+/// A join behind the first relation.
+#[derive(Drop)]
+struct Joined<'a, P> {
+    parts: &'a P,
+}
+
+impl<'a, P: Parts> Phrase for Joined<'a, P> {
+    type Tree = Join;
+
+    ghost reader = { λ p _. descent.join (descent.below (P.left p.parts.now)) };
+
+    ghost callable = { λ p. P.callable p.parts.now };
+
+    #[tactic(auto, unfolding(cq_grammar::specs::Descent::join))]
+    fn phrase(&self, parser: &mut Parser<'_>, _before: usize) -> Result<Join, Refusal> {
+        if parser.sees(INNER_WORDS) {
+            inner_join(self.parts, parser)
+        } else if parser.sees(&[Kind::Left]) {
+            left_join(self.parts, parser)
+        } else {
+            cross_join(self.parts, parser)
+        }
+    }
+}
+
+fn joins<P: Parts>(parts: &P, parser: &mut Parser<'_>) -> Result<Items<Join>, Refusal>
+    requires { P.callable parts.now }
+    ensures { Reads (descent.joins_ (descent.below (P.left parts.now)) parser.old) result parser.new }
+{
+    many_of(&Joined { parts }, parser, JOIN_WORDS, 0)
+}
+
+/// What stands between the commas of FROM.
+#[derive(Drop)]
+struct FromItem<'a, P> {
+    parts: &'a P,
+}
+
+impl<'a, P: Parts> Phrase for FromItem<'a, P> {
+    type Tree = From;
+
+    ghost reader = { λ p _. descent.from_item (descent.below (P.left p.parts.now)) };
+
+    ghost callable = { λ p. P.callable p.parts.now };
+
+    #[tactic(auto, unfolding(cq_grammar::specs::Descent::from_item))]
+    fn phrase(&self, parser: &mut Parser<'_>, _before: usize) -> Result<From, Refusal> {
+        let first = relation(self.parts, parser)?;
+        let joins = joins(self.parts, parser)?;
+        Ok(From { first, joins })
+    }
+}
+
+fn from_items<P: Parts>(parts: &P, parser: &mut Parser<'_>) -> Result<Items<From>, Refusal>
+    requires { P.callable parts.now }
+    ensures { Reads (descent.list (λ _. descent.from_item (descent.below (P.left parts.now))) parser.old) result parser.new }
+{
+    list_of(&FromItem { parts }, parser)
+}
+
+/// WHERE and its condition, or nothing.
+#[tactic(auto, unfolding(cq_grammar::specs::Descent::filter))]
+fn filter<P: Parts>(parts: &P, parser: &mut Parser<'_>) -> Result<Option<Expr>, Refusal>
+    requires { P.callable parts.now }
+    ensures { Reads (descent.filter (descent.below (P.left parts.now)) parser.old) result parser.new }
+{
+    if !parser.sees(&[Kind::Where]) {
+        return Ok(None);
+    }
+    parser.the(Kind::Where)?;
+    let condition = parts.or_chain(parser)?;
+    Ok(Some(condition))
+}
+
+fn boxed_filter<P: Parts>(
+    parts: &P,
+    parser: &mut Parser<'_>,
+) -> Result<Option<Boxed<Expr>>, Refusal>
+    requires { P.callable parts.now }
+    ensures { Reads (descent.filter (descent.below (P.left parts.now)) parser.old) result parser.new }
+{
+    let filter = filter(parts, parser)?;
+    match filter {
+        None => Ok(None),
+        Some(condition) => Ok(Some(Boxed::new(parser.alloc(), condition)?)),
+    }
+}
+
+/// What stands between the commas of GROUP BY.
+#[derive(Drop)]
+struct GroupKey<'a, P> {
+    parts: &'a P,
+}
+
+impl<'a, P: Parts> Phrase for GroupKey<'a, P> {
+    type Tree = Expr;
+
+    ghost reader = { λ p _. descent.or_chain (descent.below (P.left p.parts.now)) };
+
+    ghost callable = { λ p. P.callable p.parts.now };
+
+    fn phrase(&self, parser: &mut Parser<'_>, _before: usize) -> Result<Expr, Refusal> {
+        self.parts.or_chain(parser)
+    }
+}
+
+fn group_keys<P: Parts>(parts: &P, parser: &mut Parser<'_>) -> Result<Items<Expr>, Refusal>
+    requires { P.callable parts.now }
+    ensures { Reads (descent.list (λ _. descent.or_chain (descent.below (P.left parts.now))) parser.old) result parser.new }
+{
+    list_of(&GroupKey { parts }, parser)
+}
+
+#[tactic(auto, unfolding(cq_grammar::specs::Descent::group_by))]
+fn group_by<P: Parts>(parts: &P, parser: &mut Parser<'_>) -> Result<GroupBy, Refusal>
+    requires { P.callable parts.now }
+    ensures { Reads (descent.group_by (descent.below (P.left parts.now)) parser.old) result parser.new }
+{
+    let at = parser.the(Kind::Group)?;
+    parser.the(Kind::By)?;
+    let keys = group_keys(parts, parser)?;
+    Ok(GroupBy { keys, at })
+}
+
+fn optional_group_by<P: Parts>(
+    parts: &P,
+    parser: &mut Parser<'_>,
+) -> Result<Option<GroupBy>, Refusal>
+    requires { P.callable parts.now }
+    ensures { Reads (read.optional (read.sees (k.Group ∷ [])) (descent.group_by (descent.below (P.left parts.now))) parser.old) result parser.new }
+{
+    if !parser.sees(&[Kind::Group]) {
+        return Ok(None);
+    }
+    let groups = group_by(parts, parser)?;
+    Ok(Some(groups))
+}
+
+#[tactic(auto, unfolding(cq_grammar::specs::Descent::having))]
+fn having<P: Parts>(parts: &P, parser: &mut Parser<'_>) -> Result<Having, Refusal>
+    requires { P.callable parts.now }
+    ensures { Reads (descent.having (descent.below (P.left parts.now)) parser.old) result parser.new }
+{
+    let at = parser.the(Kind::Having)?;
+    let condition = parts.or_chain(parser)?;
+    Ok(Having { condition, at })
+}
+
+fn optional_having<P: Parts>(parts: &P, parser: &mut Parser<'_>) -> Result<Option<Having>, Refusal>
+    requires { P.callable parts.now }
+    ensures { Reads (read.optional (read.sees (k.Having ∷ [])) (descent.having (descent.below (P.left parts.now))) parser.old) result parser.new }
+{
+    if !parser.sees(&[Kind::Having]) {
+        return Ok(None);
+    }
+    let having = having(parts, parser)?;
+    Ok(Some(having))
+}
+
+/// What stands between the commas of ORDER BY.
+#[derive(Drop)]
+struct SortKey<'a, P> {
+    parts: &'a P,
+}
+
+impl<'a, P: Parts> Phrase for SortKey<'a, P> {
+    type Tree = OrderKey;
+
+    ghost reader = { λ p _. descent.order_key (descent.below (P.left p.parts.now)) };
+
+    ghost callable = { λ p. P.callable p.parts.now };
+
+    #[tactic(auto, unfolding(cq_grammar::specs::Descent::order_key))]
+    fn phrase(&self, parser: &mut Parser<'_>, _before: usize) -> Result<OrderKey, Refusal> {
+        let key = self.parts.or_chain(parser)?;
+        let word = direction(parser)?;
+        Ok(OrderKey {
+            key,
+            direction: word.map(|(word, _)| direction_of(word)),
+        })
+    }
+}
+
+fn order_keys<P: Parts>(parts: &P, parser: &mut Parser<'_>) -> Result<Items<OrderKey>, Refusal>
+    requires { P.callable parts.now }
+    ensures { Reads (descent.list (λ _. descent.order_key (descent.below (P.left parts.now))) parser.old) result parser.new }
+{
+    list_of(&SortKey { parts }, parser)
+}
+
+#[tactic(auto, unfolding(cq_grammar::specs::Descent::order_by))]
+fn order_by<P: Parts>(parts: &P, parser: &mut Parser<'_>) -> Result<Items<OrderKey>, Refusal>
+    requires { P.callable parts.now }
+    ensures { Reads (descent.order_by (descent.below (P.left parts.now)) parser.old) result parser.new }
+{
+    if !parser.sees(&[Kind::Order]) {
+        return Ok(Items::new(parser.alloc()));
+    }
+    parser.the(Kind::Order)?;
+    parser.the(Kind::By)?;
+    order_keys(parts, parser)
+}
+
+#[tactic(auto, unfolding(cq_grammar::specs::Descent::select_list))]
+fn select_list<P: Parts>(
+    parts: &P,
+    parser: &mut Parser<'_>,
+) -> Result<(u64, (Option<u64>, Items<Item>)), Refusal>
+    requires { P.callable parts.now }
+    ensures { Reads (descent.select_list (descent.below (P.left parts.now)) parser.old) result parser.new }
+{
+    let at = parser.the(Kind::Select)?;
+    let distinct = parser.optional_the(Kind::Distinct)?;
+    let items = select_items(parts, parser)?;
+    Ok((at, (distinct, items)))
+}
+
+fn sources<P: Parts>(parts: &P, parser: &mut Parser<'_>) -> Result<Items<From>, Refusal>
+    requires { P.callable parts.now }
+    ensures { Reads (read.behind (descent.the k.From) (descent.list (λ _. descent.from_item (descent.below (P.left parts.now)))) parser.old) result parser.new }
+{
+    parser.the(Kind::From)?;
+    from_items(parts, parser)
+}
+
+/// What is selected from where.
+#[tactic(auto, unfolding(cq_grammar::specs::Descent::selection))]
+fn selection<P: Parts>(
+    parts: &P,
+    parser: &mut Parser<'_>,
+) -> Result<
+    (
+        (u64, (Option<u64>, Items<Item>)),
+        (Items<From>, Option<Boxed<Expr>>),
+    ),
+    Refusal,
+>
+    requires { P.callable parts.now }
+    ensures { Reads (descent.selection (descent.below (P.left parts.now)) parser.old) result parser.new }
+{
+    let list = select_list(parts, parser)?;
+    let from = sources(parts, parser)?;
+    let filter = boxed_filter(parts, parser)?;
+    Ok((list, (from, filter)))
+}
+
+/// How it is grouped.
+#[tactic(auto, unfolding(cq_grammar::specs::Descent::grouping))]
+fn grouping<P: Parts>(
+    parts: &P,
+    parser: &mut Parser<'_>,
+) -> Result<(Option<GroupBy>, Option<Having>), Refusal>
+    requires { P.callable parts.now }
+    ensures { Reads (descent.grouping (descent.below (P.left parts.now)) parser.old) result parser.new }
+{
+    let groups = optional_group_by(parts, parser)?;
+    let having = optional_having(parts, parser)?;
+    Ok((groups, having))
+}
+
+/// How it is ordered, and which part is kept.
+#[tactic(auto, unfolding(cq_grammar::specs::Descent::ordering))]
+fn ordering<P: Parts>(
+    parts: &P,
+    parser: &mut Parser<'_>,
+) -> Result<(Items<OrderKey>, (Option<Count>, Option<Count>)), Refusal>
+    requires { P.callable parts.now }
+    ensures { Reads (descent.ordering (descent.below (P.left parts.now)) parser.old) result parser.new }
+{
+    let order = order_by(parts, parser)?;
+    let limit = limit(parser)?;
+    let offset = offset(parser)?;
+    Ok((order, (limit, offset)))
+}
+
+#[tactic(auto, unfolding(cq_grammar::specs::Descent::selected))]
+fn selected<P: Parts>(parts: &P, parser: &mut Parser<'_>) -> Result<Select, Refusal>
+    requires { P.callable parts.now }
+    ensures { Reads (descent.selected (descent.below (P.left parts.now)) parser.old) result parser.new }
+{
+    let ((at, (distinct, items)), (from, filter)) = selection(parts, parser)?;
+    let (groups, having) = grouping(parts, parser)?;
+    let (order, (limit, offset)) = ordering(parts, parser)?;
+    Ok(Select {
+        distinct: distinct.is_some(),
+        items,
+        from,
+        filter,
+        groups,
+        having,
+        order,
+        limit,
+        offset,
+        at,
+    })
+}
+
 /// The rules of SELECTs where so much of the depth is left. Its expressions are parsed where just as much is.
 #[derive(Clone, Copy)]
 pub struct Selects<F, G> {
@@ -126,378 +552,18 @@ impl<
     F: Fn(&mut Parser<'_>, usize, Rule) -> Result<Expr, Refusal>,
     G: Fn(&mut Parser<'_>, usize) -> Result<Select, Refusal>,
 > Selects<F, G> {
-    /// An expression where no more of the depth is used.
-    fn or_chain(&self, parser: &mut Parser<'_>) -> Result<Expr, Refusal>
-        requires { Selecting self.now.grammar.left (F.pre self.now.grammar.expr) (F.post self.now.grammar.expr) (G.pre self.now.grammar.select) (G.post self.now.grammar.select) }
-        ensures { Reads (descent.or_chain (descent.below self.now.grammar.left) parser.old) result parser.new }
-    {
-        (self.grammar.expr)(parser, self.grammar.left, Rule::Or)
-    }
-
-    #[tactic(auto, unfolding(cq_grammar::specs::Descent::output))]
-    fn output(&self, parser: &mut Parser<'_>) -> Result<Item, Refusal>
-        requires { Selecting self.now.grammar.left (F.pre self.now.grammar.expr) (F.post self.now.grammar.expr) (G.pre self.now.grammar.select) (G.post self.now.grammar.select) }
-        ensures { Reads (descent.output (descent.below self.now.grammar.left) parser.old) result parser.new }
-    {
-        let value = self.or_chain(parser)?;
-        let name = behind_as(parser)?;
-        Ok(Item::Value { value, name })
-    }
-
-    #[tactic(auto, unfolding(cq_grammar::specs::Descent::select_item))]
-    fn select_item(&self, parser: &mut Parser<'_>) -> Result<Item, Refusal>
-        requires { Selecting self.now.grammar.left (F.pre self.now.grammar.expr) (F.post self.now.grammar.expr) (G.pre self.now.grammar.select) (G.post self.now.grammar.select) }
-        ensures { Reads (descent.select_item (descent.below self.now.grammar.left) parser.old) result parser.new }
-    {
-        if parser.sees(&[Kind::Star]) {
-            let at = parser.the(Kind::Star)?;
-            Ok(Item::All { at })
-        } else if parser.sees_three(NAMES, &[Kind::Dot], &[Kind::Star]) {
-            all_of(parser)
-        } else {
-            self.output(parser)
-        }
-    }
-
-    fn select_items(&self, parser: &mut Parser<'_>) -> Result<Items<Item>, Refusal>
-        requires { Selecting self.now.grammar.left (F.pre self.now.grammar.expr) (F.post self.now.grammar.expr) (G.pre self.now.grammar.select) (G.post self.now.grammar.select) }
-        ensures { Reads (descent.list (λ _. descent.select_item (descent.below self.now.grammar.left)) parser.old) result parser.new }
-    {
-        list(parser, |parser: &mut Parser<'_>, _: usize| {
-            self.select_item(parser)
-        })
-    }
-
-    #[tactic(auto, unfolding(cq_grammar::specs::Descent::subquery))]
-    fn subquery(&self, parser: &mut Parser<'_>) -> Result<Relation, Refusal>
-        requires { Selecting self.now.grammar.left (F.pre self.now.grammar.expr) (F.post self.now.grammar.expr) (G.pre self.now.grammar.select) (G.post self.now.grammar.select) }
-        ensures { Reads (descent.subquery (descent.below self.now.grammar.left) parser.old) result parser.new }
-    {
-        let at = parser.the(Kind::Open)?;
-        let select = self.grammar.inside_select(parser)?;
-        let select = Boxed::new(parser.alloc(), select)?;
-        parser.the(Kind::Close)?;
-        let (word, alias) = alias(parser)?;
-        Ok(Relation::Subquery {
-            select,
-            spelled: word.is_some(),
-            alias,
-            at,
-        })
-    }
-
-    #[tactic(auto, unfolding(cq_grammar::specs::Descent::relation))]
-    fn relation(&self, parser: &mut Parser<'_>) -> Result<Relation, Refusal>
-        requires { Selecting self.now.grammar.left (F.pre self.now.grammar.expr) (F.post self.now.grammar.expr) (G.pre self.now.grammar.select) (G.post self.now.grammar.select) }
-        ensures { Reads (descent.relation (descent.below self.now.grammar.left) parser.old) result parser.new }
-    {
-        if parser.sees(NAMES) {
-            table(parser)
-        } else {
-            self.subquery(parser)
-        }
-    }
-
-    #[tactic(auto, unfolding(cq_grammar::specs::Descent::on))]
-    fn on(&self, parser: &mut Parser<'_>) -> Result<Expr, Refusal>
-        requires { Selecting self.now.grammar.left (F.pre self.now.grammar.expr) (F.post self.now.grammar.expr) (G.pre self.now.grammar.select) (G.post self.now.grammar.select) }
-        ensures { Reads (descent.on (descent.below self.now.grammar.left) parser.old) result parser.new }
-    {
-        parser.the(Kind::On)?;
-        self.or_chain(parser)
-    }
-
-    #[tactic(auto, unfolding(cq_grammar::specs::Descent::inner_join))]
-    fn inner_join(&self, parser: &mut Parser<'_>) -> Result<Join, Refusal>
-        requires { Selecting self.now.grammar.left (F.pre self.now.grammar.expr) (F.post self.now.grammar.expr) (G.pre self.now.grammar.select) (G.post self.now.grammar.select) }
-        ensures { Reads (descent.inner_join (descent.below self.now.grammar.left) parser.old) result parser.new }
-    {
-        let word = parser.optional_the(Kind::Inner)?;
-        let at = parser.the(Kind::Join)?;
-        let relation = self.relation(parser)?;
-        let on = self.on(parser)?;
-        Ok(Join::Inner {
-            spelled: word.is_some(),
-            relation,
-            on,
-            at: first_place(word, at),
-        })
-    }
-
-    #[tactic(auto, unfolding(cq_grammar::specs::Descent::left_join))]
-    fn left_join(&self, parser: &mut Parser<'_>) -> Result<Join, Refusal>
-        requires { Selecting self.now.grammar.left (F.pre self.now.grammar.expr) (F.post self.now.grammar.expr) (G.pre self.now.grammar.select) (G.post self.now.grammar.select) }
-        ensures { Reads (descent.left_join (descent.below self.now.grammar.left) parser.old) result parser.new }
-    {
-        let at = parser.the(Kind::Left)?;
-        let word = parser.optional_the(Kind::Outer)?;
-        parser.the(Kind::Join)?;
-        let relation = self.relation(parser)?;
-        let on = self.on(parser)?;
-        Ok(Join::Left {
-            spelled: word.is_some(),
-            relation,
-            on,
-            at,
-        })
-    }
-
-    #[tactic(auto, unfolding(cq_grammar::specs::Descent::cross_join))]
-    fn cross_join(&self, parser: &mut Parser<'_>) -> Result<Join, Refusal>
-        requires { Selecting self.now.grammar.left (F.pre self.now.grammar.expr) (F.post self.now.grammar.expr) (G.pre self.now.grammar.select) (G.post self.now.grammar.select) }
-        ensures { Reads (descent.cross_join (descent.below self.now.grammar.left) parser.old) result parser.new }
-    {
-        let at = parser.the(Kind::Cross)?;
-        parser.the(Kind::Join)?;
-        let relation = self.relation(parser)?;
-        Ok(Join::Cross { relation, at })
-    }
-
-    #[tactic(auto, unfolding(cq_grammar::specs::Descent::join))]
-    fn join(&self, parser: &mut Parser<'_>) -> Result<Join, Refusal>
-        requires { Selecting self.now.grammar.left (F.pre self.now.grammar.expr) (F.post self.now.grammar.expr) (G.pre self.now.grammar.select) (G.post self.now.grammar.select) }
-        ensures { Reads (descent.join (descent.below self.now.grammar.left) parser.old) result parser.new }
-    {
-        if parser.sees(INNER_WORDS) {
-            self.inner_join(parser)
-        } else if parser.sees(&[Kind::Left]) {
-            self.left_join(parser)
-        } else {
-            self.cross_join(parser)
-        }
-    }
-
-    fn joins(&self, parser: &mut Parser<'_>) -> Result<Items<Join>, Refusal>
-        requires { Selecting self.now.grammar.left (F.pre self.now.grammar.expr) (F.post self.now.grammar.expr) (G.pre self.now.grammar.select) (G.post self.now.grammar.select) }
-        ensures { Reads (descent.joins_ (descent.below self.now.grammar.left) parser.old) result parser.new }
-    {
-        many(parser, JOIN_WORDS, 0, |parser: &mut Parser<'_>, _: usize| {
-            self.join(parser)
-        })
-    }
-
-    #[tactic(auto, unfolding(cq_grammar::specs::Descent::from_item))]
-    fn from_item(&self, parser: &mut Parser<'_>) -> Result<From, Refusal>
-        requires { Selecting self.now.grammar.left (F.pre self.now.grammar.expr) (F.post self.now.grammar.expr) (G.pre self.now.grammar.select) (G.post self.now.grammar.select) }
-        ensures { Reads (descent.from_item (descent.below self.now.grammar.left) parser.old) result parser.new }
-    {
-        let first = self.relation(parser)?;
-        let joins = self.joins(parser)?;
-        Ok(From { first, joins })
-    }
-
-    fn from_items(&self, parser: &mut Parser<'_>) -> Result<Items<From>, Refusal>
-        requires { Selecting self.now.grammar.left (F.pre self.now.grammar.expr) (F.post self.now.grammar.expr) (G.pre self.now.grammar.select) (G.post self.now.grammar.select) }
-        ensures { Reads (descent.list (λ _. descent.from_item (descent.below self.now.grammar.left)) parser.old) result parser.new }
-    {
-        list(parser, |parser: &mut Parser<'_>, _: usize| {
-            self.from_item(parser)
-        })
-    }
-
     /// WHERE and its condition, or nothing.
-    #[tactic(auto, unfolding(cq_grammar::specs::Descent::filter))]
     pub fn filter(&self, parser: &mut Parser<'_>) -> Result<Option<Expr>, Refusal>
         requires { Selecting self.now.grammar.left (F.pre self.now.grammar.expr) (F.post self.now.grammar.expr) (G.pre self.now.grammar.select) (G.post self.now.grammar.select) }
         ensures { Reads (descent.filter (descent.below self.now.grammar.left) parser.old) result parser.new }
     {
-        if !parser.sees(&[Kind::Where]) {
-            return Ok(None);
-        }
-        parser.the(Kind::Where)?;
-        let condition = self.or_chain(parser)?;
-        Ok(Some(condition))
+        filter(&self.grammar, parser)
     }
 
-    fn boxed_filter(&self, parser: &mut Parser<'_>) -> Result<Option<Boxed<Expr>>, Refusal>
-        requires { Selecting self.now.grammar.left (F.pre self.now.grammar.expr) (F.post self.now.grammar.expr) (G.pre self.now.grammar.select) (G.post self.now.grammar.select) }
-        ensures { Reads (descent.filter (descent.below self.now.grammar.left) parser.old) result parser.new }
-    {
-        let filter = self.filter(parser)?;
-        match filter {
-            None => Ok(None),
-            Some(condition) => Ok(Some(Boxed::new(parser.alloc(), condition)?)),
-        }
-    }
-
-    fn group_keys(&self, parser: &mut Parser<'_>) -> Result<Items<Expr>, Refusal>
-        requires { Selecting self.now.grammar.left (F.pre self.now.grammar.expr) (F.post self.now.grammar.expr) (G.pre self.now.grammar.select) (G.post self.now.grammar.select) }
-        ensures { Reads (descent.list (λ _. descent.or_chain (descent.below self.now.grammar.left)) parser.old) result parser.new }
-    {
-        list(parser, |parser: &mut Parser<'_>, _: usize| {
-            self.or_chain(parser)
-        })
-    }
-
-    #[tactic(auto, unfolding(cq_grammar::specs::Descent::group_by))]
-    fn group_by(&self, parser: &mut Parser<'_>) -> Result<GroupBy, Refusal>
-        requires { Selecting self.now.grammar.left (F.pre self.now.grammar.expr) (F.post self.now.grammar.expr) (G.pre self.now.grammar.select) (G.post self.now.grammar.select) }
-        ensures { Reads (descent.group_by (descent.below self.now.grammar.left) parser.old) result parser.new }
-    {
-        let at = parser.the(Kind::Group)?;
-        parser.the(Kind::By)?;
-        let keys = self.group_keys(parser)?;
-        Ok(GroupBy { keys, at })
-    }
-
-    fn optional_group_by(&self, parser: &mut Parser<'_>) -> Result<Option<GroupBy>, Refusal>
-        requires { Selecting self.now.grammar.left (F.pre self.now.grammar.expr) (F.post self.now.grammar.expr) (G.pre self.now.grammar.select) (G.post self.now.grammar.select) }
-        ensures { Reads (read.optional (read.sees (k.Group ∷ [])) (descent.group_by (descent.below self.now.grammar.left)) parser.old) result parser.new }
-    {
-        if !parser.sees(&[Kind::Group]) {
-            return Ok(None);
-        }
-        let groups = self.group_by(parser)?;
-        Ok(Some(groups))
-    }
-
-    #[tactic(auto, unfolding(cq_grammar::specs::Descent::having))]
-    fn having(&self, parser: &mut Parser<'_>) -> Result<Having, Refusal>
-        requires { Selecting self.now.grammar.left (F.pre self.now.grammar.expr) (F.post self.now.grammar.expr) (G.pre self.now.grammar.select) (G.post self.now.grammar.select) }
-        ensures { Reads (descent.having (descent.below self.now.grammar.left) parser.old) result parser.new }
-    {
-        let at = parser.the(Kind::Having)?;
-        let condition = self.or_chain(parser)?;
-        Ok(Having { condition, at })
-    }
-
-    fn optional_having(&self, parser: &mut Parser<'_>) -> Result<Option<Having>, Refusal>
-        requires { Selecting self.now.grammar.left (F.pre self.now.grammar.expr) (F.post self.now.grammar.expr) (G.pre self.now.grammar.select) (G.post self.now.grammar.select) }
-        ensures { Reads (read.optional (read.sees (k.Having ∷ [])) (descent.having (descent.below self.now.grammar.left)) parser.old) result parser.new }
-    {
-        if !parser.sees(&[Kind::Having]) {
-            return Ok(None);
-        }
-        let having = self.having(parser)?;
-        Ok(Some(having))
-    }
-
-    #[tactic(auto, unfolding(cq_grammar::specs::Descent::order_key))]
-    fn order_key(&self, parser: &mut Parser<'_>) -> Result<OrderKey, Refusal>
-        requires { Selecting self.now.grammar.left (F.pre self.now.grammar.expr) (F.post self.now.grammar.expr) (G.pre self.now.grammar.select) (G.post self.now.grammar.select) }
-        ensures { Reads (descent.order_key (descent.below self.now.grammar.left) parser.old) result parser.new }
-    {
-        let key = self.or_chain(parser)?;
-        let word = direction(parser)?;
-        Ok(OrderKey {
-            key,
-            direction: word.map(|(word, _)| direction_of(word)),
-        })
-    }
-
-    fn order_keys(&self, parser: &mut Parser<'_>) -> Result<Items<OrderKey>, Refusal>
-        requires { Selecting self.now.grammar.left (F.pre self.now.grammar.expr) (F.post self.now.grammar.expr) (G.pre self.now.grammar.select) (G.post self.now.grammar.select) }
-        ensures { Reads (descent.list (λ _. descent.order_key (descent.below self.now.grammar.left)) parser.old) result parser.new }
-    {
-        list(parser, |parser: &mut Parser<'_>, _: usize| {
-            self.order_key(parser)
-        })
-    }
-
-    #[tactic(auto, unfolding(cq_grammar::specs::Descent::order_by))]
-    fn order_by(&self, parser: &mut Parser<'_>) -> Result<Items<OrderKey>, Refusal>
-        requires { Selecting self.now.grammar.left (F.pre self.now.grammar.expr) (F.post self.now.grammar.expr) (G.pre self.now.grammar.select) (G.post self.now.grammar.select) }
-        ensures { Reads (descent.order_by (descent.below self.now.grammar.left) parser.old) result parser.new }
-    {
-        if !parser.sees(&[Kind::Order]) {
-            return Ok(Items::new(parser.alloc()));
-        }
-        parser.the(Kind::Order)?;
-        parser.the(Kind::By)?;
-        self.order_keys(parser)
-    }
-
-    #[tactic(auto, unfolding(cq_grammar::specs::Descent::select_list))]
-    fn select_list(
-        &self,
-        parser: &mut Parser<'_>,
-    ) -> Result<(u64, (Option<u64>, Items<Item>)), Refusal>
-        requires { Selecting self.now.grammar.left (F.pre self.now.grammar.expr) (F.post self.now.grammar.expr) (G.pre self.now.grammar.select) (G.post self.now.grammar.select) }
-        ensures { Reads (descent.select_list (descent.below self.now.grammar.left) parser.old) result parser.new }
-    {
-        let at = parser.the(Kind::Select)?;
-        let distinct = parser.optional_the(Kind::Distinct)?;
-        let items = self.select_items(parser)?;
-        Ok((at, (distinct, items)))
-    }
-
-    fn sources(&self, parser: &mut Parser<'_>) -> Result<Items<From>, Refusal>
-        requires { Selecting self.now.grammar.left (F.pre self.now.grammar.expr) (F.post self.now.grammar.expr) (G.pre self.now.grammar.select) (G.post self.now.grammar.select) }
-        ensures { Reads (read.behind (descent.the k.From) (descent.list (λ _. descent.from_item (descent.below self.now.grammar.left))) parser.old) result parser.new }
-    {
-        parser.the(Kind::From)?;
-        self.from_items(parser)
-    }
-
-    /// What is selected from where.
-    #[tactic(auto, unfolding(cq_grammar::specs::Descent::selection))]
-    fn selection(
-        &self,
-        parser: &mut Parser<'_>,
-    ) -> Result<
-        (
-            (u64, (Option<u64>, Items<Item>)),
-            (Items<From>, Option<Boxed<Expr>>),
-        ),
-        Refusal,
-    >
-        requires { Selecting self.now.grammar.left (F.pre self.now.grammar.expr) (F.post self.now.grammar.expr) (G.pre self.now.grammar.select) (G.post self.now.grammar.select) }
-        ensures { Reads (descent.selection (descent.below self.now.grammar.left) parser.old) result parser.new }
-    {
-        let list = self.select_list(parser)?;
-        let from = self.sources(parser)?;
-        let filter = self.boxed_filter(parser)?;
-        Ok((list, (from, filter)))
-    }
-
-    /// How it is grouped.
-    #[tactic(auto, unfolding(cq_grammar::specs::Descent::grouping))]
-    fn grouping(
-        &self,
-        parser: &mut Parser<'_>,
-    ) -> Result<(Option<GroupBy>, Option<Having>), Refusal>
-        requires { Selecting self.now.grammar.left (F.pre self.now.grammar.expr) (F.post self.now.grammar.expr) (G.pre self.now.grammar.select) (G.post self.now.grammar.select) }
-        ensures { Reads (descent.grouping (descent.below self.now.grammar.left) parser.old) result parser.new }
-    {
-        let groups = self.optional_group_by(parser)?;
-        let having = self.optional_having(parser)?;
-        Ok((groups, having))
-    }
-
-    /// How it is ordered, and which part is kept.
-    #[tactic(auto, unfolding(cq_grammar::specs::Descent::ordering))]
-    fn ordering(
-        &self,
-        parser: &mut Parser<'_>,
-    ) -> Result<(Items<OrderKey>, (Option<Count>, Option<Count>)), Refusal>
-        requires { Selecting self.now.grammar.left (F.pre self.now.grammar.expr) (F.post self.now.grammar.expr) (G.pre self.now.grammar.select) (G.post self.now.grammar.select) }
-        ensures { Reads (descent.ordering (descent.below self.now.grammar.left) parser.old) result parser.new }
-    {
-        let order = self.order_by(parser)?;
-        let limit = limit(parser)?;
-        let offset = offset(parser)?;
-        Ok((order, (limit, offset)))
-    }
-
-    #[tactic(auto, unfolding(cq_grammar::specs::Descent::selected))]
     pub fn selected(&self, parser: &mut Parser<'_>) -> Result<Select, Refusal>
         requires { Selecting self.now.grammar.left (F.pre self.now.grammar.expr) (F.post self.now.grammar.expr) (G.pre self.now.grammar.select) (G.post self.now.grammar.select) }
         ensures { Reads (descent.selected (descent.below self.now.grammar.left) parser.old) result parser.new }
     {
-        let ((at, (distinct, items)), (from, filter)) = self.selection(parser)?;
-        let (groups, having) = self.grouping(parser)?;
-        let (order, (limit, offset)) = self.ordering(parser)?;
-        Ok(Select {
-            distinct: distinct.is_some(),
-            items,
-            from,
-            filter,
-            groups,
-            having,
-            order,
-            limit,
-            offset,
-            at,
-        })
+        selected(&self.grammar, parser)
     }
 }

@@ -15,14 +15,13 @@ ghost use Rattle.cq_parse_steps.specs.Reads.{Reads};
 ghost use Rattle.cq_parse_calls.specs.Nests.{Nests};
 
 use crate::digits::digits;
-use crate::nested::Nested;
-use crate::phrases::{Phrase, list_of, many_of, several_of};
 use cq_grammar::{
     Added, Aggregate, Arm, Chained, Count, Expr, Kind, Multiplied, Name, NullTest, Refusal, Rule,
     Select, Test,
 };
 use cq_parse_calls::{
-    Grammar, add_operator, aggregate_function, comparison_operator, first_place, multiply_operator,
+    Grammar, Nested, Phrase, add_operator, aggregate_function, comparison_operator, first_place,
+    list_of, many_of, multiply_operator, several_of,
 };
 use cq_parse_steps::{
     ADD_SIGNS, AGGREGATE_WORDS, COLUMN_NAMES, COMPARISON_SIGNS, LITERALS, MULTIPLY_SIGNS, NAMES,

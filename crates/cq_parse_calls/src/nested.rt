@@ -7,8 +7,8 @@ ghost use Rattle.cq_grammar.specs.Descent as descent;
 ghost use Rattle.cq_parse_steps.specs.Reads.{Reads};
 ghost use Rattle.cq_parse_calls.specs.Nests.{Nests};
 
+use crate::grammar::Grammar;
 use cq_grammar::{Expr, Refusal, Rule, Select};
-use cq_parse_calls::Grammar;
 use cq_parse_steps::Parser;
 
 /// Parses what stands where less of the depth is left.

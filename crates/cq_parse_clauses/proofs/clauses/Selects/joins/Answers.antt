@@ -1,6 +1,0 @@
-use Rattle.std.proofs.Common.{rules}
-use Rattle.cq_grammar.specs.Descent as descent
-use Rattle.cq_parse_clauses.proofs.clauses.Selects.joins.Goals as goal
-
-pub returns : goal.returns
-returns g c = c.many.ensures (λ _. descent.join (descent.below c.args.self.now.grammar.left)) (λ old new i r lt post. search rules)
