@@ -52,7 +52,7 @@ pub fn table_rows<'a>(
 
 /// Copies of the lent rows with which one may begin of which a condition is true.
 fn copy_some(alloc: Global, c: &Cond, rows: LentList<'_>) -> Result<Rows, NoMemory>
-    ensures { IfOk result (λ some. some ≡ filter (may_keep_by_rule c.now) (map row_lent rows)) }
+    ensures { IfOk result (λ some. some ≡ filter (may_keep_by_rule c.now) (map row_lent rows.entry)) }
 {
     let mut some = Rows::new(alloc);
     for lent in rows.into_vec() {
@@ -109,8 +109,8 @@ fn keep_lent<'a>(
     rows: LentList<'a>,
     results: &Lookups<'_>,
 ) -> Result<LentList<'a>, NoMemory>
-    requires { All (λ row. IsSafeCondition c.now row results.now) (map row_lent rows) }
-    ensures { IfOk result (λ kept. map row_lent kept ≡ filter (keeps c.now results.now) (map row_lent rows)) }
+    requires { All (λ lent. IsSafeCondition c.now (row_lent lent) results.now) rows }
+    ensures { IfOk result (λ kept. map row_lent kept ≡ filter (keeps c.now results.now) (map row_lent rows.entry)) }
 {
     if let Cond::Always = c {
         return Ok(rows);
@@ -125,6 +125,7 @@ fn keep_lent<'a>(
 }
 
 /// The rows of a table of which a condition is true, lent.
+#[tactic(auto, using(crate::proofs::LentLaws::all_lent))]
 pub fn table_kept<'a>(
     alloc: Global,
     c: &Cond,
