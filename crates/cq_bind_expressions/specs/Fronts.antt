@@ -1,6 +1,5 @@
 -- The longest front of a chain from left to right that is a key of its query.
 use Rattle.std.specs.Prelude.{ℕ, ◌≡◌, ◌⊎◌, ◌≤◌, Bool, true, false, ◌&&◌, not, List, [], ◌∷◌, drop, length, Option, None, Some, IfSome, Result, Ok, Err, MatchResult}
-use denote.Ref.{Bor, MutBor}
 use Rattle.std.specs.Option.{option_map}
 use Rattle.cq_tree.specs.declared.expression.Expr.{Expr}
 use Rattle.cq_reading.specs.declared.bound.Found.{Found}
@@ -65,10 +64,6 @@ key_of keys (Some b) = key_column keys b
 -- of what has been read
 abbrev pub IsTried : Result Bound BindError → Result (Option Bound) BindError → Type 0
 IsTried attempt result = (o : Result (Bound × Found) BindError) (new : Found) → Binds o attempt new → Finds (tried true o) result new
-
--- a function that tries a front with one operand more
-abbrev pub Lengthens : {A : Type 0} → (MutBor Found → Bound → Bor A → Result (Option Bound) BindError → MutBor Found → Type 0) → (A → Part) → (Bound → A → Reading Bound) → Type 0
-Lengthens {A} post part step = (old new : MutBor Found) (b : Bound) (p : Bor A) (result : Result (Option Bound) BindError) → post old b p result new → Finds (longer part step (Some (b, old.now)) p.now) result new.now
 
 -- a front with the operands behind it
 abbrev pub behind : {A : Type 0} → List A → Option Front → Option (Bound × List A)

@@ -1,3 +1,4 @@
 pub mod Fronts
 pub mod Keys
+pub mod Operands
 pub mod Pairs

@@ -1,15 +1,19 @@
 //! The longest front of a chain from left to right that is a key of its query.
 
-ghost use Rattle.std.specs.Prelude.{◌≡◌, None, Some, IfOk, MatchResult};
+ghost use Rattle.std.specs.Prelude.{◌≡◌, ◌&&◌, not, None, IfOk, MatchResult};
 ghost use Rattle.cq_reading.specs.declared.error.BindError.TheVariants.{Memory};
-ghost use Rattle.cq_reading.specs.Steps.{Reading};
-ghost use Rattle.cq_reading.specs.Parts.{Part};
-ghost use Rattle.cq_reading.specs.Rules.{key_column};
-ghost use Rattle.cq_bind_calls.specs.Calls.{IsCallableOn};
-ghost use Rattle.cq_bind_expressions.specs.Fronts.{Finds, GoesOn, IsAmong, IsTried, IsWithin, Lengthens, behind, front_of, front_read, key_of, longer, longest};
+ghost use Rattle.cq_reading.specs.Scopes as scopes;
+ghost use Rattle.cq_reading.specs.Expressions.{reads};
+ghost use Rattle.cq_reading.specs.Walk.{part_of};
+ghost use Rattle.cq_bind_expressions.specs.Fronts.{Finds, GoesOn, IsAmong, IsWithin, behind, front_of, front_read, key_of, longer, longest, tried, tried_part};
+ghost use Rattle.cq_bind_expressions.specs.Operands.{with_operand};
 
+use crate::operand::{Operand, tried_operand, unless_refused};
+use cq_bind_calls::{Nested, alloc_of, nothing, plain};
+use cq_bind_looks::selects;
 use cq_bind_rules as rules;
-use cq_reading::{BindError, Bound, Found};
+use cq_grammar as grammar;
+use cq_reading::{BindError, Bound, Found, Scope};
 use cq_tree::Expr;
 
 /// A front that is a key.
@@ -19,17 +23,6 @@ pub(crate) struct Front {
     pub column: Bound,
     /// How many operands stand in it behind the first.
     pub taken: usize,
-}
-
-/// What has been read, or none where it was refused.
-pub(crate) fn unless_refused(attempt: Result<Bound, BindError>) -> Result<Option<Bound>, BindError>
-    ensures { IsTried attempt result }
-{
-    match attempt {
-        Ok(b) => Ok(Some(b)),
-        Err(BindError::Memory) => Err(BindError::Memory),
-        Err(_) => Ok(None),
-    }
 }
 
 /// The column of the key that a front is.
@@ -85,37 +78,39 @@ fn extended(
     }
 }
 
-/// What `lengthen` reads of the front with one operand more, and none where there is no front.
-fn lengthened<T, P: Fn(&mut Found, Bound, &T) -> Result<Option<Bound>, BindError>>(
+/// The front with one operand more, and none where there is no front.
+fn lengthened<N: Nested, T: Operand>(
+    nested: &N,
     found: &mut Found,
     front: Option<Bound>,
     operand: &T,
-    lengthen: &P,
+    scope: &Scope<'_>,
 ) -> Result<Option<Bound>, BindError>
-    requires { IsCallableOn (P.pre lengthen.now) }
-    ensures { (part : T → Part) (step : _ → T → Reading _) → Lengthens (P.post lengthen.now) part step → Finds (longer part step (front_read front found.old) operand.now) result found.new }
+    requires { N.callable nested.now }
+    ensures { Finds (longer T.part (with_operand T.part T.joins scope.now) (front_read front found.old) operand.now) result found.new }
 {
     match front {
-        Some(front) => lengthen(found, front, operand),
+        Some(front) => tried_operand(nested, found, front, operand, scope),
         None => Ok(None),
     }
 }
 
 /// The search with one operand more.
-fn searched<T, P: Fn(&mut Found, Bound, &T) -> Result<Option<Bound>, BindError>>(
-    keys: &[Expr],
+fn searched<N: Nested, T: Operand>(
+    nested: &N,
     found: &mut Found,
     search: Search,
     operand: &T,
     taken: usize,
-    lengthen: &P,
+    keys: &[Expr],
+    scope: &Scope<'_>,
 ) -> Result<Search, BindError>
-    requires { IsCallableOn (P.pre lengthen.now) }
-    ensures goes_on { (part : T → Part) (step : _ → T → Reading _) → Lengthens (P.post lengthen.now) part step → MatchResult result (λ s. GoesOn keys.now (longer part step (front_read search.front found.old) operand.now) taken search.best s found.new) (λ e. e ≡ Memory) }
+    requires { N.callable nested.now }
+    ensures goes_on { MatchResult result (λ s. GoesOn keys.now (longer T.part (with_operand T.part T.joins scope.now) (front_read search.front found.old) operand.now) taken search.best s found.new) (λ e. e ≡ Memory) }
     ensures within { IfOk result (λ s. IsAmong taken search.best s.best) }
 {
     let Search { front, best } = search;
-    match lengthened(found, front, operand, lengthen) {
+    match lengthened(nested, found, front, operand, scope) {
         Ok(front) => extended(keys, front, taken, best),
         Err(e) => {
             drop(best);
@@ -124,17 +119,18 @@ fn searched<T, P: Fn(&mut Found, Bound, &T) -> Result<Option<Bound>, BindError>>
     }
 }
 
-/// The longest front of a chain that is a key of a query: `first` is what the first operand is read as before any grouping, where it
-/// may be a key and isn't refused, and `lengthen` reads a front with one operand more. The only error is want of memory.
-pub(crate) fn longest_front<T, P: Fn(&mut Found, Bound, &T) -> Result<Option<Bound>, BindError>>(
-    keys: &[Expr],
+/// The longest front of a chain that is one of the keys: `first` is what the first operand is read as before any grouping, where it
+/// may be a key and isn't refused, and `before` is the scope before any grouping. The only error is want of memory.
+fn longest_front<N: Nested, T: Operand>(
+    nested: &N,
     found: &mut Found,
     first: Option<Bound>,
     rest: &[T],
-    lengthen: P,
+    keys: &[Expr],
+    before: &Scope<'_>,
 ) -> Result<Option<Front>, BindError>
-    requires { IsCallableOn (P.pre lengthen) }
-    ensures longest { (part : T → Part) (step : _ → T → Reading _) → Lengthens (P.post lengthen) part step → MatchResult result (λ k. behind rest.now k ≡ longest keys.now part step None (front_read first found.old) rest.now) (λ e. e ≡ Memory) }
+    requires { N.callable nested.now }
+    ensures longest { MatchResult result (λ k. behind rest.now k ≡ longest keys.now T.part (with_operand T.part T.joins before.now) None (front_read first found.old) rest.now) (λ e. e ≡ Memory) }
     ensures within { IfOk result (λ k. IsWithin rest.now k) }
 {
     let mut search = Search {
@@ -142,9 +138,43 @@ pub(crate) fn longest_front<T, P: Fn(&mut Found, Bound, &T) -> Result<Option<Bou
         best: None,
     };
     'operands: for (i, operand) in rest.iter().enumerate() {
-        search = searched(keys, found, search, operand, i + 1, &lengthen)?;
+        search = searched(nested, found, search, operand, i + 1, keys, before)?;
     }
     let Search { front, best } = search;
     drop(front);
     Ok(best)
+}
+
+/// What an operand is read as before any grouping, where its query groups and no subquery stands in it. None where it is refused.
+#[tactic(auto, using(cq_bind_looks::proofs::Looks::looks))]
+fn tried<N: Nested>(
+    nested: &N,
+    found: &mut Found,
+    e: &grammar::Expr,
+    scope: &Scope<'_>,
+) -> Result<Option<Bound>, BindError>
+    requires { N.callable nested.now }
+    ensures { Finds (tried (scope.now.grouped && not (part_of e.now).selects) (reads (part_of e.now) (scopes.plain scope.now) found.old)) result found.new }
+{
+    if scope.grouped && !selects(e) {
+        unless_refused(nested.expr(found, e, &plain(scope)))
+    } else {
+        Ok(None)
+    }
+}
+
+/// The longest front of a chain that is a key of its query, if it groups. The only error is want of memory.
+pub(crate) fn key_front<N: Nested, T: Operand>(
+    nested: &N,
+    first: &grammar::Expr,
+    rest: &[T],
+    scope: &Scope<'_>,
+) -> Result<Option<Front>, BindError>
+    requires { N.callable nested.now }
+    ensures longest { MatchResult result (λ k. behind rest.now k ≡ longest scope.now.keys T.part (with_operand T.part T.joins (scopes.plain scope.now)) None (tried_part scope.now (part_of first.now)) rest.now) (λ e. e ≡ Memory) }
+    ensures within { IfOk result (λ k. IsWithin rest.now k) }
+{
+    let mut found = nothing(alloc_of(scope));
+    let first = tried(nested, &mut found, first, scope)?;
+    longest_front(nested, &mut found, first, rest, scope.keys, &plain(scope))
 }

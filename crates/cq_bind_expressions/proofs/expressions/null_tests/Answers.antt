@@ -1,0 +1,5 @@
+use Rattle.cq_bind_calls.proofs.Loops.{binds_then}
+use Rattle.cq_bind_expressions.proofs.expressions.null_tests.Goals as goal
+
+pub returns : goal.returns
+returns g c = binds_then _ _ _ _ _ _ c.in_ok-first.ensures c.through_of.ensures

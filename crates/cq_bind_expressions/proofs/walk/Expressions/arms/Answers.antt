@@ -1,8 +1,0 @@
-use Rattle.std.proofs.Common.{rules}
-use Rattle.cq_reading.specs.Expressions.{read_arm}
-use Rattle.cq_reading.specs.Walk.{arm_part}
-use Rattle.cq_bind_calls.proofs.Loops.{binds_each}
-use Rattle.cq_bind_expressions.proofs.walk.Expressions.arms.Goals as goal
-
-pub returns : goal.returns
-returns g c = binds_each (read_arm c.args.scope.now) arm_part _ _ _ _ (c.each.ensures (λ x. read_arm c.args.scope.now (arm_part x)) (λ old new a r post. search rules))
