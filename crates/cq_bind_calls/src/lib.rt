@@ -2,10 +2,14 @@
 //! is done with each item of a list in turn.
 #![tactic(auto)]
 
+mod items;
+mod nested;
 mod scopes;
 mod steps;
 mod walk;
 
+pub use items::{Reader, Step, behind_of, each_of, through_of};
+pub use nested::Nested;
 pub use scopes::{alloc_of, nothing, plain};
 pub use steps::{behind, each, through, through_slice};
 pub use walk::Walk;
