@@ -1,5 +1,5 @@
 -- GROUP BY and its keys.
-use Rattle.std.proofs.Common.{◌≡◌, ◌≢◌, ℕ, zero, suc, ◌-◌, Bool, true, false, not, List, [], map, Some, Result, Ok, Err, sym, subst, ap, refl, ◌∙◌, arith}
+use Rattle.std.proofs.Common.{◌≡◌, ◌≢◌, ℕ, zero, suc, ◌-◌, true, false, not, List, [], map, Some, Result, Err, sym, subst, ap, refl, arith}
 use Rattle.std.specs.List.{slice_get}
 use Rattle.cq_tree.specs.declared.expression.Expr as tree
 use Rattle.cq_grammar.specs.declared.query.GroupBy.{GroupBy, out-GroupBy}

@@ -1,12 +1,11 @@
 -- The targets of a name, and the target of a place.
-use Rattle.std.proofs.Common.{◌≡◌, ℕ, zero, suc, Bool, true, false, bytes_eq, List, [], ◌∷◌, Option, None, Some, Result, Ok, Err, sym, subst, ap, refl, ◌∙◌}
-use Rattle.std.specs.List.{slice_get, position, count_by, filter}
+use Rattle.std.proofs.Common.{◌≡◌, ℕ, zero, suc, Bool, true, false, bytes_eq, List, [], ◌∷◌, None, Some, Result, Ok, Err, sym, subst, ap, refl, ◌∙◌}
+use Rattle.std.specs.List.{slice_get, position, count_by}
 use Rattle.std.specs.Prelude.{nat_le, if◌then◌else◌}
 use Rattle.cq_reading.specs.declared.bound.Found.{Found}
-use Rattle.cq_reading.specs.declared.bound.Source.{Source}
 use Rattle.cq_reading.specs.declared.bound.Bound.{Bound}
 use Rattle.cq_reading.specs.declared.error.BindError.{BindError}
-use Rattle.cq_reading.specs.Steps.{Reading, give, follow, through, with_next, each, ◌then◌}
+use Rattle.cq_reading.specs.Steps.{give, follow, through, with_next, ◌then◌}
 use Rattle.cq_reading.specs.Outcomes.{Binds, Judges}
 use Rattle.cq_reading.specs.Scopes.{Context, place_of, place_by, has_name}
 use Rattle.cq_reading.specs.Parts.{Part}

@@ -1,5 +1,5 @@
 -- Targets of a name, and the target of a number, as they are come to one by one.
-use Rattle.std.specs.Prelude.{ℕ, zero, suc, Bool, true, false, bytes_eq, if◌then◌else◌, List, Option, None, Some}
+use Rattle.std.specs.Prelude.{ℕ, zero, suc, bytes_eq, if◌then◌else◌, List}
 use Rattle.cq_reading.specs.declared.bound.Bound.{Bound}
 use Rattle.cq_reading.specs.declared.error.BindError.TheVariants as error
 use Rattle.cq_reading.specs.Steps.{Reading, give, refuse, ◌then◌, with_next}
