@@ -1,5 +1,5 @@
 -- GROUP BY and its keys.
-use Rattle.std.proofs.Common.{◌≡◌, ◌≢◌, ℕ, zero, suc, ◌-◌, Bool, true, false, not, List, [], map, Some, Result, Ok, Err, sym, subst, ap, refl, ◌∙◌, arith}
+use Rattle.std.proofs.Common.{◌≡◌, ◌≢◌, ℕ, zero, suc, ◌-◌, true, false, not, List, [], map, Some, Result, Err, sym, subst, ap, refl, arith}
 use Rattle.std.specs.List.{slice_get}
 use Rattle.cq_tree.specs.declared.expression.Expr as tree
 use Rattle.cq_grammar.specs.declared.query.GroupBy.{GroupBy, out-GroupBy}
@@ -8,6 +8,7 @@ use Rattle.cq_reading.specs.declared.bound.Bound.{Bound}
 use Rattle.cq_reading.specs.declared.error.BindError.{BindError}
 use Rattle.cq_reading.specs.declared.error.BindError.TheVariants as error
 use Rattle.cq_reading.specs.declared.error.Limited.TheVariants as limited
+use Rattle.cq_reading.specs.Steps.{through}
 use Rattle.cq_reading.specs.Outcomes.{Binds}
 use Rattle.cq_reading.specs.Scopes.{Context}
 use Rattle.cq_reading.specs.Selects.{Target, at_most, with_one_more, nth, key_by_place, group_key, group_keys}
@@ -16,11 +17,13 @@ use Rattle.cq_bind_looks.proofs.Looks.{group_part_is}
 use Rattle.cq_bind_calls.proofs.Loops.{passed, failed, binds_parts}
 
 module _ (cx : Context) (ts : List Target) (g : GroupBy) (f : Found) (res : Result (List tree.Expr) BindError) (new : Found) where
-  pub group_ok : cx.joined ≡ false → Binds (at_most 16 limited.Keys (λ e. group_key cx ts (part_of e)) (out-GroupBy g).keys f) res new → Binds (group_keys cx ts cx.joined (Some (group_part g)) f) res new
-  group_ok e h =
+  -- `s` is the empty list that the keys stand behind
+  pub group_ok : (s : List tree.Expr) → s ≡ [] → cx.joined ≡ false → Binds (through (with_one_more 16 limited.Keys (λ e. group_key cx ts (part_of e))) (out-GroupBy g).keys s f) res new → Binds (group_keys cx ts cx.joined (Some (group_part g)) f) res new
+  group_ok s d e h =
       subst (λ p. Binds (group_keys cx ts cx.joined (Some p) f) res new) (sym (group_part_is g))
       (passed (not cx.joined) (error.GroupedJoin (out-GroupBy g).at) (at_most 16 limited.Keys (group_key cx ts) (map part_of (out-GroupBy g).keys)) f res new (ap not e)
-      (binds_parts (with_one_more 16 limited.Keys (group_key cx ts)) part_of (out-GroupBy g).keys [] f res new h))
+      (binds_parts (with_one_more 16 limited.Keys (group_key cx ts)) part_of (out-GroupBy g).keys [] f res new
+      (subst (λ t. Binds (through (with_one_more 16 limited.Keys (λ x. group_key cx ts (part_of x))) (out-GroupBy g).keys t f) res new) d h)))
 
 pub group_err : (cx : Context) (ts : List Target) (g : GroupBy) (f new : Found) (x : BindError) → cx.joined ≡ true → x ≡ error.GroupedJoin (out-GroupBy g).at → Binds (group_keys cx ts cx.joined (Some (group_part g)) f) (Err x) new
 group_err cx ts g f new x e h =

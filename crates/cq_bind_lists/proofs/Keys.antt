@@ -1,6 +1,5 @@
 -- A column that `*` stands for, in a query that groups.
-use Rattle.std.proofs.Common.{◌≡◌, ℕ, Bool, true, false, not, List, Result, Ok, Err, IsErrAnd, sym, subst, ap, refl, ◌∙◌}
-use Rattle.cq_tree.specs.declared.expression.Expr.{Expr}
+use Rattle.std.proofs.Common.{◌≡◌, ℕ, true, false, not, Result, Ok, Err, IsErrAnd, sym, subst, ap, refl}
 use Rattle.cq_reading.specs.declared.bound.Found.{Found}
 use Rattle.cq_reading.specs.declared.bound.Bound.{Bound}
 use Rattle.cq_reading.specs.declared.error.BindError.{BindError}

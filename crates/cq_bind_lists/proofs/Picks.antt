@@ -1,19 +1,18 @@
 -- The targets of a name, and the target of a place.
-use Rattle.std.proofs.Common.{◌≡◌, ℕ, zero, suc, Bool, true, false, bytes_eq, List, [], ◌∷◌, Option, None, Some, Result, Ok, Err, sym, subst, ap, refl, ◌∙◌}
-use Rattle.std.specs.List.{slice_get, position, count_by, filter}
+use Rattle.std.proofs.Common.{◌≡◌, ℕ, zero, suc, Bool, true, false, bytes_eq, List, [], ◌∷◌, None, Some, Result, Ok, Err, sym, subst, ap, refl, ◌∙◌}
+use Rattle.std.specs.List.{slice_get, position, count_by}
 use Rattle.std.specs.Prelude.{nat_le, if◌then◌else◌}
 use Rattle.cq_reading.specs.declared.bound.Found.{Found}
-use Rattle.cq_reading.specs.declared.bound.Source.{Source}
 use Rattle.cq_reading.specs.declared.bound.Bound.{Bound}
 use Rattle.cq_reading.specs.declared.error.BindError.{BindError}
-use Rattle.cq_reading.specs.Steps.{Reading, give, follow, through, with_next, each, ◌then◌}
+use Rattle.cq_reading.specs.Steps.{give, follow, through, with_next, ◌then◌}
 use Rattle.cq_reading.specs.Outcomes.{Binds, Judges}
 use Rattle.cq_reading.specs.Scopes.{Context, place_of, place_by, has_name}
 use Rattle.cq_reading.specs.Parts.{Part}
 use Rattle.cq_reading.specs.Expressions.{reads}
 use Rattle.cq_reading.specs.Selects.{Target, titled, key_by_place, key_by_name, key_by_title}
-use Rattle.cq_bind_lists.specs.declared.groups.Pick.{Pick}
-use Rattle.cq_bind_lists.specs.declared.groups.Pick.TheVariants as pick
+use Rattle.cq_bind_lists.specs.declared.pick.Pick.{Pick}
+use Rattle.cq_bind_lists.specs.declared.pick.Pick.TheVariants as pick
 use Rattle.cq_bind_lists.specs.Picks.{target_value, with_titled, first_pick, picked, skipping, the_pick}
 use Rattle.cq_bind_calls.proofs.Loops.{follow_same}
 
@@ -35,8 +34,8 @@ module _ (cx : Context) (name : List ℕ) where
   pub titled_not : (before : List Bound) (t : Target) (b : Bool) → b ≡ bytes_eq t.title name → b ≡ false → Judges (with_titled cx name before t) (Ok before)
   titled_not before t b e d = λ f. subst (λ c. Binds ((if c then with_next (target_value cx) before t else give before) f) (Ok before) f) (sym d ∙ e) refl
 
-  pub binds_titled : (ts : List Target) (s : List Bound) (f : Found) (res : Result (List Bound) BindError) (new : Found) → Binds (through (with_titled cx name) ts s f) res new → Binds (through (with_next (target_value cx)) (titled name ts) s f) res new
-  binds_titled ts s f res new h = subst (λ o. Binds o res new) (sym (titled_is ts s f)) h
+  pub binds_titled : (ts : List Target) (s t : List Bound) (f : Found) (res : Result (List Bound) BindError) (new : Found) → s ≡ t → Binds (through (with_titled cx name) ts s f) res new → Binds (through (with_next (target_value cx)) (titled name ts) t f) res new
+  binds_titled ts s t f res new e h = subst (λ o. Binds o res new) (sym (titled_is ts t f)) (subst (λ u. Binds (through (with_titled cx name) ts u f) res new) e h)
 
 -- ---- the target of a place
 

@@ -1,5 +1,6 @@
 -- Loops over the items of a select list, and over the columns that `*` stands for.
-use Rattle.std.proofs.Common.{◌≡◌, ℕ, ◌+◌, Bool, true, false, List, [], ◌∷◌, ◌++◌, map, Option, None, Some, Result, Ok, Err, IsErrAnd, sym, subst, ap, refl, ◌∙◌}
+use Rattle.std.proofs.Common.{◌≡◌, ℕ, ◌+◌, ◌<◌, ◌≤◌, Bool, true, false, List, [], ◌∷◌, ◌++◌, drop, map, length, get_or, Option, None, Some, Result, Ok, Err, IsErrAnd, sym, subst, ap, refl, ◌∙◌, drop-cons, add-one}
+use Rattle.std.proofs.lemmas.List.{drop_all}
 use Rattle.std.specs.Prelude.{if◌then◌else◌}
 use Rattle.std.specs.List.{list_any}
 use Rattle.cq_grammar.specs.declared.name.Name.{Name}
@@ -16,8 +17,8 @@ use Rattle.cq_reading.specs.Parts.{ItemPart, One}
 use Rattle.cq_reading.specs.Selects.{Target, star_column, star_columns, stars_of, no_relation, targets_of, targets}
 use Rattle.cq_reading.specs.Walk.{part_of, item_part}
 use Rattle.cq_bind_looks.proofs.Looks.{item_All, item_AllOf, item_Value, item_Named}
-use Rattle.cq_bind_lists.specs.Stars.{target_if, star_step, alias_of, value_target}
-use Rattle.cq_bind_calls.proofs.Loops.{follow_same, err_is, binds_then, refused_then}
+use Rattle.cq_bind_lists.specs.Stars.{target_if, alias_of, value_target}
+use Rattle.cq_bind_calls.proofs.Loops.{follow_same, err_is}
 
 -- ---- lists behind each other
 
@@ -40,6 +41,9 @@ pub binds_items : {S A : Type 0} (r : S → Target → Reading S) (columns : Lis
     → Binds (through (λ u a. through r (targets_of columns (part a)) u) xs s f) res new → Binds (through r (targets columns (map part xs)) t f) res new
 binds_items r columns part xs s t f res new e h = subst (λ u. Binds (through r (targets columns (map part xs)) u f) res new) e (subst (λ o. Binds o res new) (sym (by_items r columns part xs s f)) h)
 
+pub binds_from : {S A : Type 0} (r : S → A → Reading S) (xs : List A) (s t : S) (f : Found) (res : Result S BindError) (new : Found) → s ≡ t → Binds (through r xs s f) res new → Binds (through r xs t f) res new
+binds_from r xs s t f res new e h = subst (λ u. Binds (through r xs u f) res new) e h
+
 -- ---- a list of one
 
 follow_give : {A : Type 0} (o : Result (A × Found) BindError) → follow o give ≡ o
@@ -51,46 +55,36 @@ binds_one r t s f res new h = subst (λ o. Binds o res new) (sym (follow_give (r
 
 -- ---- the columns that `*` stands for
 
--- without the place
-abbrev kept : {S : Type 0} → Result ((S × ℕ) × Found) BindError → Result (S × Found) BindError
-kept (Ok p) = Ok (p.0.0, p.1)
-kept (Err e) = Err e
-
-kept_follow : {S : Type 0} (o : Result (S × Found) BindError) (j : ℕ) (k : S × ℕ → Reading (S × ℕ)) (h : S → Reading S) → ((t : S) (g : Found) → kept (k (t, j) g) ≡ h t g)
-    → kept (follow (follow o (λ t. give (t, j))) k) ≡ follow o h
-kept_follow (Ok p) j k h e = e p.0 p.1
-kept_follow (Err x) j k h e = refl
-
 module _ {S : Type 0} (r : S → Target → Reading S) (at : ℕ) (is : Source → Bool) where
-  star_is : (b : Bool) (x : Source) (xs : List Source) (s : S) (i : ℕ) (f : Found) → ((t : S) (g : Found) → kept (through (star_step r at is) xs (t, i + 1) g) ≡ through r (star_columns at is (i + 1) xs) t g) → is x ≡ b
-      → kept (through (star_step r at is) (x ∷ xs) (s, i) f) ≡ through r (star_columns at is i (x ∷ xs)) s f
-  star_is true x xs s i f h e = rw e (kept_follow (r s (star_column at i x) f) (i + 1) (through (star_step r at is) xs) (through r (star_columns at is (i + 1) xs)) h)
-  star_is false x xs s i f h e = rw e (h s f)
-
-  stars_by : (xs : List Source) (s : S) (i : ℕ) (f : Found) → kept (through (star_step r at is) xs (s, i) f) ≡ through r (star_columns at is i xs) s f
-  stars_by [] s i f = refl
-  stars_by (x ∷ xs) s i f = star_is (is x) x xs s i f (λ t g. stars_by xs t (i + 1) g) refl
-
-  -- all of them
-  pub stars_done : (ys xs : List Source) (s : S) (f g : Found) (p : S × ℕ) → ys ≡ xs → through (star_step r at is) ys (s, 0) f ≡ Ok (p, g) → through r (star_columns at is 0 xs) s f ≡ Ok (p.0, g)
-  stars_done ys xs s f g p e h = sym (stars_by xs s 0 f) ∙ ap kept (ap (λ zs. through (star_step r at is) zs (s, 0) f) (sym e) ∙ h)
-
-  -- one that is refused
-  pub stars_stop : (ys xs : List Source) (s : S) (f g : Found) (e : BindError) (res : Result S BindError) (last : Found) → ys ≡ xs → Binds (through (star_step r at is) ys (s, 0) f) (Err e) g → IsErrAnd res (λ y. y ≡ e) → Binds (through r (star_columns at is 0 xs) s f) res last
-  stars_stop ys xs s f g e res last d h k =
-      subst (λ z. Binds (through r (star_columns at is 0 xs) s f) z last) (sym (err_is res e k)) (λ n. sym (stars_by xs s 0 f) ∙ ap kept (ap (λ zs. through (star_step r at is) zs (s, 0) f) (sym d) ∙ h n))
-
   -- one of them
   pub meant_so : (b : Bool) (s : S) (i : ℕ) (c : Source) (res : Result S BindError) → b ≡ true → Judges (r s (star_column at i c)) res → Judges (target_if r at b s i c) res
   meant_so b s i c res e h = λ f. subst (λ t. Binds (target_if r at t s i c f) res f) (sym e) (h f)
 
-  pub step_ok : (p : S × ℕ) (c : Source) (b : Bool) (t : S) (n : ℕ) → b ≡ is c → Judges (target_if r at b p.0 p.1 c) (Ok t) → n ≡ p.1 + 1 → Judges (star_step r at is p c) (Ok (t, n))
-  step_ok p c b t n e h k = λ f.
-      binds_then (λ u. give (u, p.1 + 1)) (target_if r at (is c) p.0 p.1 c f) t f (Ok (t, n)) f (subst (λ d. target_if r at d p.0 p.1 c f ≡ Ok (t, f)) e (h f)) (ap (λ m. Ok ((t, m), f)) (sym k))
+  pub not_meant : (b : Bool) (s : S) (i : ℕ) (c : Source) → b ≡ false → Judges (target_if r at b s i c) (Ok s)
+  not_meant b s i c e = λ f. subst (λ t. Binds (target_if r at t s i c f) (Ok s) f) (sym e) refl
 
-  pub step_err : (p : S × ℕ) (c : Source) (b : Bool) (x : BindError) (res : Result (S × ℕ) BindError) → b ≡ is c → Judges (target_if r at b p.0 p.1 c) (Err x) → IsErrAnd res (λ y. y ≡ x) → Judges (star_step r at is p c) res
-  step_err p c b x res e h k = λ f.
-      refused_then (target_if r at (is c) p.0 p.1 c f) (λ u. give (u, p.1 + 1)) x f res f (subst (λ d. Binds (target_if r at d p.0 p.1 c f) (Err x) f) e (h f)) k
+  star_first : (b : Bool) (x : Source) (xs : List Source) (s : S) (i : ℕ) (f : Found) → is x ≡ b → through r (star_columns at is i (x ∷ xs)) s f ≡ follow (target_if r at (is x) s i x f) (through r (star_columns at is (i + 1) xs))
+  star_first true x xs s i f e = rw e refl
+  star_first false x xs s i f e = rw e refl
+
+  module _ (xs : List Source) (i : ℕ) (x d : Source) (s : S) where
+    dropped : i < length xs → x ≡ get_or xs i d → drop i xs ≡ x ∷ drop (i + 1) xs
+    dropped h k = rw (drop-cons xs i d, ← k, add-one)
+
+    star_next : (f : Found) → i < length xs → x ≡ get_or xs i d → through r (star_columns at is i (drop i xs)) s f ≡ follow (target_if r at (is x) s i x f) (through r (star_columns at is (i + 1) (drop (i + 1) xs)))
+    star_next f h k = ap (λ ys. through r (star_columns at is i ys) s f) (dropped h k) ∙ star_first (is x) x (drop (i + 1) xs) s i f refl
+
+    -- one more column
+    pub star_goes_on : (t : S) (o : Result (S × Found) BindError) (f : Found) → o ≡ through r (star_columns at is i (drop i xs)) s f → i < length xs → x ≡ get_or xs i d → Judges (target_if r at (is x) s i x) (Ok t) → o ≡ through r (star_columns at is (i + 1) (drop (i + 1) xs)) t f
+    star_goes_on t o f q h k a = q ∙ star_next f h k ∙ ap (λ z. follow z (through r (star_columns at is (i + 1) (drop (i + 1) xs)))) (a f)
+
+    -- a column that is refused
+    pub star_stops : (e : BindError) (res : Result S BindError) (o : Result (S × Found) BindError) (f : Found) → o ≡ through r (star_columns at is i (drop i xs)) s f → i < length xs → x ≡ get_or xs i d → Judges (target_if r at (is x) s i x) (Err e) → IsErrAnd res (λ y. y ≡ e) → Binds o res f
+    star_stops e res o f q h k a w = subst (λ z. Binds o z f) (sym (err_is res e w)) (λ ne. q ∙ star_next f h k ∙ ap (λ z. follow z (through r (star_columns at is (i + 1) (drop (i + 1) xs)))) (a f ne))
+
+  -- after the last
+  pub star_ends : (xs : List Source) (i : ℕ) (s : S) (o : Result (S × Found) BindError) (f : Found) → o ≡ through r (star_columns at is i (drop i xs)) s f → length xs ≤ i → o ≡ Ok (s, f)
+  star_ends xs i s o f q h = q ∙ rw (drop_all _ _ h)
 
 -- ---- a value under its name
 

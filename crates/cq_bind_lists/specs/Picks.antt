@@ -1,13 +1,12 @@
 -- Targets of a name, and the target of a number, as they are come to one by one.
-use Rattle.std.specs.Prelude.{ℕ, zero, suc, Bool, true, false, bytes_eq, if◌then◌else◌, List, Option, None, Some}
+use Rattle.std.specs.Prelude.{ℕ, zero, suc, bytes_eq, if◌then◌else◌, List}
 use Rattle.cq_reading.specs.declared.bound.Bound.{Bound}
 use Rattle.cq_reading.specs.declared.error.BindError.TheVariants as error
-use Rattle.cq_reading.specs.Steps.{Reading, give, refuse, ◌then◌, with_next, through}
+use Rattle.cq_reading.specs.Steps.{Reading, give, refuse, ◌then◌, with_next}
 use Rattle.cq_reading.specs.Scopes.{Context}
-use Rattle.cq_reading.specs.Parts.{ItemPart}
-use Rattle.cq_reading.specs.Selects.{Target, value_of, targets_of}
-use Rattle.cq_bind_lists.specs.declared.groups.Pick.{Pick}
-use Rattle.cq_bind_lists.specs.declared.groups.Pick.TheVariants as pick
+use Rattle.cq_reading.specs.Selects.{Target, value_of}
+use Rattle.cq_bind_lists.specs.declared.pick.Pick.{Pick}
+use Rattle.cq_bind_lists.specs.declared.pick.Pick.TheVariants as pick
 
 abbrev pub target_value : Context → Target → Reading Bound
 target_value cx t = value_of t.at (t.reads cx)
@@ -15,9 +14,6 @@ target_value cx t = value_of t.at (t.reads cx)
 -- one more value, where the target has the name
 abbrev pub with_titled : Context → List ℕ → List Bound → Target → Reading (List Bound)
 with_titled cx name before t = if bytes_eq t.title name then with_next (target_value cx) before t else give before
-
-abbrev pub with_titled_item : Context → List ℕ → List Bound → ItemPart → Reading (List Bound)
-with_titled_item cx name before i = through (with_titled cx name) (targets_of cx.columns i) before
 
 abbrev pub skipping : ℕ → Pick
 skipping n = pick.Skip n
@@ -30,9 +26,6 @@ abbrev pub picked : Context → Pick → Target → Reading Pick
 picked cx (pick.Got b) t = give (pick.Got b)
 picked cx (pick.Skip zero) t = first_pick cx t
 picked cx (pick.Skip (suc n)) t = give (pick.Skip n)
-
-abbrev pub picked_item : Context → Pick → ItemPart → Reading Pick
-picked_item cx p i = through (picked cx) (targets_of cx.columns i) p
 
 abbrev pub the_pick : ℕ → Pick → Reading Bound
 the_pick at (pick.Got b) = give b

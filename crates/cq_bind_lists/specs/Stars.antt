@@ -1,5 +1,5 @@
 -- Outputs by the items of a select list, and the columns that `*` stands for.
-use Rattle.std.specs.Prelude.{ℕ, ◌+◌, Bool, true, false, ◌&&◌, not, if◌then◌else◌, List, Option}
+use Rattle.std.specs.Prelude.{ℕ, Bool, true, false, ◌&&◌, not, if◌then◌else◌, List, Option}
 use Rattle.std.specs.Option.{option_map}
 use Rattle.cq_tree.specs.declared.expression.Expr.{Expr}
 use Rattle.cq_grammar.specs.declared.name.Name.{Name}
@@ -8,14 +8,14 @@ use Rattle.cq_reading.specs.declared.bound.Bound.{Bound}
 use Rattle.cq_reading.specs.declared.bound.Shown.{Shown}
 use Rattle.cq_reading.specs.declared.error.BindError.TheVariants as error
 use Rattle.cq_reading.specs.declared.error.Limited.TheVariants as limited
-use Rattle.cq_reading.specs.Steps.{Reading, give, refuse, ◌then◌, provided, through}
+use Rattle.cq_reading.specs.Steps.{Reading, give, refuse, provided}
 use Rattle.cq_reading.specs.Rules.{keyed, if_key, key_column}
 use Rattle.cq_reading.specs.Scopes.{Context, column_at, is_of}
-use Rattle.cq_reading.specs.Parts.{Part, ItemPart}
+use Rattle.cq_reading.specs.Parts.{Part}
 use Rattle.cq_reading.specs.Expressions.{reads, behind_keys, named_in_group}
-use Rattle.cq_reading.specs.Selects.{Target, star_column, targets_of, title_by, read_target, with_one_more}
-use Rattle.cq_bind_lists.specs.declared.outputs.Star.{Star}
-use Rattle.cq_bind_lists.specs.declared.outputs.Star.TheVariants as star
+use Rattle.cq_reading.specs.Selects.{Target, star_column, title_by, read_target, with_one_more}
+use Rattle.cq_bind_lists.specs.declared.stars.Star.{Star}
+use Rattle.cq_bind_lists.specs.declared.stars.Star.TheVariants as star
 
 -- whether a column is meant by `*` or `relation.*`
 abbrev pub meant : Star → Source → Bool
@@ -40,17 +40,9 @@ key_or_refused keys b at = if_key (key_column keys b) (refuse (error.NotGrouped 
 abbrev pub target_if : {S : Type 0} → (S → Target → Reading S) → ℕ → Bool → S → ℕ → Source → Reading S
 target_if r at is s i c = if is then r s (star_column at i c) else give s
 
--- the next column, of which the place is counted
-abbrev pub star_step : {S : Type 0} → (S → Target → Reading S) → ℕ → (Source → Bool) → S × ℕ → Source → Reading (S × ℕ)
-star_step r at is s c = target_if r at (is c) s.0 s.1 c then (λ t. give (t, s.1 + 1))
-
 -- one more output, of which there are at most 512
 abbrev pub with_output : Context → List Shown → Target → Reading (List Shown)
 with_output cx = with_one_more 512 limited.Outputs (read_target cx)
-
--- the outputs of one more item
-abbrev pub with_item : Context → List Shown → ItemPart → Reading (List Shown)
-with_item cx before i = through (with_output cx) (targets_of cx.columns i) before
 
 abbrev pub alias_of : Option Name → Option (List ℕ)
 alias_of name = option_map (λ n. n.text) name

@@ -5,9 +5,13 @@
 //! end of a scope a function has all of the tree's destructor, and its proof goes through each variant of it.
 #![tactic(auto)]
 
+mod gather;
 mod groups;
 mod lists;
 mod orders;
 mod outputs;
+mod pick;
+mod stars;
+mod values;
 
 pub use lists::Lists;

@@ -1,4 +1,4 @@
-//! What the binder does with names, relations, the keys of ORDER BY and GROUP BY, and the parts of a SELECT, as far as no
+//! What the binder does with names, relations, the keys of ORDER BY and GROUP BY, and the ends of a SELECT, as far as no
 //! expression is walked.
 #![tactic(auto)]
 
@@ -8,7 +8,7 @@ mod orders;
 mod relations;
 mod same;
 
-pub use blocks::{Clauses, Outer, Parts, block_of, enter, leave, unordered};
+pub use blocks::{Outer, enter, leave, unordered};
 pub use orders::{key_by_number, key_by_output, key_by_value, one_of, output_place};
 pub use relations::{
     all_names, check_one_more, crossed, joined_inner, joined_left, no_relations, reached,

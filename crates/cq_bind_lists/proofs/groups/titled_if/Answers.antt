@@ -1,6 +1,0 @@
-use Rattle.cq_bind_lists.specs.Picks.{with_titled}
-use Rattle.cq_bind_lists.proofs.Targets.{meant_so}
-use Rattle.cq_bind_lists.proofs.groups.titled_if.Goals as goal
-
-pub returns-then-is_meant : goal.returns-then-is_meant
-returns-then-is_meant c = meant_so (with_titled c.args.scope.now c.args.name.now) c.args.at (λ s. c.args.is_meant) c.args.is_meant c.args.before c.args.place c.args.column.now _ c.if-is_meant.true c.with_star.ensures

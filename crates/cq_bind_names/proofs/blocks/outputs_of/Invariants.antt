@@ -1,6 +1,0 @@
-use Rattle.std.proofs.Common.{◌≡◌, take, map}
-use Rattle.cq_reading.specs.Selects.{output_of}
-use Rattle.cq_bind_names.proofs.blocks.outputs_of.Given as goal
-
-abbrev pub invariant-loop-s : goal.invariant-loop-s
-invariant-loop-s l = l.all ≡ map (output_of) (take l.s-index l.outputs)
