@@ -49,21 +49,19 @@ prepare() {
     fi
 }
 
-# The best time of three runs in microseconds. Words: a program, and the files of statements that follow its table.
-best_of_three() {
+# Runs a program once, and keeps the time in microseconds where it is the best so far. Words: the program, a name for the time, and the files of
+# statements that follow its table.
+time_once() {
     program=$1
-    shift
+    best=$work/$1.$2.best
+    shift 2
     cat "$work/$program.head" "$@" >"$work/script"
-    best=
-    for _ in 1 2 3; do
-        start=$(date +%s%N)
-        "run_$program" <"$work/script" >"$work/$program.out"
-        took=$((($(date +%s%N) - start) / 1000))
-        if [ -z "$best" ] || [ "$took" -lt "$best" ]; then
-            best=$took
-        fi
-    done
-    echo "$best"
+    start=$(date +%s%N)
+    "run_$program" <"$work/script" >"$work/$program.out"
+    took=$((($(date +%s%N) - start) / 1000))
+    if [ ! -f "$best" ] || [ "$took" -lt "$(cat "$best")" ]; then
+        echo "$took" >"$best"
+    fi
 }
 
 # The rows that a program answered in its last run. citus_run writes them before their number, an empty one for a distribution, and the moves of a
@@ -103,16 +101,22 @@ check_same() {
     done
 }
 
-# Prints the programs' times for a file of statements as ratios to sqlite3's. A file of statements runs before them, and its time
-# is taken off. Words: a title, the file before, the file that is compared.
+# Prints the programs' times for a file of statements as ratios to sqlite3's, each the best of five runs, in which the programs take turns, so that
+# what slows the machine for a while slows all of them. A file of statements runs before them, and its time is taken off. Words: a title, the file
+# before, the file that is compared.
 compare() {
+    rm -f "$work"/*.best
+    for _ in 1 2 3 4 5; do
+        for program in $programs; do
+            first=$(file_for "$program" "$2")
+            time_once "$program" before "$first"
+            time_once "$program" both "$first" "$(file_for "$program" "$3")"
+        done
+    done
     line="$1: "
     unit=
     for program in $programs; do
-        first=$(file_for "$program" "$2")
-        before=$(best_of_three "$program" "$first")
-        both=$(best_of_three "$program" "$first" "$(file_for "$program" "$3")")
-        took=$((both - before))
+        took=$(($(cat "$work/$program.both.best") - $(cat "$work/$program.before.best")))
         [ "$took" -gt 0 ] || fail "$1: too short to be measured, take more rows"
         check_rows "$1" "$program"
         [ -z "$unit" ] || line="$line, "
