@@ -8,4 +8,4 @@ mod shared;
 
 pub use numbered::Numbered;
 pub use page::Page;
-pub use shared::SharedRows;
+pub use shared::{LentRow, SharedRows};

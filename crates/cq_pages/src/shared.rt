@@ -1,7 +1,7 @@
 ghost use Rattle.std.specs.Prelude.{◌≡◌, ◌++◌, length, map, IfOk, OnOk, IfSome};
 ghost use Rattle.cq_value.specs.Tables.{rows_of};
 ghost use Rattle.cq_pages.specs.Pages.{pairs_of};
-ghost use Rattle.cq_pages.specs.Shared.{rows_of_parts};
+ghost use Rattle.cq_pages.specs.Shared.{row_lent, rows_of_parts};
 
 use crate::numbered::Numbered;
 use crate::page::Page;
@@ -34,19 +34,25 @@ impl Model for SharedRows {
     ghost view = { λ s. s.first ++ rows_of_parts s.parts };
 }
 
+/// A row that is lent.
+#[derive(Clone, Copy, Debug)]
+pub struct LentRow<'a> {
+    pub row: &'a Row,
+}
+
 /// Puts the rows of a page last, lent.
-fn lend_page<'a>(page: &'a [(u64, Row)], all: &mut Items<&'a Row>) -> Result<(), NoMemory>
-    ensures { OnOk result (map (λ r. r.now) all.new ≡ map (λ r. r.now) all.old ++ map (λ p. p.1) page.now) }
+fn lend_page<'a>(page: &'a [(u64, Row)], all: &mut Items<LentRow<'a>>) -> Result<(), NoMemory>
+    ensures { OnOk result (map row_lent all.new ≡ map row_lent all.old ++ map (λ p. p.1) page.now) }
 {
     for pair in page {
-        all.put(&pair.1)?;
+        all.put(LentRow { row: &pair.1 })?;
     }
     Ok(())
 }
 
 /// Puts the rows of pages last, lent.
-fn lend_pages<'a>(pages: &'a [Page], all: &mut Items<&'a Row>) -> Result<(), NoMemory>
-    ensures { OnOk result (map (λ r. r.now) all.new ≡ map (λ r. r.now) all.old ++ map (λ p. p.1) (pairs_of pages.now)) }
+fn lend_pages<'a>(pages: &'a [Page], all: &mut Items<LentRow<'a>>) -> Result<(), NoMemory>
+    ensures { OnOk result (map row_lent all.new ≡ map row_lent all.old ++ map (λ p. p.1) (pairs_of pages.now)) }
 {
     for page in pages {
         lend_page(page.pairs(), all)?;
@@ -55,18 +61,18 @@ fn lend_pages<'a>(pages: &'a [Page], all: &mut Items<&'a Row>) -> Result<(), NoM
 }
 
 /// Puts rows last, lent.
-fn lend_rows<'a>(rows: &'a [Row], all: &mut Items<&'a Row>) -> Result<(), NoMemory>
-    ensures { OnOk result (map (λ r. r.now) all.new ≡ map (λ r. r.now) all.old ++ rows.now) }
+fn lend_rows<'a>(rows: &'a [Row], all: &mut Items<LentRow<'a>>) -> Result<(), NoMemory>
+    ensures { OnOk result (map row_lent all.new ≡ map row_lent all.old ++ rows.now) }
 {
     for row in rows {
-        all.put(row)?;
+        all.put(LentRow { row })?;
     }
     Ok(())
 }
 
 /// Puts the rows of parts last, lent.
-fn lend_parts<'a>(parts: &'a [Part], all: &mut Items<&'a Row>) -> Result<(), NoMemory>
-    ensures { OnOk result (map (λ r. r.now) all.new ≡ map (λ r. r.now) all.old ++ rows_of_parts parts.now) }
+fn lend_parts<'a>(parts: &'a [Part], all: &mut Items<LentRow<'a>>) -> Result<(), NoMemory>
+    ensures { OnOk result (map row_lent all.new ≡ map row_lent all.old ++ rows_of_parts parts.now) }
 {
     for part in parts {
         match part {
@@ -78,12 +84,12 @@ fn lend_parts<'a>(parts: &'a [Part], all: &mut Items<&'a Row>) -> Result<(), NoM
 }
 
 /// Copies of lent rows.
-fn copy_all(alloc: Global, rows: &[&Row]) -> Result<Rows, NoMemory>
-    ensures { IfOk result (λ all. all ≡ map (λ r. r.now) rows.now) }
+fn copy_all(alloc: Global, rows: &[LentRow<'_>]) -> Result<Rows, NoMemory>
+    ensures { IfOk result (λ all. all ≡ map row_lent rows.now) }
 {
     let mut all = Rows::with_room(alloc, rows.len() as u64)?;
-    for row in rows {
-        all.put(row.copy(alloc)?)?;
+    for lent in rows {
+        all.put(lent.row.copy(alloc)?)?;
     }
     Ok(all)
 }
@@ -147,8 +153,8 @@ impl SharedRows {
     }
 
     /// The rows, lent, in order. Copies no row.
-    pub fn lend(&self, alloc: Global) -> Result<Items<&Row>, NoMemory>
-        ensures { IfOk result (λ all. map (λ r. r.now) all ≡ self.now) }
+    pub fn lend(&self, alloc: Global) -> Result<Items<LentRow<'_>>, NoMemory>
+        ensures { IfOk result (λ all. map row_lent all ≡ self.now) }
     {
         let count = self
             .first
@@ -160,6 +166,14 @@ impl SharedRows {
         Ok(all)
     }
 
+    /// Copies of the rows.
+    pub fn copy_rows(&self, alloc: Global) -> Result<Rows, NoMemory>
+        ensures { IfOk result (λ rows. rows ≡ self.now) }
+    {
+        let lent = self.lend(alloc)?;
+        copy_all(alloc, lent.as_slice())
+    }
+
     /// The rows as a list of its own, copied where pages are shared.
     pub fn into_rows(self, alloc: Global) -> Result<Rows, NoMemory>
         ensures { IfOk result (λ rows. rows ≡ self) }
@@ -169,7 +183,6 @@ impl SharedRows {
             drop(parts);
             return Ok(first);
         }
-        let lent = self.lend(alloc)?;
-        copy_all(alloc, lent.as_slice())
+        self.copy_rows(alloc)
     }
 }

@@ -1,7 +1,9 @@
+pub mod CutLaws
 pub mod FirstLaws
 pub mod GroupPush
 pub mod JoinedLaws
 pub mod KeptLaws
+pub mod LentLaws
 pub mod PairLaws
 pub mod PruneLaws
 pub mod StepLaws

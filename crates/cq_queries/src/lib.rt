@@ -18,10 +18,12 @@ mod relation;
 mod rows;
 mod select;
 mod sorting;
+mod tables;
 mod tally;
 mod tallying;
 mod ties;
 
 pub use expression::{eval, test};
 pub use members::{Listed, Lookups};
-pub use query::{Tables, finish, run_query};
+pub use query::{finish, run_query};
+pub use tables::Tables;

@@ -47,7 +47,7 @@ fn may_compare(op: Op, left: &Expr, right: &Expr, row: &Row) -> bool
 }
 
 /// Whether a condition may be true of rows that begin with a row, as far as its conjuncts say that compare a column with a literal.
-fn may_keep(c: &Cond, row: &Row) -> bool
+pub fn may_keep(c: &Cond, row: &Row) -> bool
     ensures { result ≡ may_keep_by_rule c.now row.now }
 {
     match c {

@@ -1,7 +1,7 @@
 use Rattle.std.proofs.Common.{◌≡◌, ◌++◌, map, take, drop}
 use Rattle.cq_pages.specs.Pages.{pairs_of}
-use Rattle.cq_pages.specs.Shared.{rows_of_parts}
+use Rattle.cq_pages.specs.Shared.{row_lent, rows_of_parts}
 use Rattle.cq_pages.proofs.shared.copy_all.Given as goal
 
-abbrev pub invariant-loop-row : goal.invariant-loop-row
-invariant-loop-row l = l.all ≡ map (λ r. r.now) (take l.row-index l.rows)
+abbrev pub invariant-loop-lent : goal.invariant-loop-lent
+invariant-loop-lent l = l.all ≡ map row_lent (take l.lent-index l.rows)
