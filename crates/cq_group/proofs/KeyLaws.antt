@@ -51,6 +51,12 @@ rows_picked wanted (p ∷ ps) =
       | false ↦ rows_picked wanted ps
     ]
 
+-- where no value is wanted, all rows are those that have the values
+pub none_wanted : (wanted : List (ℕ × Value)) (rows : List Row) → length wanted ≡ 0 → filter (has_values wanted) rows ≡ rows
+none_wanted [] [] none = refl
+none_wanted [] (row ∷ rows) none = ap (λ rs. row ∷ rs) (none_wanted [] rows none)
+none_wanted (p ∷ ps) rows none = absurd (omega (arith, none))
+
 -- the rows that have what is demanded
 pub demanded_picked : (wanted values : List (ℕ × Value)) (pairs some : List Pair) → wanted ≡ values → some ≡ filter (λ (p : Pair). has_values wanted p.1) pairs → some ≡ pairs_with values pairs
 demanded_picked wanted values pairs some same is = is ∙ ap (λ v. pairs_with v pairs) same

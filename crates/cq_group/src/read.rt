@@ -10,6 +10,7 @@ ghost use Rattle.cq_group.specs.Calls.{Rests, Lifted, Blames, IsOn, IsSameBut, G
 use crate::group::{Capture, GroupError, GroupState, Tables};
 use crate::place::place_of;
 use cq_demands::{Wanted, Wants, wants_at};
+use cq_pages::SharedRows;
 use cq_store::{ColumnValues, Store};
 use cq_tree::{Entry, EntryKind, Who};
 use cq_value::{NoMemory, Positions, Rows};
@@ -19,10 +20,11 @@ impl<S: Store> GroupState<S> {
     /// The rows of one table that have these values, from the store in a place of its list.
     fn pick_table(
         &mut self,
+        alloc: Global,
         table: u32,
         copy: usize,
         wanted: &ColumnValues,
-    ) -> Result<Rows, GroupError>
+    ) -> Result<SharedRows, GroupError>
         requires kept { IsKept S.state self.old }
         requires there { HasTable self.old table }
         requires copy { copy < copies_of self.old }
@@ -33,7 +35,7 @@ impl<S: Store> GroupState<S> {
         ensures here { IfErr result (IsOn (node_at self.old.node copy)) }
     {
         let place = place_of(&self.tables, table);
-        self.tables[place].pick(copy, wanted)
+        self.tables[place].read(alloc, copy, wanted)
     }
 
     /// The rows of the named tables that have what is wanted of them, in order, from the stores in a place of their lists.
@@ -56,7 +58,8 @@ impl<S: Store> GroupState<S> {
         let none = Wanted::new(alloc);
         let mut seen = Tables::new(alloc);
         for table in tables.as_slice() {
-            let rows = self.pick_table(*table, copy, wants_at(wants.as_slice(), *table, &none))?;
+            let wanted = wants_at(wants.as_slice(), *table, &none);
+            let rows = self.pick_table(alloc, *table, copy, wanted)?;
             if seen.put((*table, rows)).is_err() {
                 return Err(GroupError::Memory);
             }
@@ -191,8 +194,12 @@ impl<S: Store> GroupState<S> {
         ensures near { IfErr result (IsOn (node_read self.old near)) }
         ensures steady { IfErr result (λ e. IsSteady S.state self.old → e ≡ GroupError.Memory) }
     {
+        let alloc = *self.tables.allocator();
         let copy = self.copy_near(near);
-        let rows = self.pick_table(table, copy, wanted)?;
+        let shared = self.pick_table(alloc, table, copy, wanted)?;
+        let Ok(rows) = shared.into_rows(alloc) else {
+            return Err(GroupError::Memory);
+        };
         self.append_read(who)?;
         Ok(rows)
     }

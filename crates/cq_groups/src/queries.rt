@@ -29,6 +29,7 @@ use cq_answer::{Answer, Fault, What};
 use cq_catalog::Catalog;
 use cq_demands::{Wants, wanted_by};
 use cq_group::{GroupState, Tables};
+use cq_pages::SharedRows;
 use cq_plan::touched_by_query;
 use cq_store::Store;
 use cq_tree::{Query, QueryError, Who};
@@ -160,7 +161,7 @@ fn pick_and_compute<S: Store>(
         Err(error) => return Answer::Failed(fault_of(error)),
     };
     let mut tables = Tables::new(alloc);
-    let Ok(()) = tables.put((shard.table, rows)) else {
+    let Ok(()) = tables.put((shard.table, SharedRows::own(alloc, rows))) else {
         return Answer::Failed(Fault::Memory);
     };
     compute(alloc, hash, query, names, &tables)

@@ -22,10 +22,10 @@ returns-clause-rows g c =
     let place = c.place_of-place.result in
     let t = c.index_mut.result.now in
     let is : t ≡ get_or ts place t = search rules in
-    IfOk-weaker c.pick.result (λ rows. HoldsAt (λ x. rows ≡ picked (state x).rows) t.stores.items c.args.copy) _
+    IfOk-weaker c.read.result (λ rows. HoldsAt (λ x. rows ≡ picked (state x).rows) t.stores.items c.args.copy) _
     (λ rows h. rows_found state picked c.args.self.now place c.args.table c.args.copy t rows c.requires.kept c.place_of-place.ensures.within is
     (ap (λ x. x.table) is ∙ c.place_of-place.ensures.found t) c.requires.copy h)
-    c.pick.ensures.rows
+    c.read.ensures.rows
 
 pub returns-clause-same : goal.returns-clause-same
 returns-clause-same g c =
@@ -36,19 +36,19 @@ returns-clause-same g c =
       nodes = refl;
       room = refl;
       moving = same_move c.args.self.now.moving;
-      tables = zip_set (IsRestingTable (Lifted state Rests)) (λ a. table_refl (Lifted state Rests) (λ x. rests (state x)) a) c.args.self.now.tables.items c.place_of-place.result t c.pick.new.self
-          c.place_of-place.ensures.within (search rules) c.pick.ensures.same;
+      tables = zip_set (IsRestingTable (Lifted state Rests)) (λ a. table_refl (Lifted state Rests) (λ x. rests (state x)) a) c.args.self.now.tables.items c.place_of-place.result t c.read.new.self
+          c.place_of-place.ensures.within (search rules) c.read.ensures.same;
     }
 
 pub returns-clause-blame : goal.returns-clause-blame
 returns-clause-blame g c =
     let state = g.S.Store.state in
     let t = c.index_mut.result.now in
-    let u = c.pick.new.self in
-    IfErr-weaker c.pick.result (λ e. Blames state e t.stores.items u.stores.items) _
+    let u = c.read.new.self in
+    IfErr-weaker c.read.result (λ e. Blames state e t.stores.items u.stores.items) _
     (λ e h. blames_group state e c.args.self.now.tables.items c.place_of-place.result t u c.place_of-place.ensures.within (search rules)
-    (rested_go_on state t.stores.items u.stores.items c.pick.ensures.same.same.stores) h)
-    c.pick.ensures.blame
+    (rested_go_on state t.stores.items u.stores.items c.read.ensures.same.same.stores) h)
+    c.read.ensures.blame
 
 pub returns-clause-here : goal.returns-clause-here
 returns-clause-here g c =
@@ -57,6 +57,6 @@ returns-clause-here g c =
     let place = c.place_of-place.result in
     let t = c.index_mut.result.now in
     let is : t ≡ get_or group.tables.items place t = search rules in
-    IfErr-weaker c.pick.result (λ e. HoldsAt (λ x. IsOn (state x).node e) t.stores.items c.args.copy) _
+    IfErr-weaker c.read.result (λ e. HoldsAt (λ x. IsOn (state x).node e) t.stores.items c.args.copy) _
     (λ e h. node_found state group place c.args.copy t e c.requires.kept c.place_of-place.ensures.within is c.requires.copy h)
-    c.pick.ensures.here
+    c.read.ensures.here

@@ -40,7 +40,7 @@ loop-table-preserved g c =
     let table = slice_index_or tables c.loop-table.table-index 0 in
     let put : c.put.new.self ≡ c.loop-table.seen ++ (table, c.in_ok-rows.rows) ∷ [] = search rules in
     let wants = c.args.wants.now in
-    let wanted : c.wants_at.result.now ≡ wants_at wants table = c.wants_at.ensures ∙ ap (λ ws. wants_at ws table) c.as_slice.ensures in
+    let wanted : c.wants_at-wanted.result.now ≡ wants_at wants table = c.wants_at-wanted.ensures ∙ ap (λ ws. wants_at ws table) c.as_slice.ensures in
     let row : c.in_ok-rows.rows ≡ rows_with (wants_at wants table) (captured group table).1 =
     c.in_ok-rows.ensures.rows ∙ (λ i. rows_with (wanted i) ((rested_captured state group c.loop-table.self table c.loop-table.invariant.1 c.loop-table.invariant.2 i).1)) in (
       put ∙ wanted_more wants (captured group) tables c.loop-table.table-index c.loop-table.seen (table, c.in_ok-rows.rows) (omega arith) c.loop-table.invariant.0 (λ i. (table, row i)),
