@@ -1,4 +1,4 @@
-ghost use Rattle.std.specs.Prelude.{◌≡◌, ℕ};
+ghost use Rattle.std.specs.Prelude.{◌≡◌, ℕ, ⊤};
 ghost use Rattle.cq_grammar.specs.Words as spec;
 ghost use Rattle.cq_grammar.specs.Nodes as node;
 ghost use Rattle.cq_grammar.specs.declared.rule.Rule.TheVariants.{Or};
@@ -13,8 +13,9 @@ use cq_grammar::{
     Argument, Ast, ColumnDef, CommonTable, CopyOption, Expr, Kind, Literal, Name, Query, Refusal,
     RowValues, Rule, Select, SetClause, SettingValue, TypeName,
 };
+use cq_parse_calls::{Phrase, list_of};
 use cq_parse_select::{expr, select};
-use cq_parse_steps::{NAMES, Parser, list};
+use cq_parse_steps::{NAMES, Parser};
 use cq_value::Items;
 
 /// The greatest depth of a token.
@@ -54,17 +55,6 @@ fn format_option(parser: &mut Parser<'_>) -> Result<CopyOption, Refusal>
         Kind::Text => CopyOption::FormatText { at },
         _ => CopyOption::FormatCsv { at },
     })
-}
-
-#[tactic(auto, unfolding(cq_grammar::specs::Reading::copy_option))]
-fn copy_option(parser: &mut Parser<'_>) -> Result<CopyOption, Refusal>
-    ensures { Reads (reading.copy_option parser.old) result parser.new }
-{
-    if parser.sees(&[Kind::Format]) {
-        return format_option(parser);
-    }
-    let at = parser.the(Kind::Header)?;
-    Ok(CopyOption::Header { at })
 }
 
 #[tactic(auto, unfolding(cq_grammar::specs::Reading::setting_value))]
@@ -132,19 +122,6 @@ fn argument_name(parser: &mut Parser<'_>) -> Result<Name, Refusal>
     Ok(found)
 }
 
-#[tactic(auto, unfolding(cq_grammar::specs::Reading::argument))]
-fn argument(parser: &mut Parser<'_>) -> Result<Argument, Refusal>
-    ensures { Reads (reading.argument parser.old) result parser.new }
-{
-    let name = if parser.sees(NAMES) {
-        Some(argument_name(parser)?)
-    } else {
-        None
-    };
-    let value = argument_value(parser)?;
-    Ok(Argument { name, value })
-}
-
 #[tactic(auto, unfolding(cq_grammar::specs::Reading::primary_words))]
 fn primary_words(parser: &mut Parser<'_>) -> Result<(u64, u64), Refusal>
     ensures { Reads (reading.primary_words parser.old) result parser.new }
@@ -182,22 +159,82 @@ fn column_def(parser: &mut Parser<'_>) -> Result<ColumnDef, Refusal>
     })
 }
 
+/// What stands between the commas of a list of names.
+#[derive(Drop)]
+struct NamePhrase;
+
+impl Phrase for NamePhrase {
+    type Tree = Name;
+
+    ghost reader = { λ _ _. descent.named spec.names };
+
+    ghost callable = { λ _. ⊤ };
+
+    fn phrase(&self, parser: &mut Parser<'_>, _before: usize) -> Result<Name, Refusal> {
+        name(parser)
+    }
+}
+
 fn names(parser: &mut Parser<'_>) -> Result<Items<Name>, Refusal>
     ensures { Reads (descent.list (λ _. descent.named spec.names) parser.old) result parser.new }
 {
-    list(parser, |parser, _| name(parser))
+    list_of(&NamePhrase, parser)
+}
+
+/// What stands between the commas of the options of a COPY.
+#[derive(Drop)]
+struct OptionPhrase;
+
+impl Phrase for OptionPhrase {
+    type Tree = CopyOption;
+
+    ghost reader = { λ _ _. reading.copy_option };
+
+    ghost callable = { λ _. ⊤ };
+
+    #[tactic(auto, unfolding(cq_grammar::specs::Reading::copy_option))]
+    fn phrase(&self, parser: &mut Parser<'_>, _before: usize) -> Result<CopyOption, Refusal> {
+        if parser.sees(&[Kind::Format]) {
+            return format_option(parser);
+        }
+        let at = parser.the(Kind::Header)?;
+        Ok(CopyOption::Header { at })
+    }
 }
 
 fn options(parser: &mut Parser<'_>) -> Result<Items<CopyOption>, Refusal>
     ensures { Reads (descent.list (λ _. reading.copy_option) parser.old) result parser.new }
 {
-    list(parser, |parser, _| copy_option(parser))
+    list_of(&OptionPhrase, parser)
+}
+
+/// What stands between the commas of a call.
+#[derive(Drop)]
+struct ArgumentPhrase;
+
+impl Phrase for ArgumentPhrase {
+    type Tree = Argument;
+
+    ghost reader = { λ _ _. reading.argument };
+
+    ghost callable = { λ _. ⊤ };
+
+    #[tactic(auto, unfolding(cq_grammar::specs::Reading::argument))]
+    fn phrase(&self, parser: &mut Parser<'_>, _before: usize) -> Result<Argument, Refusal> {
+        let name = if parser.sees(NAMES) {
+            Some(argument_name(parser)?)
+        } else {
+            None
+        };
+        let value = argument_value(parser)?;
+        Ok(Argument { name, value })
+    }
 }
 
 fn argument_list(parser: &mut Parser<'_>) -> Result<Items<Argument>, Refusal>
     ensures { Reads (descent.list (λ _. reading.argument) parser.old) result parser.new }
 {
-    list(parser, |parser, _| argument(parser))
+    list_of(&ArgumentPhrase, parser)
 }
 
 #[tactic(auto, unfolding(cq_grammar::specs::Reading::name_list))]
@@ -381,14 +418,6 @@ fn condition(parser: &mut Parser<'_>) -> Result<Expr, Refusal>
     expr(parser, MAX_DEPTH, Rule::Or)
 }
 
-/// An expression in a bracket of VALUES.
-#[tactic(auto, unfolding(crate::specs::Limit::limited))]
-fn value(parser: &mut Parser<'_>) -> Result<Expr, Refusal>
-    ensures { Reads (limited 1 (grammar.expr Or) parser.old) result parser.new }
-{
-    expr(parser, MAX_DEPTH - 1, Rule::Or)
-}
-
 #[tactic(auto, unfolding(cq_grammar::specs::Descent::filter))]
 fn filter(parser: &mut Parser<'_>) -> Result<Option<Expr>, Refusal>
     ensures { Reads (descent.filter limited parser.old) result parser.new }
@@ -401,26 +430,53 @@ fn filter(parser: &mut Parser<'_>) -> Result<Option<Expr>, Refusal>
     Ok(Some(condition))
 }
 
-#[tactic(auto, unfolding(cq_grammar::specs::Reading::row_values))]
-fn row_values(parser: &mut Parser<'_>) -> Result<RowValues, Refusal>
-    ensures { Reads (reading.row_values limited parser.old) result parser.new }
-{
-    let at = parser.the(Kind::Open)?;
-    let values = values(parser)?;
-    parser.the(Kind::Close)?;
-    Ok(RowValues { values, at })
+/// What stands between the commas of a row of VALUES.
+#[derive(Drop)]
+struct ValuePhrase;
+
+impl Phrase for ValuePhrase {
+    type Tree = Expr;
+
+    ghost reader = { λ _ _. limited 1 (grammar.expr Or) };
+
+    ghost callable = { λ _. ⊤ };
+
+    #[tactic(auto, unfolding(crate::specs::Limit::limited))]
+    fn phrase(&self, parser: &mut Parser<'_>, _before: usize) -> Result<Expr, Refusal> {
+        expr(parser, MAX_DEPTH - 1, Rule::Or)
+    }
 }
 
 fn values(parser: &mut Parser<'_>) -> Result<Items<Expr>, Refusal>
     ensures { Reads (descent.list (λ _. limited 1 (grammar.expr Or)) parser.old) result parser.new }
 {
-    list(parser, |parser, _| value(parser))
+    list_of(&ValuePhrase, parser)
+}
+
+/// What stands between the commas behind VALUES.
+#[derive(Drop)]
+struct RowPhrase;
+
+impl Phrase for RowPhrase {
+    type Tree = RowValues;
+
+    ghost reader = { λ _ _. reading.row_values limited };
+
+    ghost callable = { λ _. ⊤ };
+
+    #[tactic(auto, unfolding(cq_grammar::specs::Reading::row_values))]
+    fn phrase(&self, parser: &mut Parser<'_>, _before: usize) -> Result<RowValues, Refusal> {
+        let at = parser.the(Kind::Open)?;
+        let values = values(parser)?;
+        parser.the(Kind::Close)?;
+        Ok(RowValues { values, at })
+    }
 }
 
 fn rows(parser: &mut Parser<'_>) -> Result<Items<RowValues>, Refusal>
     ensures { Reads (descent.list (λ _. reading.row_values limited) parser.old) result parser.new }
 {
-    list(parser, |parser, _| row_values(parser))
+    list_of(&RowPhrase, parser)
 }
 
 #[tactic(auto, unfolding(cq_grammar::specs::Reading::insert))]
@@ -441,20 +497,30 @@ fn insert(parser: &mut Parser<'_>) -> Result<Ast, Refusal>
     })
 }
 
-#[tactic(auto, unfolding(cq_grammar::specs::Reading::set_clause))]
-fn set_clause(parser: &mut Parser<'_>) -> Result<SetClause, Refusal>
-    ensures { Reads (reading.set_clause limited parser.old) result parser.new }
-{
-    let column = name(parser)?;
-    parser.the(Kind::Equal)?;
-    let value = condition(parser)?;
-    Ok(SetClause { column, value })
+/// What stands between the commas behind SET.
+#[derive(Drop)]
+struct SetPhrase;
+
+impl Phrase for SetPhrase {
+    type Tree = SetClause;
+
+    ghost reader = { λ _ _. reading.set_clause limited };
+
+    ghost callable = { λ _. ⊤ };
+
+    #[tactic(auto, unfolding(cq_grammar::specs::Reading::set_clause))]
+    fn phrase(&self, parser: &mut Parser<'_>, _before: usize) -> Result<SetClause, Refusal> {
+        let column = name(parser)?;
+        parser.the(Kind::Equal)?;
+        let value = condition(parser)?;
+        Ok(SetClause { column, value })
+    }
 }
 
 fn sets(parser: &mut Parser<'_>) -> Result<Items<SetClause>, Refusal>
     ensures { Reads (descent.list (λ _. reading.set_clause limited) parser.old) result parser.new }
 {
-    list(parser, |parser, _| set_clause(parser))
+    list_of(&SetPhrase, parser)
 }
 
 #[tactic(auto, unfolding(cq_grammar::specs::Reading::update))]
@@ -493,22 +559,32 @@ fn inner(parser: &mut Parser<'_>) -> Result<Select, Refusal>
     select(parser, MAX_DEPTH - 1)
 }
 
-#[tactic(auto, unfolding(cq_grammar::specs::Reading::common_table))]
-fn common_table(parser: &mut Parser<'_>) -> Result<CommonTable, Refusal>
-    ensures { Reads (reading.common_table limited parser.old) result parser.new }
-{
-    let name = name(parser)?;
-    parser.the(Kind::As)?;
-    parser.the(Kind::Open)?;
-    let select = inner(parser)?;
-    parser.the(Kind::Close)?;
-    Ok(CommonTable { name, select })
+/// What stands between the commas behind WITH.
+#[derive(Drop)]
+struct TablePhrase;
+
+impl Phrase for TablePhrase {
+    type Tree = CommonTable;
+
+    ghost reader = { λ _ _. reading.common_table limited };
+
+    ghost callable = { λ _. ⊤ };
+
+    #[tactic(auto, unfolding(cq_grammar::specs::Reading::common_table))]
+    fn phrase(&self, parser: &mut Parser<'_>, _before: usize) -> Result<CommonTable, Refusal> {
+        let name = name(parser)?;
+        parser.the(Kind::As)?;
+        parser.the(Kind::Open)?;
+        let select = inner(parser)?;
+        parser.the(Kind::Close)?;
+        Ok(CommonTable { name, select })
+    }
 }
 
 fn tables(parser: &mut Parser<'_>) -> Result<Items<CommonTable>, Refusal>
     ensures { Reads (descent.list (λ _. reading.common_table limited) parser.old) result parser.new }
 {
-    list(parser, |parser, _| common_table(parser))
+    list_of(&TablePhrase, parser)
 }
 
 #[tactic(auto, unfolding(cq_grammar::specs::Reading::common_tables))]
