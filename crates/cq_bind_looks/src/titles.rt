@@ -61,8 +61,5 @@ fn title_in(e: &Expr) -> &str
 pub fn title(alloc: Global, e: &Expr) -> Result<Text, NoMemory>
     ensures { IfOk result (λ t. t ≡ (part_of e.now).title) }
 {
-    match String::from_str(alloc, title_in(e)) {
-        Ok(title) => Ok(Text::of_string(title)),
-        Err(_) => Err(NoMemory),
-    }
+    Text::of(alloc, title_in(e))
 }

@@ -11,7 +11,7 @@ fn numbered(alloc: Global, stem: &str, place: u64) -> Result<Text, NoMemory> {
         return Err(NoMemory);
     };
     match format!(in alloc; "{stem}{number}") {
-        Ok(text) => Ok(Text::of_string(text)),
+        Ok(text) => Text::of_string(alloc, text),
         Err(_) => Err(NoMemory),
     }
 }

@@ -144,10 +144,7 @@ fn text_value(alloc: Global, bytes: &[u8]) -> Result<Option<Value>, NoMemory>
     let Some(text) = utf8_text(bytes) else {
         return Ok(None);
     };
-    match String::from_str(alloc, text) {
-        Ok(text) => Ok(Some(Value::Text(Text::of_string(text)))),
-        Err(_) => Err(NoMemory),
-    }
+    Ok(Some(Value::Text(Text::of(alloc, text)?)))
 }
 
 /// The value for which a text that isn't NULL stands in a column of this type, if it has one: a number is an optional sign and digits,

@@ -62,7 +62,7 @@ fn line(alloc: Global, depth: u64, words: &str) -> Result<Text, NoMemory>
         return Err(NoMemory);
     };
     match line.push_str(words) {
-        Ok(()) => Ok(Text::of_string(line)),
+        Ok(()) => Text::of_string(alloc, line),
         Err(_) => Err(NoMemory),
     }
 }

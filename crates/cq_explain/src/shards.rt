@@ -48,7 +48,7 @@ fn shard_name(alloc: Global, catalog: &Catalog, table: u32, shard: u64) -> Resul
 {
     let name = name_of(catalog, table);
     match format!(in alloc; "{name}_{shard}") {
-        Ok(text) => Ok(Text::of_string(text)),
+        Ok(text) => Text::of_string(alloc, text),
         Err(_) => Err(NoMemory),
     }
 }

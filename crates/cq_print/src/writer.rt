@@ -29,10 +29,7 @@ impl Model for Writer {
 fn text_of(alloc: Global, letters: &str) -> Result<Text, NoMemory>
     ensures { IfOk result (λ text. text ≡ letters.now) }
 {
-    match String::from_str(alloc, letters) {
-        Ok(text) => Ok(Text::of_string(text)),
-        Err(_) => Err(NoMemory),
-    }
+    Text::of(alloc, letters)
 }
 
 /// An equal token.

@@ -22,10 +22,7 @@ fn folded(alloc: Global, name: &[u8]) -> Result<Text, LexError>
 {
     // SAFETY: ASCII is UTF-8.
     let name = unsafe { std::str::from_utf8_unchecked(name) };
-    match name.to_ascii_lowercase(alloc) {
-        Ok(folded) => Ok(Text::of_string(folded)),
-        Err(_) => Err(LexError::Memory),
-    }
+    Ok(Text::folded(alloc, name)?)
 }
 
 /// The name at the front, which the first byte begins.
@@ -76,13 +73,13 @@ fn number_at(at: u64, bytes: &[u8]) -> Result<Piece, LexError>
 }
 
 /// The text of this content, whose bytes behind the opening quote are so many.
-fn closed(at: u64, content: Vec<u8>, more: usize) -> Result<Piece, LexError>
-    ensures value { result ≡ spec.text_of at (Some (content.items, more)) }
+fn closed(alloc: Global, at: u64, content: Vec<u8>, more: usize) -> Result<Piece, LexError>
+    ensures value { Gives result (spec.text_of at (Some (content.items, more))) }
     ensures within { IsWithin more result }
 {
     match String::from_utf8(content) {
         Ok(text) => Ok(Piece::Token {
-            kind: TokenKind::Text(Text::of_string(text)),
+            kind: TokenKind::Text(Text::of_string(alloc, text)?),
             more,
         }),
         Err(_) => Err(LexError::BadCharacter { at }),
@@ -127,7 +124,7 @@ fn text_at(alloc: Global, at: u64, bytes: &[u8]) -> Result<Piece, LexError>
     let mut len = 0;
     'text: while len < bytes.len() {
         let Some(run) = run_at(bytes, len) else {
-            return closed(at, content, len + 1);
+            return closed(alloc, at, content, len + 1);
         };
         if content
             .extend_from_slice(&bytes[len..len + run.content])

@@ -102,18 +102,25 @@ fn push_kind(alloc: Global, out: &mut String, kind: &TokenKind, upper: bool) -> 
     }
 }
 
+fn alone(alloc: Global, word: &Word) -> Result<Text, NoMemory>
+    ensures { IfOk result (λ text. text ≡ spelled word.now) }
+{
+    let mut out = String::new(alloc);
+    push_kind(alloc, &mut out, &word.kind, word.upper)?;
+    Text::of_string(alloc, out)
+}
+
 /// The word as it is written: a name in its case, a number's digits, a text between quotes with its quotes doubled, a
 /// sign. Before a blank or the end of a text it is read again as the same token, if it is one that a text can have.
 pub fn spell(alloc: Global, word: &Word) -> Result<Text, NoMemory>
     ensures written { IfOk result (λ text. text ≡ spelled word.now) }
     ensures again { IsKind word.now.kind → ReadAs word.now.kind (spelled word.now) }
 {
-    let mut out = String::new(alloc);
-    push_kind(alloc, &mut out, &word.kind, word.upper).map(|()| Text::of_string(out))
+    alone(alloc, word)
 }
 
-fn joined(alloc: Global, words: &[Word]) -> Result<String, NoMemory>
-    ensures { IfOk result (λ out. string_bytes out ≡ printed words.now) }
+fn joined(alloc: Global, words: &[Word]) -> Result<Text, NoMemory>
+    ensures { IfOk result (λ text. text ≡ printed words.now) }
 {
     let mut out = String::new(alloc);
     if let Some((first, rest)) = words.split_first() {
@@ -123,7 +130,7 @@ fn joined(alloc: Global, words: &[Word]) -> Result<String, NoMemory>
             push_kind(alloc, &mut out, &word.kind, word.upper)?;
         }
     }
-    Ok(out)
+    Text::of_string(alloc, out)
 }
 
 /// The text of the words, with one blank between them. It is read again as these tokens, if they are such that a text
@@ -132,5 +139,5 @@ pub fn print(alloc: Global, words: &[Word]) -> Result<Text, NoMemory>
     ensures written { IfOk result (λ text. text ≡ printed words.now) }
     ensures again { AllByRecursion (λ word. IsKind word.kind) words.now → kinds (lexed.tokens (printed words.now)) ≡ Ok (map (λ word. word.kind) words.now) }
 {
-    joined(alloc, words).map(Text::of_string)
+    joined(alloc, words)
 }

@@ -7,3 +7,4 @@ pub mod Placement
 pub mod Rooms
 pub mod Sizes
 pub mod Tables
+pub mod Texts

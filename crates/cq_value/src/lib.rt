@@ -11,6 +11,7 @@ mod placement;
 mod reserved;
 mod row;
 mod schema;
+mod short;
 mod size;
 mod text;
 mod value;
