@@ -1,12 +1,39 @@
 -- Rows that are read one after another, and the fields of a row.
-use Rattle.std.proofs.Common.{◌≡◌, ℕ, ◌+◌, ◌<◌, ◌≤◌, List, [], ◌∷◌, ◌++◌, length, get_or, drop, Result, Ok, Err, refl, sym, ◌∙◌, ap, arith, append_assoc, append-nil}
-use Rattle.std.proofs.lemmas.List.{drop_more, drop_all}
+use Rattle.std.proofs.Common.{◌≡◌, ℕ, ◌+◌, ◌<◌, ◌≤◌, List, [], ◌∷◌, ◌++◌, length, get_or, drop, Bool, true, false, not, ◌&&◌, Some, if◌then◌else◌, Result, Ok, Err, refl, sym, ◌∙◌, ap, arith, append_assoc, append-nil}
+use Rattle.std.proofs.lemmas.List.{drop_more, drop_all, drop-drop, length-drop}
 use Rattle.std.specs.Prelude.{slice_set}
 use Rattle.cq_value.specs.declared.value.Value.{Value}
 use Rattle.cq_catalog.specs.declared.info.TableInfo.{TableInfo}
 use Rattle.cq_copy.specs.declared.error.CopyError.{CopyError}
 use Rattle.cq_copy.specs.declared.format.Format.{Format}
-use Rattle.cq_copy.specs.Rows.{Row, after, value_at, filled, rows_from}
+use Rattle.std.specs.Prelude.{◌==◌}
+use Rattle.std.specs.List.{list_all}
+use Rattle.cq_value.specs.declared.value.Value.TheVariants.{Null}
+use Rattle.cq_value.specs.declared.schema.Kind.{Kind}
+use Rattle.cq_copy.specs.declared.format.Format.TheVariants as format
+use Rattle.cq_copy.specs.Texts.{is_simple, stands, text_of}
+use Rattle.cq_copy.specs.Values.{value_in}
+use Rattle.cq_copy.specs.Rows.{Row, after, is_null, value_of_text, value_of_field, value_at, filled, rows_from}
+use Rattle.cq_copy.proofs.TextLaws.{simple_stands, text_stands}
+
+-- ---- the value of a field
+
+not_slashed : (r s n more : Bool) → (not r && not s) && more ≡ true → s && n ≡ false
+not_slashed true s n more e = absurd (let h : false ≡ true = e in cc)
+not_slashed false true n more e = absurd (let h : false ≡ true = e in cc)
+not_slashed false false n more e = refl
+
+not_null : (bs : List ℕ) → list_all stands bs ≡ true → is_null bs ≡ false
+not_null [] e = refl
+not_null (b ∷ []) e = refl
+not_null (b ∷ c ∷ []) e = not_slashed (b == 13) (b == 92) (c == 78) _ e
+not_null (b ∷ c ∷ d ∷ bs) e = refl
+
+pub simple_value : (k : Kind) (bs : List ℕ) → list_all is_simple bs ≡ true → value_of_field format.Text k bs ≡ value_in k bs
+unfolding value_of_field
+simple_value k bs e =
+    let stand = simple_stands bs e in
+    ap (λ t. if t then Some Null else value_of_text k (text_of bs)) (not_null bs stand) ∙ ap (value_of_text k) (text_stands bs stand)
 
 -- ---- the fields of a row
 
@@ -57,3 +84,15 @@ rows_done row_of n rows = ap (λ rs. Ok rs) (append-nil rows)
 pub rows_begin : (o : Result (List Row) CopyError) → o ≡ ahead [] o
 rows_begin (Ok rows) = refl
 rows_begin (Err e) = refl
+
+-- ---- a line's fields, one behind the other
+
+-- the first of the fields that are left
+pub field_here : (fs left : List (List ℕ)) (i : ℕ) (f : List ℕ) → left ≡ drop i fs → left ≡ f ∷ drop 1 left → i < length fs → get_or fs i [] ≡ f
+field_here fs left i f same first lt = ap (λ l. get_or l 0 []) (sym (drop_more fs i [] lt) ∙ sym same ∙ first)
+
+pub fields_next : (fs left : List (List ℕ)) (i : ℕ) → left ≡ drop i fs → drop (i + 1) fs ≡ drop 1 left
+fields_next fs left i same = sym (ap (drop 1) same ∙ drop-drop 1 i fs)
+
+pub fields_left : (fs left : List (List ℕ)) (i : ℕ) → left ≡ drop i fs → i + 1 < length fs → 1 < length left
+fields_left fs left i same lt = rw same (omega (arith, length-drop i fs))

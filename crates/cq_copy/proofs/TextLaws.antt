@@ -1,8 +1,25 @@
 -- Lines, and the texts of fields.
-use Rattle.std.proofs.Common.{◌≡◌, ℕ, suc, ◌+◌, ◌<◌, ◌≤◌, List, [], ◌∷◌, ◌++◌, length, get_or, drop, take, Bool, true, false, not, ◌&&◌, ◌||◌, cond, eqb, Option, Some, None, refl, sym, ◌∙◌, ap, arith, append_assoc, append-nil, if◌then◌else◌}
-use Rattle.std.specs.Prelude.{option_map}
-use Rattle.std.specs.List.{list_all, onto_first, position_or_len}
-use Rattle.cq_copy.specs.Texts.{is_newline, lines, text_of, before, escaped, plain, stands}
+use Rattle.std.proofs.Common.{◌≡◌, ℕ, zero, suc, ◌+◌, ◌<◌, ◌≤◌, List, [], ◌∷◌, ◌++◌, length, get_or, drop, take, Bool, true, false, not, ◌&&◌, ◌||◌, cond, eqb, Option, Some, None, refl, sym, ◌∙◌, ap, arith, append_assoc, append-nil, if◌then◌else◌}
+use Rattle.std.specs.Prelude.{option_map, ◌==◌}
+use Rattle.std.specs.List.{count_by, list_all, onto_first, position_or_len, prefix_len}
+use Rattle.cq_copy.specs.Texts.{is_newline, is_tab, is_simple, lines, fields, text_of, before, escaped, plain, stands}
+use Rattle.std.specs.Char.{is_ascii}
+use Rattle.std.proofs.lemmas.List.Sums.{sum_by-cons, prefix_len_is}
+use Rattle.memchr.specs.Find.{Nowhere, NoneBefore, Passes, is_byte}
+
+-- ---- the first place of a byte
+
+not_yes : (t : Bool) → ¬ (t ≡ true) → not t ≡ true
+not_yes true never = absurd (never refl)
+not_yes false never = refl
+
+pub found_at : (a : ℕ) (bs : List ℕ) (n : ℕ) → NoneBefore (Passes (is_byte a) bs) 0 (length bs) n → Passes (is_byte a) bs n → n ≡ prefix_len (λ (b : ℕ). not (b == a)) bs
+found_at a bs n none here =
+    sym (prefix_len_is (λ (b : ℕ). not (b == a)) bs n 0 (omega (arith, none.high)) (λ k lt. not_yes (get_or bs k 0 == a) (none.before k (omega arith) lt)) (λ lt. ap not here))
+
+pub found_none : (a : ℕ) (bs : List ℕ) → Nowhere (Passes (is_byte a) bs) 0 (length bs) → length bs ≡ prefix_len (λ (b : ℕ). not (b == a)) bs
+found_none a bs none =
+    sym (prefix_len_is (λ (b : ℕ). not (b == a)) bs (length bs) 0 (omega arith) (λ k lt. not_yes (get_or bs k 0 == a) (none k (omega arith) lt)) (λ lt. absurd (omega arith)))
 
 -- ---- lines
 
@@ -50,6 +67,66 @@ unfolding lines
 last_line [] lt le = absurd (omega arith)
 last_line (b ∷ bs) lt le = no_newline (b ∷ bs) le
 
+-- ---- the fields of a line
+
+count_of : (t : Bool) (b : ℕ) (fs : List (List ℕ)) (n : ℕ) → length fs ≡ n + 1 → length (cond t ([] ∷ fs) (onto_first b fs)) ≡ (cond t 1 0 + n) + 1
+count_of true b fs n e = omega (arith, e)
+count_of false b [] n e = absurd (omega (arith, e))
+count_of false b (f ∷ fs) n e = omega (arith, e)
+
+-- one more than there are tabs
+pub count_fields : (bs : List ℕ) → length (fields bs) ≡ count_by is_tab bs + 1
+count_fields [] = refl
+count_fields (b ∷ bs) =
+    count_of (is_tab b) b (fields bs) (count_by is_tab bs) (count_fields bs) ∙ ap (λ n. n + 1) (sym (sum_by-cons (λ (x : ℕ). cond (is_tab x) 1 0) b bs))
+
+abbrev tab_at : List ℕ → ℕ
+tab_at bs = position_or_len is_tab bs
+
+onto_is : (b : ℕ) (fs : List (List ℕ)) (f : List ℕ) (more : List (List ℕ)) → fs ≡ f ∷ more → onto_first b fs ≡ (b ∷ f) ∷ drop 1 (onto_first b fs)
+onto_is b [] f more e = absurd (omega (arith, ap length e))
+onto_is b (g ∷ fs) f more e = ap (λ x. (b ∷ x) ∷ fs) (ap (λ l. get_or l 0 []) e)
+
+field_by : (t : Bool) (b : ℕ) (bs : List ℕ) → fields bs ≡ take (tab_at bs) bs ∷ drop 1 (fields bs)
+    → cond t ([] ∷ fields bs) (onto_first b (fields bs)) ≡ take (cond (not t) (1 + tab_at bs) 0) (b ∷ bs) ∷ drop 1 (cond t ([] ∷ fields bs) (onto_first b (fields bs)))
+field_by true b bs e = refl
+field_by false b bs e =
+    let one : 1 + tab_at bs ≡ suc (tab_at bs) = omega arith in
+    rw one (onto_is b (fields bs) (take (tab_at bs) bs) (drop 1 (fields bs)) e)
+
+pub field_is : (bs : List ℕ) → fields bs ≡ take (tab_at bs) bs ∷ drop 1 (fields bs)
+field_is [] = refl
+field_is (b ∷ bs) = field_by (is_tab b) b bs (field_is bs)
+
+drop_onto : (b : ℕ) (fs : List (List ℕ)) → drop 1 (onto_first b fs) ≡ drop 1 fs
+drop_onto b [] = refl
+drop_onto b (f ∷ fs) = refl
+
+onto_more : (b : ℕ) (fs : List (List ℕ)) → 1 < length (onto_first b fs) → 1 < length fs
+onto_more b [] lt = absurd (omega arith)
+onto_more b (f ∷ fs) lt = lt
+
+rest_by : (t : Bool) (b : ℕ) (bs : List ℕ) → (1 < length (fields bs) → drop 1 (fields bs) ≡ fields (drop (tab_at bs + 1) bs))
+    → 1 < length (cond t ([] ∷ fields bs) (onto_first b (fields bs))) → drop 1 (cond t ([] ∷ fields bs) (onto_first b (fields bs))) ≡ fields (drop (cond (not t) (1 + tab_at bs) 0 + 1) (b ∷ bs))
+rest_by true b bs more lt = refl
+rest_by false b bs more lt =
+    let two : 1 + tab_at bs + 1 ≡ suc (tab_at bs + 1) = omega arith in
+    rw two (drop_onto b (fields bs) ∙ more (onto_more b (fields bs) lt))
+
+pub fields_behind : (bs : List ℕ) → 1 < length (fields bs) → drop 1 (fields bs) ≡ fields (drop (tab_at bs + 1) bs)
+fields_behind [] lt = absurd (omega arith)
+fields_behind (b ∷ bs) lt = rest_by (is_tab b) b bs (fields_behind bs) lt
+
+one_by : (t : Bool) (b : ℕ) (bs : List ℕ) (fs : List (List ℕ)) → (length bs ≤ tab_at bs → length fs ≤ 1) → length (b ∷ bs) ≤ cond (not t) (1 + tab_at bs) 0 → length (cond t ([] ∷ fs) (onto_first b fs)) ≤ 1
+one_by true b bs fs one le = absurd (omega arith)
+one_by false b bs [] one le = omega arith
+one_by false b bs (f ∷ fs) one le = one (omega arith)
+
+-- a line without a tab
+pub one_field : (bs : List ℕ) → length bs ≤ tab_at bs → length (fields bs) ≤ 1
+one_field [] le = omega arith
+one_field (b ∷ bs) le = one_by (is_tab b) b bs (fields bs) (one_field bs) le
+
 -- ---- the text of a field
 
 pub text_escaped : (bs : List ℕ) → 1 ≤ length bs → text_of (92 ∷ bs) ≡ before (escaped (get_or bs 0 0)) (text_of (drop 1 bs))
@@ -93,6 +170,10 @@ rest_and : (t more : Bool) → t && more ≡ true → more ≡ true
 rest_and true more e = e
 rest_and false more e = absurd (let h : false ≡ true = e in cc)
 
+both : (a b : Bool) → a ≡ true → b ≡ true → (a && b) ≡ true
+both true b e h = h
+both false b e h = absurd (let x : false ≡ true = e in cc)
+
 -- a field whose bytes stand for themselves
 pub text_stands : (bs : List ℕ) → list_all stands bs ≡ true → text_of bs ≡ Some bs
 text_stands [] e = text_nil
@@ -116,3 +197,29 @@ pub no_lines : (bs : List ℕ) → length bs < 1 → lines bs ≡ []
 unfolding lines
 no_lines [] lt = refl
 no_lines (b ∷ bs) lt = absurd (omega arith)
+
+-- ---- simple bytes
+
+pub simple_front : (n : ℕ) (bs : List ℕ) → list_all is_simple bs ≡ true → list_all is_simple (take n bs) ≡ true
+simple_front zero bs e = refl
+simple_front (suc n) [] e = refl
+simple_front (suc n) (b ∷ bs) e = both (is_simple b) _ (first_and (is_simple b) (list_all is_simple bs) e) (simple_front n bs (rest_and (is_simple b) (list_all is_simple bs) e))
+
+pub simple_back : (n : ℕ) (bs : List ℕ) → list_all is_simple bs ≡ true → list_all is_simple (drop n bs) ≡ true
+simple_back zero bs e = e
+simple_back (suc n) [] e = refl
+simple_back (suc n) (b ∷ bs) e = simple_back n bs (rest_and (is_simple b) (list_all is_simple bs) e)
+
+pub simple_ascii : (bs : List ℕ) → list_all is_simple bs ≡ true → list_all is_ascii bs ≡ true
+simple_ascii [] e = refl
+simple_ascii (b ∷ bs) e =
+    both (is_ascii b) _ (first_and (is_ascii b) _ (first_and (is_ascii b && not (b == 13)) _ (first_and (is_simple b) (list_all is_simple bs) e))) (simple_ascii bs (rest_and (is_simple b) (list_all is_simple bs) e))
+
+simple_stands_by : (a r s : Bool) → (a && not r) && not s ≡ true → not r && not s ≡ true
+simple_stands_by true r s e = e
+simple_stands_by false r s e = absurd (let h : false ≡ true = e in cc)
+
+pub simple_stands : (bs : List ℕ) → list_all is_simple bs ≡ true → list_all stands bs ≡ true
+simple_stands [] e = refl
+simple_stands (b ∷ bs) e =
+    both (stands b) _ (simple_stands_by (is_ascii b) (b == 13) (b == 92) (first_and (is_simple b) (list_all is_simple bs) e)) (simple_stands bs (rest_and (is_simple b) (list_all is_simple bs) e))

@@ -1,7 +1,7 @@
 -- Data in the text format: its lines, the fields of a line, and the text for which a field stands (PostgreSQL, COPY, "Text Format").
 use Rattle.std.specs.Prelude.{ℕ, Bool, not, ◌&&◌, ◌||◌, ◌==◌, if◌then◌else◌, List, [], ◌∷◌, Option, Some, None, option_map}
 use Rattle.std.specs.List.{onto_first, slice_split}
-use Rattle.std.specs.Char.{is_ascii_digit}
+use Rattle.std.specs.Char.{is_ascii, is_ascii_digit}
 
 abbrev pub is_newline : ℕ → Bool
 is_newline b = b == 10
@@ -38,6 +38,10 @@ plain b = if b == 13 || b == 92 then None else Some b
 -- any other byte does
 abbrev pub stands : ℕ → Bool
 stands b = not (b == 13) && not (b == 92)
+
+-- a byte in ASCII that stands for itself
+abbrev pub is_simple : ℕ → Bool
+is_simple b = (is_ascii b && not (b == 13)) && not (b == 92)
 
 -- the byte in front of the text, where there are both
 abbrev pub before : Option ℕ → Option (List ℕ) → Option (List ℕ)

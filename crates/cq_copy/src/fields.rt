@@ -1,13 +1,14 @@
-ghost use Rattle.std.specs.Prelude.{◌≡◌, ◌+◌, ◌-◌, ◌^◌, IfOk, min};
+ghost use Rattle.std.specs.Prelude.{◌≡◌, true, ◌+◌, ◌-◌, ◌^◌, IfOk, min};
+ghost use Rattle.std.specs.List.{list_all};
 ghost use Rattle.cq_copy.specs.Rows as spec;
 ghost use Rattle.cq_copy.specs.Rows.{Gives};
-ghost use Rattle.cq_copy.specs.Texts.{text_of};
+ghost use Rattle.cq_copy.specs.Texts.{is_simple, text_of};
 
 use crate::columns::{kind_at, needs_value};
 use crate::error::CopyError;
 use crate::format::Format;
 use crate::texts::{is_plain, text_of_field};
-use crate::values::read_value;
+use crate::values::{read_ascii, read_value};
 use cq_catalog::TableInfo;
 use cq_value::{Kind, NoMemory, Value};
 use std::alloc::Global;
@@ -67,6 +68,14 @@ fn value_of_field(
     }
 }
 
+/// The value of a field of simple bytes in a column of this type, in the text format, if it has one.
+fn value_of_simple(alloc: Global, kind: Kind, field: &[u8]) -> Result<Option<Value>, NoMemory>
+    requires { list_all is_simple field.now ≡ true }
+    ensures { IfOk result (λ v. v ≡ spec.value_of_field Format.Text kind field.now) }
+{
+    read_ascii(alloc, kind, field)
+}
+
 /// A column's value, or its refusal.
 fn checked(
     table: &TableInfo,
@@ -100,5 +109,20 @@ pub(crate) fn value_at(
     ensures { Gives result (spec.value_at format table.now row column field.now) }
 {
     let value = value_of_field(alloc, format, kind_at(table, column), field)?;
+    checked(table, row, column, value)
+}
+
+/// As `value_at` in the text format, of a field of simple bytes.
+pub(crate) fn simple_value_at(
+    alloc: Global,
+    table: &TableInfo,
+    row: u64,
+    column: u32,
+    field: &[u8],
+) -> Result<Value, CopyError>
+    requires { list_all is_simple field.now ≡ true }
+    ensures { Gives result (spec.value_at Format.Text table.now row column field.now) }
+{
+    let value = value_of_simple(alloc, kind_at(table, column), field)?;
     checked(table, row, column, value)
 }

@@ -1,11 +1,15 @@
-ghost use Rattle.std.specs.Prelude.{◌≡◌, map, length, slice_set, IfOk};
+ghost use Rattle.std.specs.Prelude.{◌≡◌, true, map, length, slice_set, IfOk};
+ghost use Rattle.std.specs.List.{list_all};
+ghost use Rattle.cq_copy.specs.declared.format.Format.TheVariants as formats;
 ghost use Rattle.cq_copy.specs.Rows as spec;
 ghost use Rattle.cq_copy.specs.Rows.{Gives};
+ghost use Rattle.cq_copy.specs.Texts.{fields, is_simple};
 
 use crate::columns::missing;
 use crate::error::CopyError;
-use crate::fields::{bad_value, value_at};
+use crate::fields::{bad_value, simple_value_at, value_at};
 use crate::format::Format;
+use crate::texts::{field_count, first_field};
 use cq_catalog::TableInfo;
 use cq_value::{NoMemory, Row, Value, Values};
 use std::alloc::Global;
@@ -108,6 +112,42 @@ impl<'a> Frame<'a> {
             });
         }
         let values = self.filled(row, fields)?;
+        complete(row, self.absent, Row::shared(self.alloc, values)?)
+    }
+
+    /// The row with the value of each field of a line in its column, from left to right, or the first refusal of one. The line has a
+    /// field for each listed column, and its bytes are simple.
+    fn filled_of_line(&self, row: u64, line: &[u8]) -> Result<Values, CopyError>
+        requires count { length (fields line.now) ≡ length self.now.listed.now }
+        requires simple { list_all is_simple line.now ≡ true }
+        ensures { Gives result (spec.filled formats.Text self.now.table.now row self.now.listed.now (fields line.now) (spec.blank self.now.table.now)) }
+    {
+        let mut values = blank(self.alloc, self.table)?;
+        let mut left = line;
+        for column in self.listed {
+            let (field, more) = first_field(left);
+            let value = simple_value_at(self.alloc, self.table, row, *column, field)?;
+            values = with_value(values, *column, value);
+            left = more;
+        }
+        Ok(values)
+    }
+
+    /// The row of the fields of a line in the text format whose bytes are simple, or its first refusal.
+    #[tactic(auto, unfolding(crate::specs::Rows::row_of_fields))]
+    pub(crate) fn row_of_simple(&self, row: u64, line: &[u8]) -> Result<Row, CopyError>
+        requires absent { self.now.absent ≡ spec.missing self.now.table.now self.now.listed.now }
+        requires simple { list_all is_simple line.now ≡ true }
+        ensures { Gives result (spec.row_of_fields formats.Text self.now.table.now self.now.listed.now row (fields line.now)) }
+    {
+        let found = field_count(line);
+        if found != self.listed.len() {
+            return Err(CopyError::Columns {
+                row,
+                found: found as u64,
+            });
+        }
+        let values = self.filled_of_line(row, line)?;
         complete(row, self.absent, Row::shared(self.alloc, values)?)
     }
 }

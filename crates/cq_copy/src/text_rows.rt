@@ -6,7 +6,7 @@ ghost use Rattle.cq_copy.specs.Rows.{Gives};
 use crate::error::CopyError;
 use crate::format::Format;
 use crate::frame::Frame;
-use crate::texts::{fields_of, first_line};
+use crate::texts::{fields_of, first_line, is_simple};
 use crate::values::is_text;
 use cq_catalog::TableInfo;
 use cq_value::{Row, Rows};
@@ -19,6 +19,9 @@ fn row_of_line(frame: &Frame<'_>, row: u64, line: &[u8]) -> Result<Row, CopyErro
     requires absent { frame.now.absent ≡ spec.missing frame.now.table.now frame.now.listed.now }
     ensures { Gives result (spec.row_of_line frame.now.table.now frame.now.listed.now row line.now) }
 {
+    if is_simple(line) {
+        return frame.row_of_simple(row, line);
+    }
     if !is_text(line) {
         return Err(CopyError::Encoding { row });
     }

@@ -1,9 +1,10 @@
-ghost use Rattle.std.specs.Prelude.{◌≡◌, ◌<◌, ◌≤◌, ◌∷◌, length, map, None, IfOk, MatchOption, IfSome, Some, option_map, vec_items};
+ghost use Rattle.std.specs.Prelude.{◌≡◌, ◌<◌, ◌≤◌, ◌∷◌, length, map, drop, true, None, IfOk, MatchOption, IfSome, Some, option_map, vec_items};
 ghost use Rattle.std.specs.List.{list_all, position_or_len};
 ghost use Rattle.cq_copy.specs.Texts as spec;
-ghost use Rattle.cq_copy.specs.Texts.{is_newline, lines, fields, text_of, before, stands};
+ghost use Rattle.cq_copy.specs.Texts.{is_newline, is_tab, is_simple, lines, fields, text_of, before, stands};
 
 use cq_value::NoMemory;
+use memchr::memchr;
 use std::alloc::{AllocError, Global};
 
 /// How many bytes the first line has.
@@ -11,7 +12,10 @@ fn line_len(bytes: &[u8]) -> usize
     ensures value { result ≡ position_or_len is_newline bytes.now }
     ensures within { result ≤ length bytes.now }
 {
-    bytes.iter().take_while(|byte| **byte != b'\n').count()
+    match memchr(b'\n', bytes) {
+        Some(at) => at,
+        None => bytes.len(),
+    }
 }
 
 /// The first line of data, and the bytes behind it.
@@ -32,6 +36,50 @@ pub(crate) fn fields_of(alloc: Global, line: &[u8]) -> Result<Vec<&[u8]>, AllocE
     ensures { IfOk result (λ v. map (λ f. f.now) v.items ≡ fields line.now) }
 {
     line.split(|byte| *byte == b'\t').collect(alloc)
+}
+
+/// How many fields a line has.
+pub(crate) fn field_count(line: &[u8]) -> usize
+    ensures { result ≡ length (fields line.now) }
+{
+    let mut tabs = 0usize;
+    for byte in line {
+        tabs = tabs.wrapping_add(usize::from(*byte == b'\t'));
+    }
+    tabs + 1
+}
+
+/// How many bytes the first field has.
+fn field_len(line: &[u8]) -> usize
+    ensures value { result ≡ position_or_len is_tab line.now }
+    ensures within { result ≤ length line.now }
+{
+    line.iter().take_while(|byte| **byte != b'\t').count()
+}
+
+/// The first field of a line, and the bytes behind its tab, or none.
+pub(crate) fn first_field(line: &[u8]) -> (&[u8], &[u8])
+    ensures field { fields line.now ≡ result.0.now ∷ drop 1 (fields line.now) }
+    ensures more { 1 < length (fields line.now) → drop 1 (fields line.now) ≡ fields result.1.now }
+    ensures simple { list_all is_simple line.now ≡ true → list_all is_simple result.0.now ≡ true }
+    ensures simple_more { list_all is_simple line.now ≡ true → list_all is_simple result.1.now ≡ true }
+{
+    let len = field_len(line);
+    if len == line.len() {
+        return (line, &[]);
+    }
+    (&line[..len], &line[len + 1..])
+}
+
+/// Whether a line is in ASCII and each of its bytes stands for itself.
+pub(crate) fn is_simple(line: &[u8]) -> bool
+    ensures { result ≡ list_all spec.is_simple line.now }
+{
+    let mut simple = true;
+    for byte in line {
+        simple &= (*byte < 128) & (*byte != b'\r') & (*byte != b'\\');
+    }
+    simple
 }
 
 /// The byte for which a backslash and this byte stand, if they may stand.

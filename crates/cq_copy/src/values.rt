@@ -1,4 +1,4 @@
-ghost use Rattle.std.specs.Prelude.{◌≡◌, ◌≤◌, ◌+◌, ◌-◌, ◌^◌, min, length, fold, true, false, Some, IfOk, MatchOption, option_map};
+ghost use Rattle.std.specs.Prelude.{◌≡◌, ◌<◌, ◌≤◌, ◌+◌, ◌-◌, ◌^◌, min, length, fold, true, false, Some, IfOk, IfSome, MatchOption, option_map};
 ghost use Rattle.std.specs.List.{prefix_len, list_all};
 ghost use Rattle.std.specs.Char.{is_ascii, is_ascii_digit};
 ghost use Rattle.std.specs.Str.{is_utf8};
@@ -44,9 +44,38 @@ fn number_of(digits: &[u8]) -> u64
     number
 }
 
+/// The number of a text of digits alone, or the greatest u64 where it is more.
+fn plain_number(text: &[u8]) -> Option<u64>
+    ensures { IfSome result (λ n. (0 < length text.now) × (list_all is_ascii_digit text.now ≡ true) × (n ≡ min (fold with_digit 0 text.now) (2 ^ 64 - 1))) }
+{
+    if text.is_empty() {
+        return None;
+    }
+    let mut number = 0u64;
+    for byte in text {
+        if !byte.is_ascii_digit() {
+            return None;
+        }
+        number = number
+            .saturating_mul(10)
+            .saturating_add(u64::from(byte.saturating_sub(b'0')));
+    }
+    Some(number)
+}
+
 /// The number of a text of one digit or more with spaces alone behind them, or the greatest u64 where it is more.
-#[tactic(auto, unfolding(crate::specs::Values::magnitude))]
 fn magnitude(text: &[u8]) -> Option<u64>
+    ensures { result ≡ option_map (λ n. min n (2 ^ 64 - 1)) (spec.magnitude text.now) }
+{
+    match plain_number(text) {
+        Some(number) => Some(number),
+        None => spaced_magnitude(text),
+    }
+}
+
+/// As `magnitude`, of any text.
+#[tactic(auto, unfolding(crate::specs::Values::magnitude))]
+fn spaced_magnitude(text: &[u8]) -> Option<u64>
     ensures { result ≡ option_map (λ n. min n (2 ^ 64 - 1)) (spec.magnitude text.now) }
 {
     let digits = digits_len(text);
@@ -145,6 +174,28 @@ fn text_value(alloc: Global, bytes: &[u8]) -> Result<Option<Value>, NoMemory>
         return Ok(None);
     };
     Ok(Some(Value::Text(Text::of(alloc, text)?)))
+}
+
+/// The value of a text in ASCII.
+#[tactic(auto, unfolding(crate::specs::Values::value_in))]
+fn ascii_value(alloc: Global, bytes: &[u8]) -> Result<Value, NoMemory>
+    requires { list_all is_ascii bytes.now ≡ true }
+    ensures { IfOk result (λ v. value_in Kind.Text bytes.now ≡ Some v) }
+{
+    // SAFETY: ASCII is UTF-8.
+    let text = unsafe { str::from_utf8_unchecked(bytes) };
+    Ok(Value::Text(Text::of(alloc, text)?))
+}
+
+/// As `read_value`, of a text in ASCII.
+pub(crate) fn read_ascii(alloc: Global, kind: Kind, text: &[u8]) -> Result<Option<Value>, NoMemory>
+    requires { list_all is_ascii text.now ≡ true }
+    ensures { IfOk result (λ v. v ≡ value_in kind text.now) }
+{
+    match kind {
+        Kind::Bigint | Kind::Integer => read_value(alloc, kind, text),
+        Kind::Text => Ok(Some(ascii_value(alloc, text)?)),
+    }
 }
 
 /// The value for which a text that isn't NULL stands in a column of this type, if it has one: a number is an optional sign and digits,
