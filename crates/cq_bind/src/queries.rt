@@ -1,6 +1,6 @@
 //! Queries with their CTEs, each of which sees those before it.
 
-ghost use Rattle.std.specs.Prelude.{◌≡◌, [], not, IfOk};
+ghost use Rattle.std.specs.Prelude.{◌≡◌, [], not, IfOk, ⊤};
 ghost use Rattle.cq_reading.specs.declared.error.BindError.TheVariants as error;
 ghost use Rattle.cq_reading.specs.Outcomes.{Binds};
 ghost use Rattle.cq_reading.specs.Steps as steps;
@@ -8,7 +8,7 @@ ghost use Rattle.cq_reading.specs.Walk.{select_of};
 ghost use Rattle.cq_reading.specs.Statements as reading;
 ghost use Rattle.cq_bind.specs.Checks.{Checks};
 
-use cq_bind_calls::through;
+use cq_bind_calls::{Step, through_of};
 use cq_bind_walk::select;
 use cq_catalog::Catalog;
 use cq_grammar::{CommonTable, Name, Query as Written, Select};
@@ -74,18 +74,32 @@ fn one_more(
     Ok((commons, queries))
 }
 
-fn with_cte(
+/// One more CTE, among those before it.
+#[derive(Drop)]
+struct EachCte<'a> {
     alloc: Global,
-    found: &mut Found,
-    catalog: &Catalog,
-    ctes: (Commons, Queries),
-    table: &CommonTable,
-) -> Result<(Commons, Queries), BindError>
-    ensures { Binds (reading.with_cte catalog.now.tables ctes table.now found.old) result found.new }
-{
-    check_common(alloc, &table.name, &ctes.0)?;
-    let block = select_among(alloc, found, catalog, &ctes.0, &table.select)?;
-    Ok(one_more(alloc, ctes, &table.name, block)?)
+    catalog: &'a Catalog,
+}
+
+impl<'a> Step for EachCte<'a> {
+    type State = (Commons, Queries);
+
+    type Item = CommonTable;
+
+    ghost reading = { λ s. reading.with_cte s.catalog.now.tables };
+
+    ghost callable = { λ _. ⊤ };
+
+    fn step(
+        &self,
+        found: &mut Found,
+        before: (Commons, Queries),
+        item: &CommonTable,
+    ) -> Result<(Commons, Queries), BindError> {
+        check_common(self.alloc, &item.name, &before.0)?;
+        let block = select_among(self.alloc, found, self.catalog, &before.0, &item.select)?;
+        Ok(one_more(self.alloc, before, &item.name, block)?)
+    }
 }
 
 fn with_ctes(query: Query, ctes: Queries) -> Query
@@ -104,14 +118,7 @@ fn ctes(
     ensures { Binds (steps.through (reading.with_cte catalog.now.tables) tables.now ([], []) found.old) result found.new }
 {
     let none = (Commons::new(alloc), Queries::new(alloc));
-    through(
-        found,
-        tables,
-        none,
-        |found: &mut Found, before: (Commons, Queries), table: &CommonTable| {
-            with_cte(alloc, found, catalog, before, table)
-        },
-    )
+    through_of(&EachCte { alloc, catalog }, found, tables, none)
 }
 
 /// A query among the tables of the catalogue.

@@ -1,6 +1,6 @@
 //! INSERT: its rows, whose values are computed here.
 
-ghost use Rattle.std.specs.Prelude.{◌≡◌, [], ◌∷◌, ◌++◌, ◌+◌, length, replicate, slice_get, Some, IfOk};
+ghost use Rattle.std.specs.Prelude.{◌≡◌, [], ◌∷◌, ◌++◌, ◌+◌, length, replicate, slice_get, Some, IfOk, ⊤};
 ghost use Rattle.cq_value.specs.declared.value.Value.TheVariants as value;
 ghost use Rattle.cq_meaning.specs.Expressions.{value_of as value_in};
 ghost use Rattle.cq_reading.specs.Outcomes.{Binds, Judges};
@@ -12,7 +12,7 @@ ghost use Rattle.cq_reading.specs.Walk.{part_of};
 ghost use Rattle.cq_reading.specs.Statements as reading;
 
 use crate::writes::write_scope;
-use cq_bind_calls::through;
+use cq_bind_calls::{Step, through_of};
 use cq_bind_looks::place;
 use cq_bind_operands::{expr as tree_of, value};
 use cq_bind_statements::{
@@ -85,62 +85,48 @@ fn one_more(mut row: Values, v: Value) -> Result<Values, NoMemory>
     Ok(row)
 }
 
-/// The values of a row with one more, which is for the column i.
-fn value_for(
+/// One more value of the row of this number, for the column in its place.
+#[derive(Drop)]
+struct EachValue<'a> {
     alloc: Global,
-    found: &mut Found,
-    scope: &Scope<'_>,
-    table: &TableInfo,
+    scope: &'a Scope<'a>,
+    table: &'a TableInfo,
+    columns: &'a [u32],
     row: u64,
-    i: u32,
-    before: Values,
-    e: &Written,
-) -> Result<Values, BindError>
-    ensures { Binds (reading.value_for scope.now table.now row before e.now (Some i) found.old) result found.new }
-{
-    let v = computed(alloc, found, scope, e)?;
-    let v = stored(table, row, i, v)?;
-    Ok(one_more(before, v)?)
 }
 
-fn with_value(
-    alloc: Global,
-    found: &mut Found,
-    scope: &Scope<'_>,
-    table: &TableInfo,
-    row: u64,
-    columns: &[u32],
-    before: Values,
-    e: &Written,
-) -> Result<Values, BindError>
-    ensures { Binds (reading.with_value scope.now table.now row columns.now before e.now found.old) result found.new }
-{
-    match next_column(columns, &before) {
-        Some(i) => value_for(alloc, found, scope, table, row, i, before, e),
-        None => Ok(before),
+impl<'a> EachValue<'a> {
+    /// The values with one more, which is for the column i.
+    fn value_for(
+        &self,
+        found: &mut Found,
+        before: Values,
+        e: &Written,
+        i: u32,
+    ) -> Result<Values, BindError>
+        ensures { Binds (reading.value_for self.now.scope.now self.now.table.now self.now.row before e.now (Some i) found.old) result found.new }
+    {
+        let v = computed(self.alloc, found, self.scope, e)?;
+        let v = stored(self.table, self.row, i, v)?;
+        Ok(one_more(before, v)?)
     }
 }
 
-/// The values of a row, each for the column in its place.
-fn values(
-    alloc: Global,
-    found: &mut Found,
-    scope: &Scope<'_>,
-    table: &TableInfo,
-    row: u64,
-    columns: &[u32],
-    values: &Items<Written>,
-) -> Result<Values, BindError>
-    ensures { Binds (through (reading.with_value scope.now table.now row columns.now) values.now [] found.old) result found.new }
-{
-    through(
-        found,
-        values,
-        Values::new(alloc),
-        |found: &mut Found, before: Values, e: &Written| {
-            with_value(alloc, found, scope, table, row, columns, before, e)
-        },
-    )
+impl<'a> Step for EachValue<'a> {
+    type State = Values;
+
+    type Item = Written;
+
+    ghost reading = { λ s. reading.with_value s.scope.now s.table.now s.row s.columns.now };
+
+    ghost callable = { λ _. ⊤ };
+
+    fn step(&self, found: &mut Found, before: Values, item: &Written) -> Result<Values, BindError> {
+        match next_column(self.columns, &before) {
+            Some(i) => self.value_for(found, before, item, i),
+            None => Ok(before),
+        }
+    }
 }
 
 /// A row with these values in these columns, and NULL in the others.
@@ -154,24 +140,6 @@ fn filled(
 {
     let all = put_values(null_row(alloc, table)?, columns, values);
     Row::shared(alloc, all)
-}
-
-/// The row of this number, counted from 1.
-fn row_of(
-    alloc: Global,
-    found: &mut Found,
-    scope: &Scope<'_>,
-    table: &TableInfo,
-    columns: &[u32],
-    row: u64,
-    listed: &RowValues,
-) -> Result<Row, BindError>
-    ensures { Binds (reading.row_of scope.now table.now columns.now row listed.now found.old) result found.new }
-{
-    check_count(listed, columns)?;
-    let values = values(alloc, found, scope, table, row, columns, &listed.values)?;
-    check_unlisted(table, row, columns)?;
-    Ok(filled(alloc, table, columns, values)?)
 }
 
 fn put_row(mut rows: Rows, row: Row) -> Result<Rows, NoMemory>
@@ -191,55 +159,72 @@ fn next_number(before: &Rows) -> Result<u64, NoMemory>
     }
 }
 
-/// The row behind those before.
-fn next_row(
+/// One more row, with values for these columns.
+#[derive(Drop)]
+struct EachRow<'a> {
     alloc: Global,
-    found: &mut Found,
-    scope: &Scope<'_>,
-    table: &TableInfo,
-    columns: &[u32],
-    before: &Rows,
-    listed: &RowValues,
-) -> Result<Row, BindError>
-    ensures { Binds (reading.row_of scope.now table.now columns.now (length before.now + 1) listed.now found.old) result found.new }
-{
-    let number = next_number(before)?;
-    row_of(alloc, found, scope, table, columns, number, listed)
+    scope: &'a Scope<'a>,
+    table: &'a TableInfo,
+    columns: &'a [u32],
 }
 
-fn with_row(
-    alloc: Global,
-    found: &mut Found,
-    scope: &Scope<'_>,
-    table: &TableInfo,
-    columns: &[u32],
-    before: Rows,
-    listed: &RowValues,
-) -> Result<Rows, BindError>
-    ensures { Binds (reading.with_row scope.now table.now columns.now before listed.now found.old) result found.new }
-{
-    let row = next_row(alloc, found, scope, table, columns, &before, listed)?;
-    Ok(put_row(before, row)?)
+impl<'a> EachRow<'a> {
+    /// The values of the row of this number, each for the column in its place.
+    fn values(
+        &self,
+        found: &mut Found,
+        row: u64,
+        values: &Items<Written>,
+    ) -> Result<Values, BindError>
+        ensures { Binds (through (reading.with_value self.now.scope.now self.now.table.now row self.now.columns.now) values.now [] found.old) result found.new }
+    {
+        let step = EachValue {
+            alloc: self.alloc,
+            scope: self.scope,
+            table: self.table,
+            columns: self.columns,
+            row,
+        };
+        through_of(&step, found, values, Values::new(self.alloc))
+    }
+
+    /// The row of this number, counted from 1.
+    fn row(&self, found: &mut Found, row: u64, listed: &RowValues) -> Result<Row, BindError>
+        ensures { Binds (reading.row_of self.now.scope.now self.now.table.now self.now.columns.now row listed.now found.old) result found.new }
+    {
+        check_count(listed, self.columns)?;
+        let values = self.values(found, row, &listed.values)?;
+        check_unlisted(self.table, row, self.columns)?;
+        Ok(filled(self.alloc, self.table, self.columns, values)?)
+    }
+
+    /// The row behind those before.
+    fn next_row(
+        &self,
+        found: &mut Found,
+        before: &Rows,
+        listed: &RowValues,
+    ) -> Result<Row, BindError>
+        ensures { Binds (reading.row_of self.now.scope.now self.now.table.now self.now.columns.now (length before.now + 1) listed.now found.old) result found.new }
+    {
+        let number = next_number(before)?;
+        self.row(found, number, listed)
+    }
 }
 
-fn rows_of(
-    alloc: Global,
-    found: &mut Found,
-    scope: &Scope<'_>,
-    table: &TableInfo,
-    columns: &[u32],
-    rows: &Items<RowValues>,
-) -> Result<Rows, BindError>
-    ensures { Binds (through (reading.with_row scope.now table.now columns.now) rows.now [] found.old) result found.new }
-{
-    through(
-        found,
-        rows,
-        Rows::new(alloc),
-        |found: &mut Found, before: Rows, listed: &RowValues| {
-            with_row(alloc, found, scope, table, columns, before, listed)
-        },
-    )
+impl<'a> Step for EachRow<'a> {
+    type State = Rows;
+
+    type Item = RowValues;
+
+    ghost reading = { λ s. reading.with_row s.scope.now s.table.now s.columns.now };
+
+    ghost callable = { λ _. ⊤ };
+
+    fn step(&self, found: &mut Found, before: Rows, item: &RowValues) -> Result<Rows, BindError> {
+        let row = self.next_row(found, &before, item)?;
+        Ok(put_row(before, row)?)
+    }
 }
 
 fn listed_columns(
@@ -269,7 +254,13 @@ fn all_rows(
         commons: &[],
     };
     let scope = write_scope(&world, &[]);
-    rows_of(alloc, found, &scope, table, columns.as_slice(), rows)
+    let step = EachRow {
+        alloc,
+        scope: &scope,
+        table,
+        columns: columns.as_slice(),
+    };
+    through_of(&step, found, rows, Rows::new(alloc))
 }
 
 /// An INSERT. `Err` is the first refusal: the table, its columns, and then each row from left to right.

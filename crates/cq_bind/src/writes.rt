@@ -1,6 +1,6 @@
 //! UPDATE and DELETE: what is set, and which rows are meant.
 
-ghost use Rattle.std.specs.Prelude.{◌≡◌, ◌∷◌, ◌++◌, [], map, not, IfOk};
+ghost use Rattle.std.specs.Prelude.{◌≡◌, ◌∷◌, ◌++◌, [], map, not, IfOk, ⊤};
 ghost use Rattle.cq_tree.specs.declared.write.Set as declared;
 ghost use Rattle.cq_tree.specs.declared.statement.Statement.TheVariants as statement;
 ghost use Rattle.cq_tree.specs.declared.write.ShardOp.TheVariants.{Update, Remove};
@@ -13,7 +13,7 @@ ghost use Rattle.cq_reading.specs.Statements as reading;
 ghost use Rattle.cq_reading.specs.Walk.{part_of};
 ghost use Rattle.cq_bind.specs.Checks.{Checks};
 
-use cq_bind_calls::through;
+use cq_bind_calls::{Step, through_of};
 use cq_bind_looks::place;
 use cq_bind_names::table_sources;
 use cq_bind_operands::expr as tree_of;
@@ -105,20 +105,29 @@ fn set_value(
     fitting(kind, b, place(e))
 }
 
-/// The sets with one more.
-fn with_set(
+/// One more SET, behind those before it.
+#[derive(Drop)]
+struct EachSet<'a> {
     alloc: Global,
-    found: &mut Found,
-    table: &TableInfo,
-    scope: &Scope<'_>,
-    before: Sets,
-    s: &SetClause,
-) -> Result<Sets, BindError>
-    ensures { Binds (reading.with_set scope.now table.now before s.now found.old) result found.new }
-{
-    let column = set_column(alloc, table, &before, &s.column)?;
-    let value = set_value(found, scope, kind_at(table, column), &s.value)?;
-    Ok(one_more(before, column, value)?)
+    table: &'a TableInfo,
+    scope: &'a Scope<'a>,
+}
+
+impl<'a> Step for EachSet<'a> {
+    type State = Sets;
+
+    type Item = SetClause;
+
+    ghost reading = { λ s. reading.with_set s.scope.now s.table.now };
+
+    ghost callable = { λ _. ⊤ };
+
+    fn step(&self, found: &mut Found, before: Sets, item: &SetClause) -> Result<Sets, BindError> {
+        let column = set_column(self.alloc, self.table, &before, &item.column)?;
+        let kind = kind_at(self.table, column);
+        let value = set_value(found, self.scope, kind, &item.value)?;
+        Ok(one_more(before, column, value)?)
+    }
 }
 
 fn sets(
@@ -130,14 +139,12 @@ fn sets(
 ) -> Result<Sets, BindError>
     ensures { Binds (through (reading.with_set scope.now table.now) clauses.now [] found.old) result found.new }
 {
-    through(
-        found,
-        clauses,
-        Sets::new(alloc),
-        |found: &mut Found, before: Sets, s: &SetClause| {
-            with_set(alloc, found, table, scope, before, s)
-        },
-    )
+    let step = EachSet {
+        alloc,
+        table,
+        scope,
+    };
+    through_of(&step, found, clauses, Sets::new(alloc))
 }
 
 /// The condition of a WHERE, which is always true where there is none.

@@ -7,26 +7,10 @@ use Rattle.cq_reading.specs.declared.bound.Found.{Found}
 use Rattle.cq_reading.specs.declared.bound.Bound.{Bound}
 use Rattle.cq_reading.specs.declared.bound.Block.{Block}
 use Rattle.cq_reading.specs.declared.error.BindError.{BindError}
-use Rattle.cq_reading.specs.Steps.{Reading}
 use Rattle.cq_reading.specs.Outcomes.{Binds}
 use Rattle.cq_reading.specs.Scopes.{World, Context}
 use Rattle.cq_reading.specs.Expressions.{reads}
 use Rattle.cq_reading.specs.Walk.{part_of, select_of}
-
--- one that may be called on any item
-abbrev pub IsCallable : {A : Type 0} → (MutBor Found → Bor A → Type 0) → Type 0
-IsCallable {A} pre = (old : MutBor Found) (a : Bor A) → pre old a
-
--- one that reads what r says of the item
-abbrev pub Follows : {A B : Type 0} → (MutBor Found → Bor A → Result B BindError → MutBor Found → Type 0) → (A → Reading B) → Type 0
-Follows {A} {B} post r = (old new : MutBor Found) (a : Bor A) (result : Result B BindError) → post old a result new → Binds (r a.now old.now) result new.now
-
--- the same with what stands before the item
-abbrev pub IsCallableOn : {S A : Type 0} → (MutBor Found → S → Bor A → Type 0) → Type 0
-IsCallableOn {S} {A} pre = (old : MutBor Found) (s : S) (a : Bor A) → pre old s a
-
-abbrev pub FollowsOn : {S A : Type 0} → (MutBor Found → S → Bor A → Result S BindError → MutBor Found → Type 0) → (S → A → Reading S) → Type 0
-FollowsOn {S} {A} post r = (old new : MutBor Found) (s : S) (a : Bor A) (result : Result S BindError) → post old s a result new → Binds (r s a.now old.now) result new.now
 
 -- function values that read expressions and SELECTs that stand deeper
 pub record Nests (left : ℕ)

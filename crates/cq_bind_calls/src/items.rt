@@ -46,7 +46,8 @@ pub trait Step {
         ensures { Binds (reading self.now before item.now found.old) result found.new };
 }
 
-fn through_all<S, T, P: Step<State = S, Item = T>>(
+/// Goes through the items of a slice in turn, from `first` on.
+pub fn through_all<S, T, P: Step<State = S, Item = T>>(
     step: &P,
     found: &mut Found,
     items: &[T],

@@ -5,11 +5,9 @@
 mod items;
 mod nested;
 mod scopes;
-mod steps;
 mod walk;
 
-pub use items::{Reader, Step, behind_of, each_of, through_of};
+pub use items::{Reader, Step, behind_of, each_of, through_all, through_of};
 pub use nested::Nested;
 pub use scopes::{alloc_of, nothing, plain};
-pub use steps::{behind, each, through, through_slice};
 pub use walk::Walk;

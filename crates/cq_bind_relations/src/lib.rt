@@ -2,7 +2,9 @@
 #![tactic(auto)]
 
 mod clauses;
+mod joins;
 mod relations;
+mod sources;
 mod walk;
 
 pub use walk::Froms;

@@ -1,5 +1,5 @@
 use Rattle.cq_bind_relations.proofs.FromLaws.{by_table, by_alias, by_subquery}
-use Rattle.cq_bind_relations.proofs.walk.Froms.relation.Goals as goal
+use Rattle.cq_bind_relations.proofs.sources.relation_of.Goals as goal
 
 pub returns-in-Table : goal.returns-in-Table
 returns-in-Table g c = by_table _ _ _ _ _ _ _ c.in-Table.is (c.table_relation.ensures _)
