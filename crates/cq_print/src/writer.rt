@@ -1,10 +1,9 @@
 ghost use Rattle.std.specs.Prelude.{◌≡◌, [], ◌++◌, ◌∷◌, map, IfOk, OnOk};
 ghost use Rattle.cq_token.specs.Printed.{printed};
-ghost use Rattle.cq_grammar.specs.Spelling.{word, sign, named, number, quoted, if_written};
+ghost use Rattle.cq_grammar.specs.Spelling.{word, sign, number, quoted, if_written};
 ghost use Rattle.cq_print.specs.Cases as cases;
 
 use crate::print::words_of;
-use cq_grammar::Name;
 use cq_token::{Sign, TokenKind, print};
 use cq_value::{Items, NoMemory, Text};
 use std::alloc::Global;
@@ -77,12 +76,6 @@ impl Writer {
         ensures { OnOk result (self.new ≡ self.old ++ sign mark) }
     {
         self.kinds.put(TokenKind::Sign(mark))
-    }
-
-    pub(crate) fn name(&mut self, name: &Name) -> Result<(), NoMemory>
-        ensures { OnOk result (self.new ≡ self.old ++ named name.now) }
-    {
-        self.word(name.text.as_str())
     }
 
     /// Writes the digits of a number.
