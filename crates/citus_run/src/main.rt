@@ -12,7 +12,7 @@ use cq_store::{BoxedStore, MemStore};
 use cq_top::{IdleGate, RunLog, Status, make_workers, run};
 use std::alloc::{AllocError, Global};
 use std::process::ExitCode;
-use std::{env, io};
+use std::{env, io, mem};
 use streams::{AnswerWriter, Blocks, ScriptReader};
 
 /// The most nodes of a run.
@@ -61,7 +61,11 @@ fn main(rt: HostRuntime) -> ExitCode {
         &mut workers,
         &mut log,
     );
-    match blocks.flush() {
+    let written = blocks.flush();
+    // The rows and answers end with the process: to give each of them back before would take a tenth of the run.
+    mem::forget(workers);
+    mem::forget(log);
+    match written {
         Ok(()) => ExitCode::from(status.number()),
         Err(_) => ExitCode::from(Status::WriteFault.number()),
     }

@@ -10,6 +10,7 @@ use cq_catalog::Catalog;
 use cq_grammar::{Ast, Query};
 use cq_reading::{BindError, Found};
 use cq_tree::{Aggs, Queries, Statement};
+use cq_value::Boxed;
 use std::alloc::Global;
 
 /// What is found before the walk, where the results of IN subqueries have numbers from this one on.
@@ -51,7 +52,7 @@ fn select(
     ensures { Binds (reading.selection catalog.now.tables q.now found.old) result found.new }
 {
     let bound = query(alloc, found, catalog, q)?;
-    Ok(Statement::Select(bound))
+    Ok(Statement::Select(Boxed::new(alloc, bound)?))
 }
 
 fn explain(
@@ -63,7 +64,7 @@ fn explain(
     ensures { Binds (reading.explanation catalog.now.tables q.now found.old) result found.new }
 {
     let bound = query(alloc, found, catalog, q)?;
-    Ok(Statement::Explain(bound))
+    Ok(Statement::Explain(Boxed::new(alloc, bound)?))
 }
 
 /// A statement that walks expressions.

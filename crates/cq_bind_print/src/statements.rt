@@ -18,7 +18,7 @@ fn written(alloc: Global, out: &mut Draft, catalog: &Catalog, statement: &Statem
         } => distribute(out, table, column, *count, with),
         Statement::Reference { table } => reference(out, table),
         Statement::Setting { which, value } => setting(out, *which, *value),
-        Statement::Select(q) => statement_query(alloc, out, catalog, q),
+        Statement::Select(q) => statement_query(alloc, out, catalog, q.get()),
         Statement::Write(op) => write(alloc, out, catalog, op),
         Statement::Copy {
             table,
@@ -28,7 +28,7 @@ fn written(alloc: Global, out: &mut Draft, catalog: &Catalog, statement: &Statem
         } => copy(out, catalog, *table, columns, *csv, *header),
         Statement::Explain(q) => {
             out.word("explain");
-            statement_query(alloc, out, catalog, q);
+            statement_query(alloc, out, catalog, q.get());
         }
         Statement::Move { shard, from, to } => move_shard(out, *shard, *from, *to),
         Statement::Rebalance { by_size } => rebalance(out, "rebalance_table_shards", *by_size),

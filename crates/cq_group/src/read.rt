@@ -13,7 +13,7 @@ use cq_demands::{Wanted, Wants, wants_at};
 use cq_pages::SharedRows;
 use cq_store::{ColumnValues, Store};
 use cq_tree::{Entry, EntryKind, Who};
-use cq_value::{NoMemory, Positions, Rows};
+use cq_value::Positions;
 use std::alloc::Global;
 
 impl<S: Store> GroupState<S> {
@@ -170,16 +170,18 @@ impl<S: Store> GroupState<S> {
     }
 
     /// The rows of a table that have each of these values, in order, and one Read in the journal; in a reference group they are
-    /// read on the near node, which is one of its nodes. Nothing is staged before or afterwards.
+    /// read on the near node, which is one of its nodes. Where no value is asked for, the store's pages are shared. Nothing is
+    /// staged before or afterwards.
     ///
     /// Errors: a store of that node failed, or want of memory. The journal is then as it was.
     pub fn pick(
         &mut self,
+        alloc: Global,
         who: Who,
         near: u32,
         table: u32,
         wanted: &ColumnValues,
-    ) -> Result<Rows, GroupError>
+    ) -> Result<SharedRows, GroupError>
         requires kept { IsKept S.state self.old }
         requires quiet { IsQuiet S.state self.old }
         requires there { HasTable self.old table }
@@ -194,12 +196,8 @@ impl<S: Store> GroupState<S> {
         ensures near { IfErr result (IsOn (node_read self.old near)) }
         ensures steady { IfErr result (λ e. IsSteady S.state self.old → e ≡ GroupError.Memory) }
     {
-        let alloc = *self.tables.allocator();
         let copy = self.copy_near(near);
-        let shared = self.pick_table(alloc, table, copy, wanted)?;
-        let Ok(rows) = shared.into_rows(alloc) else {
-            return Err(GroupError::Memory);
-        };
+        let rows = self.pick_table(alloc, table, copy, wanted)?;
         self.append_read(who)?;
         Ok(rows)
     }

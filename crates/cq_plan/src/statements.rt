@@ -71,7 +71,7 @@ pub fn touched(alloc: Global, catalog: &Catalog, s: &Statement) -> Result<Positi
     ensures { IfOk result (λ groups. groups ≡ touched_by_rule catalog.now s.now) }
 {
     match s {
-        Statement::Select(q) => touched_by_query(alloc, catalog, q),
+        Statement::Select(q) => touched_by_query(alloc, catalog, q.get()),
         Statement::Write(op) => touched_by_write(alloc, catalog, op),
         _ => in_order(alloc, catalog, &[]),
     }

@@ -115,8 +115,8 @@ pub fn refusal_of(
     ensures { IfOk result (λ r. r ≡ refusal_by_rule repartition catalog.now s.now) }
 {
     match s {
-        Statement::Select(q) => refusal_of_query(alloc, q, catalog, repartition),
-        Statement::Explain(q) => refusal_of_query(alloc, q, catalog, repartition),
+        Statement::Select(q) => refusal_of_query(alloc, q.get(), catalog, repartition),
+        Statement::Explain(q) => refusal_of_query(alloc, q.get(), catalog, repartition),
         Statement::Write(op) => Ok(refusal_of_write(catalog, op)),
         _ => Ok(None),
     }

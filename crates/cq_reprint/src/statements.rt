@@ -75,7 +75,7 @@ pub(crate) fn same_statement(a: &Statement, b: &Statement) -> bool
             == *j
             && *m == *n,
         (Statement::Select(p), Statement::Select(q))
-        | (Statement::Explain(p), Statement::Explain(q)) => same_query(p, q),
+        | (Statement::Explain(p), Statement::Explain(q)) => same_query(p.get(), q.get()),
         (Statement::Write(x), Statement::Write(y)) => same_write(x, y),
         (
             Statement::Copy {

@@ -109,7 +109,7 @@ fn written(alloc: Global, catalog: &Catalog, op: &ShardOp) -> Result<Positions, 
 /// The groups of each occurrence of a table in a query, or those of a write.
 fn touched(alloc: Global, catalog: &Catalog, statement: &Statement) -> Option<Touched> {
     match statement {
-        Statement::Select(q) => prune(alloc, catalog, q).ok(),
+        Statement::Select(q) => prune(alloc, catalog, q.get()).ok(),
         Statement::Write(op) => {
             let mut groups = Touched::new(alloc);
             groups.put(written(alloc, catalog, op).ok()?).ok()?;
