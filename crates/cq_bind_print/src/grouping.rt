@@ -3,52 +3,47 @@
 use crate::level::Level;
 use crate::outputs::is_column;
 use crate::scope::{Phrase, Scope};
-use cq_print::Writer;
+use cq_print::Draft;
 use cq_same::same_expr;
 use cq_token::Sign;
 use cq_tree::{Agg, Expr, Query};
 use cq_value::{Items, NoMemory};
 use std::alloc::Global;
 
-fn key(alloc: Global, scope: &Scope<'_>, key: &Expr) -> Result<Phrase, NoMemory> {
+fn key(alloc: Global, scope: &Scope<'_>, key: &Expr) -> Phrase {
     let level = scope.level(key);
-    let mut tokens = Writer::new(alloc);
-    scope.expr(&mut tokens, key, level)?;
-    Ok(Phrase { tokens, level })
+    let mut tokens = Draft::new(alloc);
+    scope.expr(&mut tokens, key, level);
+    Phrase { tokens, level }
 }
 
-fn aggregated(
-    out: &mut Writer,
-    scope: &Scope<'_>,
-    function: &str,
-    argument: &Expr,
-) -> Result<(), NoMemory> {
-    out.word(function)?;
-    out.sign(Sign::Open)?;
-    scope.expr(out, argument, Level::Sum)?;
-    out.sign(Sign::Close)
+fn aggregated(out: &mut Draft, scope: &Scope<'_>, function: &str, argument: &Expr) {
+    out.word(function);
+    out.sign(Sign::Open);
+    scope.expr(out, argument, Level::Sum);
+    out.sign(Sign::Close);
 }
 
-fn count_all(out: &mut Writer) -> Result<(), NoMemory> {
-    out.word("count")?;
-    out.sign(Sign::Open)?;
-    out.sign(Sign::Star)?;
-    out.sign(Sign::Close)
+fn count_all(out: &mut Draft) {
+    out.word("count");
+    out.sign(Sign::Open);
+    out.sign(Sign::Star);
+    out.sign(Sign::Close);
 }
 
-fn aggregate(alloc: Global, scope: &Scope<'_>, a: &Agg) -> Result<Phrase, NoMemory> {
-    let mut tokens = Writer::new(alloc);
+fn aggregate(alloc: Global, scope: &Scope<'_>, a: &Agg) -> Phrase {
+    let mut tokens = Draft::new(alloc);
     match a {
-        Agg::CountAll => count_all(&mut tokens)?,
-        Agg::Count(e) => aggregated(&mut tokens, scope, "count", e)?,
-        Agg::Sum(e) => aggregated(&mut tokens, scope, "sum", e)?,
-        Agg::Min(e) => aggregated(&mut tokens, scope, "min", e)?,
-        Agg::Max(e) => aggregated(&mut tokens, scope, "max", e)?,
+        Agg::CountAll => count_all(&mut tokens),
+        Agg::Count(e) => aggregated(&mut tokens, scope, "count", e),
+        Agg::Sum(e) => aggregated(&mut tokens, scope, "sum", e),
+        Agg::Min(e) => aggregated(&mut tokens, scope, "min", e),
+        Agg::Max(e) => aggregated(&mut tokens, scope, "max", e),
     }
-    Ok(Phrase {
+    Phrase {
         tokens,
         level: Level::Unary,
-    })
+    }
 }
 
 fn put_aggregates(
@@ -58,7 +53,7 @@ fn put_aggregates(
     aggs: &[Agg],
 ) -> Result<(), NoMemory> {
     for a in aggs {
-        all.put(aggregate(alloc, scope, a)?)?;
+        all.put(aggregate(alloc, scope, a))?;
     }
     Ok(())
 }
@@ -71,7 +66,7 @@ pub(crate) fn grouped(
 ) -> Result<Items<Phrase>, NoMemory> {
     let mut all = Items::new(alloc);
     for k in q.keys.as_slice() {
-        all.put(key(alloc, scope, k)?)?;
+        all.put(key(alloc, scope, k))?;
     }
     put_aggregates(alloc, &mut all, scope, q.aggs.as_slice())?;
     Ok(all)
@@ -84,30 +79,24 @@ fn output_of(keys: &[Expr], outputs: &[Expr], key: &Expr) -> Option<usize> {
 }
 
 /// Writes an output's place, counted from 1.
-pub(crate) fn by_place(out: &mut Writer, place: u64) -> Result<(), NoMemory> {
+pub(crate) fn by_place(out: &mut Draft, place: u64) {
     match place.checked_add(1) {
         Some(number) => out.number(number),
-        None => Err(NoMemory),
+        None => out.give_up(),
     }
 }
 
-pub(crate) fn group_by(
-    out: &mut Writer,
-    scope: &Scope<'_>,
-    keys: &[Expr],
-    outputs: &[Expr],
-) -> Result<(), NoMemory> {
+pub(crate) fn group_by(out: &mut Draft, scope: &Scope<'_>, keys: &[Expr], outputs: &[Expr]) {
     if keys.is_empty() {
-        return Ok(());
+        return;
     }
-    out.word("group")?;
-    out.word("by")?;
+    out.word("group");
+    out.word("by");
     for (i, key) in keys.iter().enumerate() {
-        out.sign_if(i > 0, Sign::Comma)?;
+        out.sign_if(i > 0, Sign::Comma);
         match output_of(keys, outputs, key) {
-            Some(place) => by_place(out, place as u64)?,
-            None => scope.no_number(out, key, Level::Sum)?,
+            Some(place) => by_place(out, place as u64),
+            None => scope.no_number(out, key, Level::Sum),
         }
     }
-    Ok(())
 }

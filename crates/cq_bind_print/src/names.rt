@@ -1,7 +1,7 @@
 //! Names that are invented, and those of tables and columns.
 
 use cq_catalog::{Catalog, TableInfo};
-use cq_print::Writer;
+use cq_print::Draft;
 use cq_token::Sign;
 use cq_value::{Column, Names, NoMemory, Positions, Text};
 use std::alloc::Global;
@@ -64,27 +64,19 @@ pub(crate) fn names_of(alloc: Global, columns: &[Column]) -> Result<Names, NoMem
 }
 
 /// Writes the name of the column in this place, where there is one.
-pub(crate) fn column_name(
-    out: &mut Writer,
-    columns: &[Column],
-    place: u32,
-) -> Result<(), NoMemory> {
+pub(crate) fn column_name(out: &mut Draft, columns: &[Column], place: u32) {
     match columns.get(place as usize) {
         Some(column) => out.word(column.name.as_str()),
-        None => Ok(()),
+        None => {}
     }
 }
 
 /// Writes the names of the columns in these places, in brackets.
-pub(crate) fn column_names(
-    out: &mut Writer,
-    columns: &[Column],
-    places: &Positions,
-) -> Result<(), NoMemory> {
-    out.sign(Sign::Open)?;
+pub(crate) fn column_names(out: &mut Draft, columns: &[Column], places: &Positions) {
+    out.sign(Sign::Open);
     for (i, place) in places.as_slice().iter().enumerate() {
-        out.sign_if(i > 0, Sign::Comma)?;
-        column_name(out, columns, *place)?;
+        out.sign_if(i > 0, Sign::Comma);
+        column_name(out, columns, *place);
     }
-    out.sign(Sign::Close)
+    out.sign(Sign::Close);
 }

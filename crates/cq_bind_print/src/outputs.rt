@@ -3,10 +3,10 @@
 use crate::from::Relation;
 use crate::level::Level;
 use crate::scope::Scope;
-use cq_print::Writer;
+use cq_print::Draft;
 use cq_token::Sign;
 use cq_tree::{Expr, Query};
-use cq_value::{NoMemory, Text};
+use cq_value::Text;
 
 pub(crate) fn is_column(place: u64, x: &Expr) -> bool {
     match x {
@@ -55,47 +55,45 @@ fn is_unwritten(name: &str) -> bool {
     name == "?column?" || name == "coalesce" || name == "case"
 }
 
-fn value(out: &mut Writer, scope: &Scope<'_>, x: &Expr, name: &str) -> Result<(), NoMemory> {
-    scope.expr(out, x, Level::Sum)?;
+fn value(out: &mut Draft, scope: &Scope<'_>, x: &Expr, name: &str) {
+    scope.expr(out, x, Level::Sum);
     if !is_unwritten(name) {
-        out.word("as")?;
-        out.word(name)?;
+        out.word("as");
+        out.word(name);
     }
-    Ok(())
 }
 
 /// `relation.*`
-fn star(out: &mut Writer, relation: &Relation) -> Result<(), NoMemory> {
-    out.word(relation.alias.as_str())?;
-    out.sign(Sign::Dot)?;
-    out.sign(Sign::Star)
+fn star(out: &mut Draft, relation: &Relation) {
+    out.word(relation.alias.as_str());
+    out.sign(Sign::Dot);
+    out.sign(Sign::Star);
 }
 
 /// Writes the outputs from left to right, as far as they have names.
 pub(crate) fn outputs(
-    out: &mut Writer,
+    out: &mut Draft,
     q: &Query,
     items: &[Expr],
     relations: &[Relation],
     scope: &Scope<'_>,
-) -> Result<(), NoMemory> {
+) {
     let names = q.names.as_slice();
     let mut written = 0usize;
     for (place, (x, name)) in items.iter().zip(names).enumerate() {
         if place < written {
             continue;
         }
-        out.sign_if(place > 0, Sign::Comma)?;
+        out.sign_if(place > 0, Sign::Comma);
         let found = relations
             .iter()
             .find(|relation| is_star(q, items, names, place, relation));
         match found {
             Some(relation) => {
-                star(out, relation)?;
+                star(out, relation);
                 written = place.saturating_add(relation.columns.len() as usize);
             }
-            None => value(out, scope, x, name.as_str())?,
+            None => value(out, scope, x, name.as_str()),
         }
     }
-    Ok(())
 }

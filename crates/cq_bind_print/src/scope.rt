@@ -1,10 +1,10 @@
 use crate::level::Level;
-use cq_print::Writer;
+use cq_print::Draft;
 
 /// What a column is written as, and the level of that.
 #[derive(Drop)]
 pub(crate) struct Phrase {
-    pub tokens: Writer,
+    pub tokens: Draft,
     pub level: Level,
 }
 
@@ -12,7 +12,7 @@ pub(crate) struct Phrase {
 #[derive(Drop)]
 pub(crate) struct Subquery {
     pub number: u64,
-    pub select: Writer,
+    pub select: Draft,
 }
 
 /// What an expression is written by: each column in its place, and the IN subqueries of its SELECT.

@@ -5,31 +5,26 @@ use crate::grouping::{by_place, group_by, grouped};
 use crate::level::Level;
 use crate::outputs::outputs;
 use crate::scope::{Scope, Subquery};
-use cq_print::Writer;
+use cq_print::Draft;
 use cq_token::Sign;
 use cq_tree::{Cond, Expr, Key, Query};
-use cq_value::NoMemory;
 use std::alloc::Global;
 
 /// Writes WHERE or HAVING: that every row is kept is not written.
-pub(crate) fn filter(
-    out: &mut Writer,
-    front: &str,
-    scope: &Scope<'_>,
-    c: &Cond,
-) -> Result<(), NoMemory> {
+pub(crate) fn filter(out: &mut Draft, front: &str, scope: &Scope<'_>, c: &Cond) {
     match c {
-        Cond::Always => Ok(()),
+        Cond::Always => {}
         c => {
-            out.word(front)?;
-            scope.cond(out, c, Level::Or)
+            out.word(front);
+            scope.cond(out, c, Level::Or);
         }
     }
 }
 
-fn order_key(out: &mut Writer, scope: &Scope<'_>, q: &Query, item: u32) -> Result<(), NoMemory> {
+fn order_key(out: &mut Draft, scope: &Scope<'_>, q: &Query, item: u32) {
     if item < q.shown {
-        return by_place(out, u64::from(item));
+        by_place(out, u64::from(item));
+        return;
     }
     match q.items.get(u64::from(item)) {
         Some(x) => scope.no_number(out, x, Level::Sum),
@@ -37,30 +32,28 @@ fn order_key(out: &mut Writer, scope: &Scope<'_>, q: &Query, item: u32) -> Resul
     }
 }
 
-fn order_by(out: &mut Writer, scope: &Scope<'_>, q: &Query, keys: &[Key]) -> Result<(), NoMemory> {
+fn order_by(out: &mut Draft, scope: &Scope<'_>, q: &Query, keys: &[Key]) {
     if keys.is_empty() {
-        return Ok(());
+        return;
     }
-    out.word("order")?;
-    out.word("by")?;
+    out.word("order");
+    out.word("by");
     for (i, key) in keys.iter().enumerate() {
-        out.sign_if(i > 0, Sign::Comma)?;
-        order_key(out, scope, q, key.item)?;
-        out.word_if(key.descending, "desc")?;
+        out.sign_if(i > 0, Sign::Comma);
+        order_key(out, scope, q, key.item);
+        out.word_if(key.descending, "desc");
     }
-    Ok(())
 }
 
-fn kept_part(out: &mut Writer, limit: Option<u64>, offset: u64) -> Result<(), NoMemory> {
+fn kept_part(out: &mut Draft, limit: Option<u64>, offset: u64) {
     if let Some(limit) = limit {
-        out.word("limit")?;
-        out.number(limit)?;
+        out.word("limit");
+        out.number(limit);
     }
     if offset > 0 {
-        out.word("offset")?;
-        out.number(offset)?;
+        out.word("offset");
+        out.number(offset);
     }
-    Ok(())
 }
 
 /// The outputs: the items that are shown.
@@ -71,45 +64,44 @@ fn shown(q: &Query) -> &[Expr] {
 }
 
 /// Writes a SELECT: `before` is what WHERE and the keys of GROUP BY are written by, `after` what stands behind the grouping.
-fn select_by(
-    out: &mut Writer,
-    q: &Query,
-    source: &Source,
-    before: &Scope<'_>,
-    after: &Scope<'_>,
-) -> Result<(), NoMemory> {
+fn select_by(out: &mut Draft, q: &Query, source: &Source, before: &Scope<'_>, after: &Scope<'_>) {
     let items = shown(q);
-    out.word("select")?;
-    out.word_if(q.distinct, "distinct")?;
-    outputs(out, q, items, source.relations.as_slice(), after)?;
-    out.word("from")?;
-    out.append(&source.tokens)?;
-    filter(out, "where", before, &q.filter)?;
-    group_by(out, before, q.keys.as_slice(), items)?;
-    filter(out, "having", after, &q.having)?;
-    order_by(out, after, q, q.order.as_slice())?;
-    kept_part(out, q.limit, q.offset)
+    out.word("select");
+    out.word_if(q.distinct, "distinct");
+    outputs(out, q, items, source.relations.as_slice(), after);
+    out.word("from");
+    out.append(&source.tokens);
+    filter(out, "where", before, &q.filter);
+    group_by(out, before, q.keys.as_slice(), items);
+    filter(out, "having", after, &q.having);
+    order_by(out, after, q, q.order.as_slice());
+    kept_part(out, q.limit, q.offset);
 }
 
 /// Writes a SELECT over its FROM, with its IN subqueries.
 pub(crate) fn select(
     alloc: Global,
-    out: &mut Writer,
+    out: &mut Draft,
     q: &Query,
     source: &Source,
     subqueries: &[Subquery],
-) -> Result<(), NoMemory> {
+) {
     let before = Scope {
         columns: source.columns.as_slice(),
         subqueries,
     };
     if !q.grouped {
-        return select_by(out, q, source, &before, &before);
+        select_by(out, q, source, &before, &before);
+        return;
     }
-    let columns = grouped(alloc, &before, q)?;
-    let after = Scope {
-        columns: columns.as_slice(),
-        subqueries,
-    };
-    select_by(out, q, source, &before, &after)
+    match grouped(alloc, &before, q) {
+        Ok(columns) => {
+            let after = Scope {
+                columns: columns.as_slice(),
+                subqueries,
+            };
+            select_by(out, q, source, &before, &after);
+        }
+        Err(NoMemory) => out.give_up(),
+    }
 }

@@ -2,17 +2,12 @@ use crate::commands::{create, distribute, move_shard, rebalance, reference, sett
 use crate::queries::statement_query;
 use crate::writes::{copy, write};
 use cq_catalog::Catalog;
-use cq_print::Writer;
+use cq_print::Draft;
 use cq_tree::Statement;
 use cq_value::{NoMemory, Text};
 use std::alloc::Global;
 
-fn written(
-    alloc: Global,
-    out: &mut Writer,
-    catalog: &Catalog,
-    statement: &Statement,
-) -> Result<(), NoMemory> {
+fn written(alloc: Global, out: &mut Draft, catalog: &Catalog, statement: &Statement) {
     match statement {
         Statement::CreateTable { name, columns, key } => create(out, name, columns, key),
         Statement::Distribute {
@@ -32,8 +27,8 @@ fn written(
             header,
         } => copy(out, catalog, *table, columns, *csv, *header),
         Statement::Explain(q) => {
-            out.word("explain")?;
-            statement_query(alloc, out, catalog, q.get())
+            out.word("explain");
+            statement_query(alloc, out, catalog, q.get());
         }
         Statement::Move { shard, from, to } => move_shard(out, *shard, *from, *to),
         Statement::Rebalance { by_size } => rebalance(out, "rebalance_table_shards", *by_size),
@@ -54,7 +49,7 @@ pub fn canonical(
     statement: &Statement,
     catalog: &Catalog,
 ) -> Result<Text, NoMemory> {
-    let mut out = Writer::new(alloc);
-    written(alloc, &mut out, catalog, statement)?;
+    let mut out = Draft::new(alloc);
+    written(alloc, &mut out, catalog, statement);
     out.into_text()
 }

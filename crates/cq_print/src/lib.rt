@@ -2,6 +2,7 @@
 //! writer of tokens under it.
 #![tactic(auto)]
 
+mod draft;
 mod expr;
 mod operators;
 mod print;
@@ -10,5 +11,6 @@ mod reserved;
 mod statement;
 mod writer;
 
+pub use draft::Draft;
 pub use print::print_ast;
 pub use writer::Writer;

@@ -9,8 +9,8 @@ ghost use Rattle.cq_grammar.specs.Spelling.{spelling};
 ghost use Rattle.cq_grammar.specs.Bare.{bare};
 ghost use Rattle.cq_print.specs.Cases as cases;
 
+use crate::draft::Draft;
 use crate::reserved::is_reserved;
-use crate::writer::Writer;
 use cq_grammar::Ast;
 use cq_token::{TokenKind, Word};
 use cq_value::{Items, NoMemory, Text};
@@ -48,7 +48,7 @@ pub fn print_ast(alloc: Global, statement: &Ast) -> Result<Text, NoMemory>
     ensures written { IfOk result (λ text. text ≡ printed (map cases.word_of (spelling statement.now))) }
     ensures again { (ts : List Token) → Accepted statement.now ts → AllByRecursion (λ t. IsKind t.kind) ts → IfOk result (λ text. (b : Ast) × (us : List Token) × (lexed.tokens text ≡ Ok us) × Accepted b us × (bare b ≡ bare statement.now)) }
 {
-    let mut writer = Writer::new(alloc);
-    writer.statement(statement)?;
-    writer.into_text()
+    let mut draft = Draft::new(alloc);
+    draft.statement(statement);
+    draft.into_text()
 }

@@ -1,10 +1,9 @@
 ghost use Rattle.std.specs.Prelude.{◌≡◌, [], ◌++◌, ◌∷◌, map, IfOk, OnOk};
 ghost use Rattle.cq_token.specs.Printed.{printed};
-ghost use Rattle.cq_grammar.specs.Spelling.{word, sign, named, number, quoted, if_written};
+ghost use Rattle.cq_grammar.specs.Spelling.{word, sign, number, quoted};
 ghost use Rattle.cq_print.specs.Cases as cases;
 
 use crate::print::words_of;
-use cq_grammar::Name;
 use cq_token::{Sign, TokenKind, print};
 use cq_value::{Items, NoMemory, Text};
 use std::alloc::Global;
@@ -79,12 +78,6 @@ impl Writer {
         self.kinds.put(TokenKind::Sign(mark))
     }
 
-    pub(crate) fn name(&mut self, name: &Name) -> Result<(), NoMemory>
-        ensures { OnOk result (self.new ≡ self.old ++ named name.now) }
-    {
-        self.word(name.text.as_str())
-    }
-
     /// Writes the digits of a number.
     pub fn number(&mut self, value: u64) -> Result<(), NoMemory>
         ensures { OnOk result (self.new ≡ self.old ++ number value) }
@@ -98,20 +91,6 @@ impl Writer {
     {
         let content = text_of(self.alloc, content)?;
         self.kinds.put(TokenKind::Text(content))
-    }
-
-    /// Writes a word that may be left out.
-    pub fn word_if(&mut self, written: bool, letters: &str) -> Result<(), NoMemory>
-        ensures { OnOk result (self.new ≡ self.old ++ if_written written (word letters.now)) }
-    {
-        if written { self.word(letters) } else { Ok(()) }
-    }
-
-    /// Writes a sign that may be left out.
-    pub fn sign_if(&mut self, written: bool, mark: Sign) -> Result<(), NoMemory>
-        ensures { OnOk result (self.new ≡ self.old ++ if_written written (sign mark)) }
-    {
-        if written { self.sign(mark) } else { Ok(()) }
     }
 
     /// Writes all that another has.

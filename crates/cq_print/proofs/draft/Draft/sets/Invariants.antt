@@ -1,0 +1,8 @@
+use Rattle.std.proofs.Common.{map, drop}
+use Rattle.cq_token.specs.declared.sign.Sign.TheVariants as s
+use Rattle.cq_grammar.specs.Spelling.{sign, each_behind, set_clause_spelling}
+use Rattle.cq_print.specs.Drafts.{Left}
+use Rattle.cq_print.proofs.draft.Draft.sets.Given as goal
+
+abbrev pub invariant-rest : goal.invariant-rest
+invariant-rest l = Left l.initial.self (each_behind (sign s.Comma) (map set_clause_spelling l.rest)) l.self (each_behind (sign s.Comma) (map set_clause_spelling (drop l.clause-index l.rest)))

@@ -1,8 +1,0 @@
-use Rattle.std.proofs.Common.{◌≡◌, ◌++◌, map, drop}
-use Rattle.cq_token.specs.declared.sign.Sign.TheVariants as s
-use Rattle.cq_grammar.specs.Spelling.{sign, each_behind, row_values_spelling}
-use Rattle.cq_print.proofs.writer.Writer.rows.Given as goal
-
-abbrev pub invariant-rest : goal.invariant-rest
-invariant-rest l =
-    l.initial.self ++ each_behind (sign s.Comma) (map row_values_spelling l.rest) ≡ l.self ++ each_behind (sign s.Comma) (map row_values_spelling (drop l.row-index l.rest))

@@ -1,8 +1,0 @@
-use Rattle.std.proofs.Common.{◌≡◌, ◌++◌, map, drop}
-use Rattle.cq_token.specs.declared.sign.Sign.TheVariants as s
-use Rattle.cq_grammar.specs.Spelling.{sign, each_behind, set_clause_spelling}
-use Rattle.cq_print.proofs.writer.Writer.sets.Given as goal
-
-abbrev pub invariant-rest : goal.invariant-rest
-invariant-rest l =
-    l.initial.self ++ each_behind (sign s.Comma) (map set_clause_spelling l.rest) ≡ l.self ++ each_behind (sign s.Comma) (map set_clause_spelling (drop l.clause-index l.rest))
