@@ -1,16 +1,20 @@
 -- A run of bytes cuts as its bytes do one by one.
-use Rattle.std.proofs.Common.{Bool, true, false, not, ◌&&◌, cond, eqb, ◌≡◌, ◌+◌, ℕ, suc, None, List, [], ◌∷◌, ◌++◌, take, drop, refl, sym, ◌∙◌, ap, subst, arith, append_assoc, append-nil, if◌then◌else◌}
-use Rattle.std.specs.List.{prefix_len}
+use Rattle.std.proofs.Common.{Bool, true, false, not, ◌&&◌, cond, eqb, ◌≡◌, ◌+◌, ◌-◌, ◌≤◌, ◌<◌, ℕ, zero, suc, None, List, [], ◌∷◌, ◌++◌, length, get_or, take, drop, fold, min, refl, sym, ◌∙◌, ap, subst, arith, append_assoc, append-nil, if◌then◌else◌}
+use Rattle.std.specs.Prelude.{◌==◌}
+use Rattle.std.specs.List.{prefix_len, count_by}
+use Rattle.std.proofs.lemmas.List.Sums.{sum_by-cons, prefix_len_is}
+use Rattle.memchr.specs.Find.{Nowhere, NoneBefore, Passes, is_byte}
 use Rattle.cq_token.specs.Bytes.{is_in_line}
 use Rattle.cq_script.specs.Streams.{counted}
 use Rattle.cq_script.specs.declared.scan.Scan.{Scan}
 use Rattle.cq_script.specs.declared.scan.Scan.TheVariants.{Code, Dash, Comment, Quote}
+use Rattle.cq_script.specs.declared.cutter.Line.{Line}
 use Rattle.cq_script.specs.declared.cutter.Line.TheVariants.{Start, Slash, End, Within}
 use Rattle.cq_script.specs.declared.cutter.Place.{Place}
 use Rattle.cq_script.specs.declared.cutter.Place.TheVariants.{Gap, GapDash, GapComment, Text, Rest, Data, Directive, Out}
 use Rattle.cq_script.specs.declared.cutter.Cutter.{Cutter}
 use Rattle.cq_script.specs.Scripts.{Stepped, is_copy, next, ends, step, goes, gives, cut}
-use Rattle.cq_script.specs.Runs.{is_plain_code, is_plain_quoted, run_len, with_run}
+use Rattle.cq_script.specs.Runs.{is_plain_code, is_plain_quoted, is_plain_data, is_line_end, run_len, data_line, number_behind, with_run}
 use Rattle.cq_script.proofs.CuttingLaws.{cut_none}
 
 -- ---- one byte
@@ -58,14 +62,23 @@ comment_step : (c : Cutter) (b : ℕ) → is_in_line b ≡ true → goes_on (Tex
 unfolding step next ends
 comment_step c b e = comment_by c b (eqb b 10) e
 
-data_by : (c : Cutter) (b : ℕ) (n : Bool) → not n ≡ true
-    → goes_on (Data Within) c b ≡ goes (Data (if n then Start else Within)) (record (on_line n (Data Within) c) { copied = c.copied ++ [] ++ b ∷ [] })
-data_by c b true e = absurd (let h : false ≡ true = e in cc)
-data_by c b false e = ap (λ (t : List ℕ). let made : Stepped = (None, record c { at = Data Within; copied = t ++ b ∷ [] }) in made) (sym (append-nil c.copied))
+-- the line of data is at its start, or farther on
+abbrev open_line : Bool → Line
+open_line t = if t then Start else Within
 
-data_step : (c : Cutter) (b : ℕ) → is_in_line b ≡ true → goes_on (Data Within) c b ≡ step (in_place (Data Within) c) b
+data_by : (at : Place) (c : Cutter) (b : ℕ) (n : Bool)
+    → (None, record c { at = Data (open_line n); line = (if n then counted c.line else c.line); copied = c.copied ++ b ∷ [] }) ≡ goes (Data (if n then Start else Within)) (record (on_line n at c) { copied = c.copied ++ [] ++ b ∷ [] })
+data_by at c b true = ap (λ (t : List ℕ). let made : Stepped = (None, record c { at = Data Start; line = counted c.line; copied = t ++ b ∷ [] }) in made) (sym (append-nil c.copied))
+data_by at c b false = ap (λ (t : List ℕ). let made : Stepped = (None, record c { at = Data Within; copied = t ++ b ∷ [] }) in made) (sym (append-nil c.copied))
+
+unslashed : (s : Bool) (x y : Stepped) → not s ≡ true → y ≡ (if s then x else y)
+unslashed true x y e = absurd (let h : false ≡ true = e in cc)
+unslashed false x y e = refl
+
+data_step : (t : Bool) (c : Cutter) (b : ℕ) → is_plain_data b ≡ true → goes_on (Data (open_line t)) c b ≡ step (in_place (Data (open_line t)) c) b
 unfolding step
-data_step c b e = data_by c b (eqb b 10) e
+data_step true c b e = data_by (Data Start) c b (eqb b 10) ∙ unslashed (eqb b 92) _ _ e
+data_step false c b e = data_by (Data Within) c b (eqb b 10)
 
 -- ---- all bytes
 
@@ -100,16 +113,6 @@ text_nil c = ap (λ (t : List ℕ). let made : Cutter = record c { text = t } in
 text_more : (c : Cutter) (xs ys : List ℕ) → with_text (with_text c xs) ys ≡ with_text c (xs ++ ys)
 text_more c xs ys = ap (λ (t : List ℕ). let made : Cutter = record c { text = t } in made) (append_assoc c.text xs ys)
 
--- bytes of data
-abbrev with_data : Cutter → List ℕ → Cutter
-with_data c xs = record c { copied = c.copied ++ xs }
-
-data_nil : (c : Cutter) → with_data c [] ≡ c
-data_nil c = ap (λ (t : List ℕ). let made : Cutter = record c { copied = t } in made) (append-nil c.copied)
-
-data_more : (c : Cutter) (xs ys : List ℕ) → with_data (with_data c xs) ys ≡ with_data c (xs ++ ys)
-data_more c xs ys = ap (λ (t : List ℕ). let made : Cutter = record c { copied = t } in made) (append_assoc c.copied xs ys)
-
 -- what holds of the cutter in a place holds of one that stands there
 there : (P : Cutter → Type 0) (at : Place) (c : Cutter) → c.at ≡ at → P (in_place at c) → P c
 there P at c is h = subst (λ (x : Place). P (in_place x c)) (sym is) h
@@ -119,19 +122,42 @@ text_run : (scan : Scan) (p : ℕ → Bool) → ((c : Cutter) (b : ℕ) → p b 
 text_run scan p one = cuts_all with_text text_nil text_more (Text scan) (λ c xs is. is) p
     (λ c b is e. there (λ (x : Cutter). (None, with_text x (b ∷ [])) ≡ step x b) (Text scan) c is (one c b e))
 
-data_run : (c : Cutter) (bs : List ℕ) → c.at ≡ Data Within → CutsTo with_data (prefix_len is_in_line bs) c bs
-data_run = cuts_all with_data data_nil data_more (Data Within) (λ c xs is. is) is_in_line
-    (λ c b is e. there (λ (x : Cutter). (None, with_data x (b ∷ [])) ≡ step x b) (Data Within) c is (data_step c b e))
+-- ---- bytes of data
+
+data_nil : (line : Line) (c : Cutter) → with_run (Data line) c [] ≡ in_place (Data line) c
+data_nil line c = ap (λ (t : List ℕ). let made : Cutter = record c { at = Data line; copied = t } in made) (append-nil c.copied)
+
+data_more : (line : Line) (c : Cutter) (b : ℕ) (bs : List ℕ) → with_run (Data (if b == 10 then Start else Within)) (with_run (Data line) c (b ∷ [])) bs ≡ with_run (Data line) c (b ∷ bs)
+data_more line c b bs =
+    ap (λ (t : List ℕ). let made : Cutter = record c { at = Data (data_line line (b ∷ bs)); line = number_behind c.line (b ∷ bs); copied = t } in made) (append_assoc c.copied (b ∷ []) bs)
+
+abbrev DataCutsTo : Bool → ℕ → Cutter → List ℕ → Type 0
+DataCutsTo t n c bs = cut (in_place (Data (open_line t)) c) bs ≡ cut (with_run (Data (open_line t)) c (take n bs)) (drop n bs)
+
+data_none : (t : Bool) (c : Cutter) (bs : List ℕ) → DataCutsTo t 0 c bs
+data_none t c bs = ap (λ (x : Cutter). cut x bs) (sym (data_nil (open_line t) c))
+
+data_one_more : (t : Bool) (n : ℕ) (c : Cutter) (b : ℕ) (bs : List ℕ) (s : Bool) → (s ≡ true → goes_on (Data (open_line t)) c b ≡ step (in_place (Data (open_line t)) c) b)
+    → DataCutsTo (b == 10) n (with_run (Data (open_line t)) c (b ∷ [])) bs → DataCutsTo t (cond s (1 + n) 0) c (b ∷ bs)
+data_one_more t n c b bs false one rest = data_none t c (b ∷ bs)
+data_one_more t n c b bs true one rest =
+    let is : 1 + n ≡ suc n = omega arith in
+    rw is (cut_none (in_place (Data (open_line t)) c) (with_run (Data (open_line t)) c (b ∷ [])) b bs (one refl) ∙ rest ∙ ap (λ (x : Cutter). cut x (drop n bs)) (data_more (open_line t) c b (take n bs)))
+
+data_run : (t : Bool) (c : Cutter) (bs : List ℕ) → DataCutsTo t (prefix_len is_plain_data bs) c bs
+data_run t c [] = data_none t c []
+data_run t c (b ∷ bs) =
+    data_one_more t (prefix_len is_plain_data bs) c b bs (is_plain_data b) (data_step t c b) (data_run (b == 10) (with_run (Data (open_line t)) c (b ∷ [])) bs)
 
 cut_run_at : (at : Place) (c : Cutter) (bs : List ℕ) → c.at ≡ at → cut c bs ≡ cut (with_run at c (take (run_len at bs) bs)) (drop (run_len at bs) bs)
 cut_run_at (Text Code) c bs is = text_run Code is_plain_code code_step c bs is
 cut_run_at (Text Dash) c bs is = cuts_none with_text text_nil c bs
 cut_run_at (Text Comment) c bs is = text_run Comment is_in_line comment_step c bs is
 cut_run_at (Text Quote) c bs is = text_run Quote is_plain_quoted quoted_step c bs is
-cut_run_at (Data Start) c bs is = cuts_none with_data data_nil c bs
-cut_run_at (Data Slash) c bs is = cuts_none with_data data_nil c bs
-cut_run_at (Data End) c bs is = cuts_none with_data data_nil c bs
-cut_run_at (Data Within) c bs is = data_run c bs is
+cut_run_at (Data Start) c bs is = there (λ (x : Cutter). cut x bs ≡ cut (with_run (Data Start) x (take (prefix_len is_plain_data bs) bs)) (drop (prefix_len is_plain_data bs) bs)) (Data Start) c is (data_run true c bs)
+cut_run_at (Data Slash) c bs is = there (λ (x : Cutter). cut x bs ≡ cut (with_run (Data Slash) x []) bs) (Data Slash) c is (ap (λ (x : Cutter). cut x bs) (sym (data_nil Slash c)))
+cut_run_at (Data End) c bs is = there (λ (x : Cutter). cut x bs ≡ cut (with_run (Data End) x []) bs) (Data End) c is (ap (λ (x : Cutter). cut x bs) (sym (data_nil End c)))
+cut_run_at (Data Within) c bs is = there (λ (x : Cutter). cut x bs ≡ cut (with_run (Data Within) x (take (prefix_len is_plain_data bs) bs)) (drop (prefix_len is_plain_data bs) bs)) (Data Within) c is (data_run false c bs)
 cut_run_at (Gap fresh) c bs is = refl
 cut_run_at GapDash c bs is = refl
 cut_run_at GapComment c bs is = refl
@@ -142,3 +168,46 @@ cut_run_at Out c bs is = refl
 -- the run at the front, and then the bytes left
 pub cut_run : (c : Cutter) (bs : List ℕ) → cut c bs ≡ cut (with_run c.at c (take (run_len c.at bs) bs)) (drop (run_len c.at bs) bs)
 cut_run c bs = cut_run_at c.at c bs refl
+
+-- ---- behind a run of data
+
+line_by_last : (line : Line) (bs : List ℕ) (i : ℕ) → length bs ≡ suc i → data_line line bs ≡ open_line (get_or bs i 0 == 10)
+line_by_last line [] i e = absurd (omega (arith, e))
+line_by_last line (b ∷ []) zero e = refl
+line_by_last line (b ∷ []) (suc i) e = absurd (omega (arith, e))
+line_by_last line (b ∷ c ∷ bs) zero e = absurd (omega (arith, e))
+line_by_last line (b ∷ c ∷ bs) (suc i) e = line_by_last (open_line (b == 10)) (c ∷ bs) i (omega (arith, e))
+
+pub line_start : (line : Line) (bs : List ℕ) → 1 ≤ length bs → get_or bs (length bs - 1) 0 ≡ 10 → Start ≡ data_line line bs
+line_start line bs le is = sym (line_by_last line bs (length bs - 1) (omega (arith, le)) ∙ ap (λ b. open_line (b == 10)) is)
+
+pub line_within : (line : Line) (bs : List ℕ) → 1 ≤ length bs → eqb (get_or bs (length bs - 1) 0) 10 ≡ false → Within ≡ data_line line bs
+line_within line bs le is = sym (line_by_last line bs (length bs - 1) (omega (arith, le)) ∙ ap open_line is)
+
+next_number : (number : ℕ) (t : Bool) → number ≤ 18446744073709551615 → (if t then counted number else number) ≤ 18446744073709551615
+next_number number true le = omega arith
+next_number number false le = le
+
+more_lines : (number : ℕ) (t : Bool) (n : ℕ) → number ≤ 18446744073709551615 → min ((if t then counted number else number) + n) 18446744073709551615 ≡ min (number + (cond t 1 0 + n)) 18446744073709551615
+more_lines number true n le = omega arith
+more_lines number false n le = let none : n ≡ 0 + n = omega arith in ap (λ k. min (number + k) 18446744073709551615) none
+
+pub number_by : (number : ℕ) (bs : List ℕ) → number ≤ 18446744073709551615 → number_behind number bs ≡ min (number + count_by is_line_end bs) 18446744073709551615
+number_by number [] le = omega arith
+number_by number (b ∷ bs) le =
+    number_by (if b == 10 then counted number else number) bs (next_number number (b == 10) le) ∙ more_lines number (b == 10) (count_by is_line_end bs) le
+    ∙ ap (λ n. min (number + n) 18446744073709551615) (sym (sum_by-cons (λ (x : ℕ). cond (is_line_end x) 1 0) b bs))
+
+-- ---- the first place of a byte
+
+not_yes : (t : Bool) → ¬ (t ≡ true) → not t ≡ true
+not_yes true never = absurd (never refl)
+not_yes false never = refl
+
+pub found_at : (a : ℕ) (bs : List ℕ) (n : ℕ) → NoneBefore (Passes (is_byte a) bs) 0 (length bs) n → Passes (is_byte a) bs n → n ≡ prefix_len (λ (b : ℕ). not (b == a)) bs
+found_at a bs n none here =
+    sym (prefix_len_is (λ (b : ℕ). not (b == a)) bs n 0 (omega (arith, none.high)) (λ k lt. not_yes (get_or bs k 0 == a) (none.before k (omega arith) lt)) (λ lt. ap not here))
+
+pub found_none : (a : ℕ) (bs : List ℕ) → Nowhere (Passes (is_byte a) bs) 0 (length bs) → length bs ≡ prefix_len (λ (b : ℕ). not (b == a)) bs
+found_none a bs none =
+    sym (prefix_len_is (λ (b : ℕ). not (b == a)) bs (length bs) 0 (omega arith) (λ k lt. not_yes (get_or bs k 0 == a) (none k (omega arith) lt)) (λ lt. absurd (omega arith)))

@@ -1,12 +1,13 @@
 ghost use Rattle.std.specs.Prelude.{◌≡◌, ◌≤◌, ◌++◌, [], ◌∷◌, length, None, IfOk, OnOk, MatchOption};
-ghost use Rattle.std.specs.List.{prefix_len};
+ghost use Rattle.std.specs.List.{prefix_len, count_by};
 ghost use Rattle.cq_script.specs.Scripts.{first, goes, gives, in_text, in_gap, in_dash, in_rest, keeps, in_data, line_behind as line_at, step, cut, last, misplaced, misplaced_at_end, Gives};
-ghost use Rattle.cq_script.specs.Runs.{is_plain_code, is_plain_quoted, run_len, with_run};
+ghost use Rattle.cq_script.specs.Runs.{is_plain_code, is_plain_quoted, is_plain_data, is_line_end, run_len, data_line, number_behind as number_behind_bytes, with_run};
 ghost use Rattle.cq_token.specs.Bytes.{is_blank as is_blank_byte, is_in_line};
 
 use crate::copying::is_copy;
 use crate::scan::Scan;
 use cq_value::{Items, NoMemory};
+use memchr::memchr;
 use std::alloc::Global;
 
 /// How many bytes of a statement there is room for at first.
@@ -141,6 +142,51 @@ fn line_len(bytes: &[u8]) -> usize
     bytes.iter().take_while(|b| **b != b'\n').count()
 }
 
+/// How many bytes of data stand in front of the first backslash.
+fn plain_data_len(bytes: &[u8]) -> usize
+    ensures value { result ≡ prefix_len is_plain_data bytes.now }
+    ensures within { result ≤ length bytes.now }
+{
+    match memchr(b'\\', bytes) {
+        Some(at) => at,
+        None => bytes.len(),
+    }
+}
+
+/// Where the line of data stands behind bytes without a backslash.
+fn line_behind_data(line: Line, run: &[u8]) -> Line
+    ensures { result ≡ data_line line run.now }
+{
+    match run {
+        [] => line,
+        [.., last] => {
+            if *last == b'\n' {
+                Line::Start
+            } else {
+                Line::Within
+            }
+        }
+    }
+}
+
+/// How many lines end in bytes.
+fn line_ends(bytes: &[u8]) -> u64
+    ensures { result ≡ count_by is_line_end bytes.now }
+{
+    let mut ends = 0u64;
+    for b in bytes {
+        ends = ends.wrapping_add(u64::from(*b == b'\n'));
+    }
+    ends
+}
+
+/// The number of the line behind bytes, of which the first stands in this line.
+fn number_behind(number: u64, bytes: &[u8]) -> u64
+    ensures { result ≡ number_behind_bytes number bytes.now }
+{
+    number.saturating_add(line_ends(bytes))
+}
+
 /// How many bytes of the front do nothing here but join what was begun.
 fn run_len(at: Place, bytes: &[u8]) -> usize
     ensures value { result ≡ run_len at bytes.now }
@@ -149,7 +195,8 @@ fn run_len(at: Place, bytes: &[u8]) -> usize
     match at {
         Place::Text(Scan::Code) => code_len(bytes),
         Place::Text(Scan::Quote) => quoted_len(bytes),
-        Place::Text(Scan::Comment) | Place::Data(Line::Within) => line_len(bytes),
+        Place::Text(Scan::Comment) => line_len(bytes),
+        Place::Data(Line::Start | Line::Within) => plain_data_len(bytes),
         _ => 0,
     }
 }
@@ -279,7 +326,11 @@ impl Cutter {
     {
         match self.at {
             Place::Text(_) => put_all(alloc, &mut self.text, run),
-            Place::Data(_) => put_all(alloc, &mut self.copied, run),
+            Place::Data(line) => {
+                self.at = Place::Data(line_behind_data(line, run));
+                self.line = number_behind(self.line, run);
+                put_all(alloc, &mut self.copied, run)
+            }
             _ => Ok(()),
         }
     }
