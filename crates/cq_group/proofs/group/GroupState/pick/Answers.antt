@@ -20,16 +20,6 @@ returns-in_err-shared-clause-steady g c =
     blames_none g.S.Store.state c.in_err-shared.field-0.0 c.args.self.now _ steady c.in_err-shared.ensures.blame in
     search rules
 
-pub returns-in_default-clause-kept : goal.returns-in_default-clause-kept
-returns-in_default-clause-kept g c = rested_kept g.S.Store.state c.args.self.now c.pick_table.new.self c.requires.kept c.pick_table.ensures.journal c.pick_table.ensures.same
-
-pub returns-in_default-clause-quiet : goal.returns-in_default-clause-quiet
-returns-in_default-clause-quiet g c = rested_quiet g.S.Store.state c.args.self.now c.pick_table.new.self c.pick_table.new.self c.requires.quiet c.pick_table.ensures.same refl
-
-pub returns-in_default-clause-goes_on : goal.returns-in_default-clause-goes_on
-returns-in_default-clause-goes_on g c =
-    rested_goes_on g.S.Store.state c.args.self.now c.pick_table.new.self c.pick_table.new.self c.pick_table.ensures.same c.pick_table.ensures.journal refl refl refl
-
 pub append_read-requires : goal.append_read-requires
 append_read-requires g c = rested_kept g.S.Store.state c.args.self.now c.pick_table.new.self c.requires.kept c.pick_table.ensures.journal c.pick_table.ensures.same
 
