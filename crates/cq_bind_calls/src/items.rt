@@ -1,6 +1,7 @@
 //! What is done with each item of a list. It is a type, not a closure: of a closure the check proves four functions.
 
 ghost use Rattle.std.specs.Prelude.{◌≡◌};
+ghost use Rattle.std.specs.List.{All};
 ghost use Rattle.cq_reading.specs.Steps as reading;
 ghost use Rattle.cq_reading.specs.Steps.{Reading};
 ghost use Rattle.cq_reading.specs.Outcomes.{Binds};
@@ -17,11 +18,11 @@ pub trait Reader {
 
     ghost reading: { Self → Self.Item → Reading Self.Bound };
 
-    ghost callable: { Self → Type 0 };
+    ghost callable: { Self → Self.Item → Type 0 };
 
     /// What one of them is read as.
     fn read(&self, found: &mut Found, item: &Self::Item) -> Result<Self::Bound, BindError>
-        requires { callable self.now }
+        requires { callable self.now item.now }
         ensures { Binds (reading self.now item.now found.old) result found.new };
 }
 
@@ -33,7 +34,7 @@ pub trait Step {
 
     ghost reading: { Self → Self.State → Self.Item → Reading Self.State };
 
-    ghost callable: { Self → Type 0 };
+    ghost callable: { Self → Self.Item → Type 0 };
 
     /// What stands after one of them.
     fn step(
@@ -42,7 +43,7 @@ pub trait Step {
         before: Self::State,
         item: &Self::Item,
     ) -> Result<Self::State, BindError>
-        requires { callable self.now }
+        requires { callable self.now item.now }
         ensures { Binds (reading self.now before item.now found.old) result found.new };
 }
 
@@ -53,7 +54,7 @@ pub fn through_all<S, T, P: Step<State = S, Item = T>>(
     items: &[T],
     first: S,
 ) -> Result<S, BindError>
-    requires callable { P.callable step.now }
+    requires callable { All (P.callable step.now) items.now }
     ensures { Binds (reading.through (P.reading step.now) items.now first found.old) result found.new }
 {
     let mut state = first;
@@ -70,7 +71,7 @@ pub fn through_of<S, T: Drop, P: Step<State = S, Item = T>>(
     items: &Items<T>,
     first: S,
 ) -> Result<S, BindError>
-    requires callable { P.callable step.now }
+    requires callable { All (P.callable step.now) items.now }
     ensures { Binds (reading.through (P.reading step.now) items.now first found.old) result found.new }
 {
     through_all(step, found, items.as_slice(), first)
@@ -106,7 +107,7 @@ pub fn behind_of<T: Drop, B: Drop, R: Reader<Item = T, Bound = B>>(
     items: &Items<T>,
     before: Items<B>,
 ) -> Result<Items<B>, BindError>
-    requires callable { R.callable reader.now }
+    requires callable { All (R.callable reader.now) items.now }
     ensures { Binds (reading.through (reading.with_next (R.reading reader.now)) items.now before found.old) result found.new }
 {
     through_of(&Next { reader }, found, items, before)
@@ -119,7 +120,7 @@ pub fn each_of<T: Drop, B: Drop, R: Reader<Item = T, Bound = B>>(
     found: &mut Found,
     items: &Items<T>,
 ) -> Result<Items<B>, BindError>
-    requires callable { R.callable reader.now }
+    requires callable { All (R.callable reader.now) items.now }
     ensures { Binds (reading.each (R.reading reader.now) items.now found.old) result found.new }
 {
     behind_of(reader, found, items, Items::new(alloc))
