@@ -18,7 +18,8 @@ pub(crate) fn both<N: Nested>(
     second: &Expr,
     scope: &Scope<'_>,
 ) -> Result<(Bound, Bound), BindError>
-    requires { N.callable nested.now }
+    requires first { N.may_read nested.now first.now }
+    requires second { N.may_read nested.now second.now }
     ensures { Binds (pairs.both (reads (part_of first.now) scope.now) (reads (part_of second.now) scope.now) found.old) result found.new }
 {
     let a = nested.expr(found, first, scope)?;

@@ -1,9 +1,11 @@
 //! What stands behind an operand of IN or BETWEEN.
 
 ghost use Rattle.std.specs.Prelude.{◌≡◌, map};
+ghost use Rattle.std.specs.List.{All};
 ghost use Rattle.cq_reading.specs.Outcomes.{Binds};
 ghost use Rattle.cq_reading.specs.Expressions as expression;
 ghost use Rattle.cq_reading.specs.Walk.{part_of, select_of, test_part};
+ghost use Rattle.cq_bind_calls.specs.Parts.{TestParts};
 ghost use Rattle.cq_bind_expressions.specs.Pairs as pairs;
 
 use crate::both::both;
@@ -21,7 +23,7 @@ fn subquery<N: Nested>(
     select: &Select,
     scope: &Scope<'_>,
 ) -> Result<(u32, Block), BindError>
-    requires { N.callable nested.now }
+    requires { N.may_select nested.now select.now }
     ensures { Binds (pairs.both expression.numbered (select_of select.now scope.now.world) found.old) result found.new }
 {
     let k = tests::numbered(found)?;
@@ -38,7 +40,7 @@ fn in_select<N: Nested>(
     negate: bool,
     at: u64,
 ) -> Result<Bound, BindError>
-    requires { N.callable nested.now }
+    requires { N.may_select nested.now select.now }
     ensures { Binds (expression.in_select_reading (select_of select.now) scope.now x negate at found.old) result found.new }
 {
     match subquery(nested, found, select, scope) {
@@ -59,7 +61,7 @@ fn in_list<N: Nested>(
     negate: bool,
     at: u64,
 ) -> Result<Bound, BindError>
-    requires { N.callable nested.now }
+    requires { All (N.may_read nested.now) items.now }
     ensures { Binds (expression.in_list_reading (map part_of items.now) scope.now x negate at found.old) result found.new }
 {
     match exprs(nested, found, items, scope) {
@@ -81,7 +83,8 @@ fn between<N: Nested>(
     negate: bool,
     at: u64,
 ) -> Result<Bound, BindError>
-    requires { N.callable nested.now }
+    requires low { N.may_read nested.now low.now }
+    requires high { N.may_read nested.now high.now }
     ensures { Binds (expression.between_reading (part_of low.now) (part_of high.now) scope.now x negate at found.old) result found.new }
 {
     match both(nested, found, low, high, scope) {
@@ -104,7 +107,7 @@ fn test<N: Nested>(
     negate: bool,
     at: u64,
 ) -> Result<Bound, BindError>
-    requires { N.callable nested.now }
+    requires { TestParts (N.may_read nested.now) (N.may_select nested.now) test.now }
     ensures { Binds ((test_part test.now).tests scope.now x negate at found.old) result found.new }
 {
     match test {
@@ -132,7 +135,8 @@ pub(crate) fn tested<N: Nested>(
     at: u64,
     scope: &Scope<'_>,
 ) -> Result<Bound, BindError>
-    requires { N.callable nested.now }
+    requires operand { N.may_read nested.now operand.now }
+    requires asked { TestParts (N.may_read nested.now) (N.may_select nested.now) asked.now }
     ensures { Binds (expression.tested_reading (part_of operand.now) negated (test_part asked.now) at scope.now found.old) result found.new }
 {
     let x = nested.expr(found, operand, scope)?;

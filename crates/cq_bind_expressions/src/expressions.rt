@@ -1,6 +1,7 @@
 //! The productions of expressions, each over what its parts are read as.
 
-ghost use Rattle.std.specs.Prelude.{◌≡◌, ◌∷◌, [], map, IfOk, ⊤};
+ghost use Rattle.std.specs.Prelude.{◌≡◌, ◌∷◌, [], map, IfOk, IfSome, ⊤};
+ghost use Rattle.std.specs.List.{All};
 ghost use Rattle.std.specs.Option.{option_map};
 ghost use Rattle.cq_reading.specs.Steps as reading;
 ghost use Rattle.cq_reading.specs.Outcomes.{Binds};
@@ -8,6 +9,8 @@ ghost use Rattle.cq_reading.specs.Rules as rule;
 ghost use Rattle.cq_reading.specs.Expressions as expression;
 ghost use Rattle.cq_reading.specs.Titles as title;
 ghost use Rattle.cq_reading.specs.Walk.{part_of, later_part, arm_part};
+ghost use Rattle.cq_grammar.specs.declared.expr.Chained.{out-Chained};
+ghost use Rattle.cq_bind_calls.specs.Parts.{ArmParts};
 
 use cq_bind_calls::{Nested, Reader, Step, alloc_of, behind_of, each_of, plain, through_of};
 use cq_bind_looks::{Form, form};
@@ -28,7 +31,8 @@ pub(crate) fn compare<N: Nested>(
     at: u64,
     scope: &Scope<'_>,
 ) -> Result<Bound, BindError>
-    requires { N.callable nested.now }
+    requires left { N.may_read nested.now left.now }
+    requires right { N.may_read nested.now right.now }
     ensures { Binds (expression.compare_reading (part_of left.now) operator (part_of right.now) at scope.now found.old) result found.new }
 {
     let a = nested.expr(found, left, scope)?;
@@ -55,7 +59,7 @@ impl<'a, 'b, N: Nested> Reader for LaterParts<'a, 'b, N> {
 
     ghost reading = { λ l c. expression.read_later l.scope.now (later_part c) };
 
-    ghost callable = { λ l. N.callable l.nested.now };
+    ghost callable = { λ l c. N.may_read l.nested.now (out-Chained c).part };
 
     #[tactic(auto, using(cq_bind_looks::proofs::Looks::later_part_is))]
     fn read(&self, found: &mut Found, item: &Chained) -> Result<(Bound, u64), BindError> {
@@ -80,7 +84,7 @@ fn chain_parts<N: Nested>(
     rest: &Items<Chained>,
     scope: &Scope<'_>,
 ) -> Result<Items<(Bound, u64)>, BindError>
-    requires { N.callable nested.now }
+    requires { All (λ c. N.may_read nested.now (out-Chained c).part) rest.now }
     ensures { Binds (reading.through (reading.with_next (expression.read_later scope.now)) (map later_part rest.now) ((first, 0) ∷ []) found.old) result found.new }
 {
     let parts = first_part(alloc_of(scope), first)?;
@@ -96,7 +100,8 @@ pub(crate) fn chain<N: Nested>(
     rest: &Items<Chained>,
     scope: &Scope<'_>,
 ) -> Result<Bound, BindError>
-    requires { N.callable nested.now }
+    requires first { N.may_read nested.now first.now }
+    requires rest { All (λ c. N.may_read nested.now (out-Chained c).part) rest.now }
     ensures { Binds (expression.chain_reading any (part_of first.now) (map later_part rest.now) scope.now found.old) result found.new }
 {
     let first = nested.expr(found, first, scope)?;
@@ -111,7 +116,7 @@ pub(crate) fn not<N: Nested>(
     at: u64,
     scope: &Scope<'_>,
 ) -> Result<Bound, BindError>
-    requires { N.callable nested.now }
+    requires { N.may_read nested.now inner.now }
     ensures { Binds (expression.not_reading (part_of inner.now) at scope.now found.old) result found.new }
 {
     let a = nested.expr(found, inner, scope)?;
@@ -131,7 +136,7 @@ impl Step for NullTests {
 
     ghost reading = { λ _ a test. rule.null_tested test.negated a test.at };
 
-    ghost callable = { λ _. ⊤ };
+    ghost callable = { λ _ _. ⊤ };
 
     fn step(&self, _found: &mut Found, before: Bound, item: &NullTest) -> Result<Bound, BindError> {
         tests::null_tested(self.alloc, item.negated, before, item.at)
@@ -146,7 +151,7 @@ pub(crate) fn null_tests<N: Nested>(
     rest: &Items<NullTest>,
     scope: &Scope<'_>,
 ) -> Result<Bound, BindError>
-    requires { N.callable nested.now }
+    requires { N.may_read nested.now first.now }
     ensures { Binds (expression.is_reading (part_of first.now) rest.now scope.now found.old) result found.new }
 {
     let first = nested.expr(found, first, scope)?;
@@ -165,7 +170,7 @@ fn unfolded<N: Nested>(
     at: u64,
     scope: &Scope<'_>,
 ) -> Result<Bound, BindError>
-    requires { N.callable nested.now }
+    requires { N.may_read nested.now inner.now }
     ensures { Binds (expression.signed_reading sign (part_of inner.now) title.Other at scope.now found.old) result found.new }
 {
     let a = nested.expr(found, inner, scope)?;
@@ -181,7 +186,7 @@ pub(crate) fn signed<N: Nested>(
     at: u64,
     scope: &Scope<'_>,
 ) -> Result<Bound, BindError>
-    requires { N.callable nested.now }
+    requires { N.may_read nested.now inner.now }
     ensures { Binds (expression.signed_reading sign (part_of inner.now) (part_of inner.now).form at scope.now found.old) result found.new }
 {
     match form(inner) {
@@ -206,7 +211,7 @@ impl<'a, 'b, N: Nested> Reader for CaseArms<'a, 'b, N> {
 
     ghost reading = { λ a arm. expression.read_arm a.scope.now (arm_part arm) };
 
-    ghost callable = { λ a. N.callable a.nested.now };
+    ghost callable = { λ a arm. ArmParts (N.may_read a.nested.now) arm };
 
     #[tactic(auto, using(cq_bind_looks::proofs::Looks::arm_part_is))]
     fn read(&self, found: &mut Found, item: &Arm) -> Result<(Bound, Bound), BindError> {
@@ -227,7 +232,7 @@ fn arms<N: Nested>(
     arms: &Items<Arm>,
     scope: &Scope<'_>,
 ) -> Result<Items<(Bound, Bound)>, BindError>
-    requires { N.callable nested.now }
+    requires { All (ArmParts (N.may_read nested.now)) arms.now }
     ensures { Binds (reading.each (expression.read_arm scope.now) (map arm_part arms.now) found.old) result found.new }
 {
     each_of(alloc_of(scope), &CaseArms { nested, scope }, found, arms)
@@ -240,7 +245,7 @@ fn otherwise<N: Nested>(
     other: &Option<Boxed<Expr>>,
     scope: &Scope<'_>,
 ) -> Result<Bound, BindError>
-    requires { N.callable nested.now }
+    requires { IfSome other.now (N.may_read nested.now) }
     ensures { Binds (expression.read_else scope.now (option_map part_of other.now) found.old) result found.new }
 {
     match other {
@@ -257,7 +262,8 @@ pub(crate) fn case<N: Nested>(
     at: u64,
     scope: &Scope<'_>,
 ) -> Result<Bound, BindError>
-    requires { N.callable nested.now }
+    requires arms { All (ArmParts (N.may_read nested.now)) list.now }
+    requires other { IfSome other.now (N.may_read nested.now) }
     ensures { Binds (expression.case_reading (map arm_part list.now) (option_map part_of other.now) at scope.now found.old) result found.new }
 {
     let pairs = arms(nested, found, list, scope)?;
@@ -279,7 +285,7 @@ impl<'a, 'b, N: Nested> Reader for Listed<'a, 'b, N> {
 
     ghost reading = { λ l e. expression.reads (part_of e) l.scope.now };
 
-    ghost callable = { λ l. N.callable l.nested.now };
+    ghost callable = { λ l e. N.may_read l.nested.now e };
 
     fn read(&self, found: &mut Found, item: &Expr) -> Result<Bound, BindError> {
         self.nested.expr(found, item, self.scope)
@@ -293,7 +299,7 @@ pub(crate) fn exprs<N: Nested>(
     items: &Items<Expr>,
     scope: &Scope<'_>,
 ) -> Result<Items<Bound>, BindError>
-    requires { N.callable nested.now }
+    requires { All (N.may_read nested.now) items.now }
     ensures { Binds (reading.each (λ p. expression.reads p scope.now) (map part_of items.now) found.old) result found.new }
 {
     each_of(alloc_of(scope), &Listed { nested, scope }, found, items)
@@ -306,7 +312,7 @@ pub(crate) fn coalesce<N: Nested>(
     at: u64,
     scope: &Scope<'_>,
 ) -> Result<Bound, BindError>
-    requires { N.callable nested.now }
+    requires { All (N.may_read nested.now) items.now }
     ensures { Binds (expression.coalesce_reading (map part_of items.now) at scope.now found.old) result found.new }
 {
     let items = exprs(nested, found, items, scope)?;
@@ -322,7 +328,7 @@ pub(crate) fn aggregate<N: Nested>(
     at: u64,
     scope: &Scope<'_>,
 ) -> Result<Bound, BindError>
-    requires { N.callable nested.now }
+    requires { N.may_read nested.now argument.now }
     ensures { Binds (expression.aggregate_reading function (part_of argument.now) at scope.now found.old) result found.new }
 {
     let a = nested.expr(found, argument, &plain(scope))?;

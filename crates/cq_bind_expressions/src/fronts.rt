@@ -1,6 +1,7 @@
 //! The longest front of a chain from left to right that is a key of its query.
 
 ghost use Rattle.std.specs.Prelude.{◌≡◌, ◌&&◌, not, None, IfOk, MatchResult};
+ghost use Rattle.std.specs.List.{All};
 ghost use Rattle.cq_reading.specs.declared.error.BindError.TheVariants.{Memory};
 ghost use Rattle.cq_reading.specs.Scopes as scopes;
 ghost use Rattle.cq_reading.specs.Expressions.{reads};
@@ -86,7 +87,7 @@ fn lengthened<N: Nested, T: Operand>(
     operand: &T,
     scope: &Scope<'_>,
 ) -> Result<Option<Bound>, BindError>
-    requires { N.callable nested.now }
+    requires { N.may_read nested.now (T.inner operand.now) }
     ensures { Finds (longer T.part (with_operand T.part T.joins scope.now) (front_read front found.old) operand.now) result found.new }
 {
     match front {
@@ -105,7 +106,7 @@ fn searched<N: Nested, T: Operand>(
     keys: &[Expr],
     scope: &Scope<'_>,
 ) -> Result<Search, BindError>
-    requires { N.callable nested.now }
+    requires { N.may_read nested.now (T.inner operand.now) }
     ensures goes_on { MatchResult result (λ s. GoesOn keys.now (longer T.part (with_operand T.part T.joins scope.now) (front_read search.front found.old) operand.now) taken search.best s found.new) (λ e. e ≡ Memory) }
     ensures within { IfOk result (λ s. IsAmong taken search.best s.best) }
 {
@@ -129,7 +130,7 @@ fn longest_front<N: Nested, T: Operand>(
     keys: &[Expr],
     before: &Scope<'_>,
 ) -> Result<Option<Front>, BindError>
-    requires { N.callable nested.now }
+    requires { All (λ x. N.may_read nested.now (T.inner x)) rest.now }
     ensures longest { MatchResult result (λ k. behind rest.now k ≡ longest keys.now T.part (with_operand T.part T.joins before.now) None (front_read first found.old) rest.now) (λ e. e ≡ Memory) }
     ensures within { IfOk result (λ k. IsWithin rest.now k) }
 {
@@ -153,7 +154,7 @@ fn tried<N: Nested>(
     e: &grammar::Expr,
     scope: &Scope<'_>,
 ) -> Result<Option<Bound>, BindError>
-    requires { N.callable nested.now }
+    requires { N.may_read nested.now e.now }
     ensures { Finds (tried (scope.now.grouped && not (part_of e.now).selects) (reads (part_of e.now) (scopes.plain scope.now) found.old)) result found.new }
 {
     if scope.grouped && !selects(e) {
@@ -170,7 +171,8 @@ pub(crate) fn key_front<N: Nested, T: Operand>(
     rest: &[T],
     scope: &Scope<'_>,
 ) -> Result<Option<Front>, BindError>
-    requires { N.callable nested.now }
+    requires first { N.may_read nested.now first.now }
+    requires rest { All (λ x. N.may_read nested.now (T.inner x)) rest.now }
     ensures longest { MatchResult result (λ k. behind rest.now k ≡ longest scope.now.keys T.part (with_operand T.part T.joins (scopes.plain scope.now)) None (tried_part scope.now (part_of first.now)) rest.now) (λ e. e ≡ Memory) }
     ensures within { IfOk result (λ k. IsWithin rest.now k) }
 {

@@ -8,6 +8,5 @@ mod fronts;
 mod nodes;
 mod operand;
 mod sums;
-mod walk;
 
-pub use walk::Expressions;
+pub use nodes::reading;

@@ -7,6 +7,7 @@ ghost use Rattle.cq_reading.specs.Expressions.{reads};
 ghost use Rattle.cq_reading.specs.Rules as rule;
 ghost use Rattle.cq_reading.specs.Scopes as scopes;
 ghost use Rattle.cq_reading.specs.Walk.{part_of};
+ghost use Rattle.cq_bind_calls.specs.Parts.{PartsOf};
 ghost use Rattle.cq_bind_expressions.specs.Keys.{key_of, IsKeyOf};
 
 use crate::conditions::tested;
@@ -42,7 +43,7 @@ fn node<N: Nested>(
     e: &Expr,
     scope: &Scope<'_>,
 ) -> Result<Bound, BindError>
-    requires { N.callable nested.now }
+    requires { PartsOf (N.may_read nested.now) (N.may_select nested.now) e.now }
     ensures { Binds ((part_of e.now).node scope.now found.old) result found.new }
 {
     match e {
@@ -82,7 +83,7 @@ fn arithmetic<N: Nested>(
     e: &Expr,
     scope: &Scope<'_>,
 ) -> Result<Bound, BindError>
-    requires { N.callable nested.now }
+    requires { PartsOf (N.may_read nested.now) (N.may_select nested.now) e.now }
     ensures { Binds ((part_of e.now).node scope.now found.old) result found.new }
 {
     match e {
@@ -102,7 +103,7 @@ fn choice<N: Nested>(
     e: &Expr,
     scope: &Scope<'_>,
 ) -> Result<Bound, BindError>
-    requires { N.callable nested.now }
+    requires { PartsOf (N.may_read nested.now) (N.may_select nested.now) e.now }
     ensures { Binds ((part_of e.now).node scope.now found.old) result found.new }
 {
     match e {
@@ -139,7 +140,7 @@ fn atom(e: &Expr, scope: &Scope<'_>) -> Result<Bound, BindError>
 
 /// The column of the key that an expression is, if it is one.
 fn as_key<N: Nested>(nested: &N, e: &Expr, scope: &Scope<'_>) -> Result<Option<Bound>, BindError>
-    requires { N.callable nested.now }
+    requires { PartsOf (N.may_read nested.now) (N.may_select nested.now) e.now }
     ensures { MatchResult result (λ k. k ≡ key_of scope.now.keys ((part_of e.now).node (scopes.plain scope.now) rule.nothing)) (λ e. e ≡ Memory) }
 {
     let mut found = nothing(alloc_of(scope));
@@ -155,7 +156,7 @@ fn or_node<N: Nested>(
     e: &Expr,
     scope: &Scope<'_>,
 ) -> Result<Bound, BindError>
-    requires { N.callable nested.now }
+    requires { PartsOf (N.may_read nested.now) (N.may_select nested.now) e.now }
     ensures { Binds (rule.if_key key ((part_of e.now).node scope.now) found.old) result found.new }
 {
     match key {
@@ -171,7 +172,7 @@ fn keyed<N: Nested>(
     e: &Expr,
     scope: &Scope<'_>,
 ) -> Result<Bound, BindError>
-    requires { N.callable nested.now }
+    requires { PartsOf (N.may_read nested.now) (N.may_select nested.now) e.now }
     ensures { Binds (rule.keyed scope.now.keys ((part_of e.now).node (scopes.plain scope.now)) ((part_of e.now).node scope.now) found.old) result found.new }
 {
     let key = as_key(nested, e, scope)?;
@@ -180,13 +181,13 @@ fn keyed<N: Nested>(
 
 /// An expression in a scope. In a query that groups a whole expression that is a key stands for the key's column, where no IN
 /// subquery stands in it.
-pub(crate) fn reading<N: Nested>(
+pub fn reading<N: Nested>(
     nested: &N,
     found: &mut Found,
     e: &Expr,
     scope: &Scope<'_>,
 ) -> Result<Bound, BindError>
-    requires { N.callable nested.now }
+    requires { PartsOf (N.may_read nested.now) (N.may_select nested.now) e.now }
     ensures { Binds (reads (part_of e.now) scope.now found.old) result found.new }
 {
     if scope.grouped && !selects(e) {

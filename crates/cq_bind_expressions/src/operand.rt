@@ -1,6 +1,8 @@
 //! The operands of sums and products behind the first.
 
 ghost use Rattle.std.specs.Prelude.{◌≡◌, not};
+ghost use Rattle.std.specs.List.{All};
+ghost use Rattle.cq_grammar.specs.declared.expr.Expr.{Expr as TheExpr};
 ghost use Rattle.cq_reading.specs.Outcomes.{Binds, Judges};
 ghost use Rattle.cq_reading.specs.Parts.{Part};
 ghost use Rattle.cq_reading.specs.Steps.{through};
@@ -16,13 +18,16 @@ use std::alloc::Global;
 
 /// An operand, with the sign before it.
 pub(crate) trait Operand {
+    ghost inner: { Self → TheExpr };
+
     ghost part: { Self → Part };
 
     ghost joins: { Self → Joins };
 
     /// The operand without its sign.
     fn expression(&self) -> &Expr
-        ensures { part_of result.now ≡ part self.now };
+        ensures inner { result.now ≡ inner self.now }
+        ensures part { part_of result.now ≡ part self.now };
 
     /// What stands before the sign as `a`, with the operand, which is read as `b`.
     fn joined(&self, alloc: Global, a: Bound, b: Bound) -> Result<Bound, BindError>
@@ -37,7 +42,7 @@ pub(crate) fn with_operand<N: Nested, T: Operand>(
     operand: &T,
     scope: &Scope<'_>,
 ) -> Result<Bound, BindError>
-    requires { N.callable nested.now }
+    requires { N.may_read nested.now (T.inner operand.now) }
     ensures { Binds (with_operand T.part T.joins scope.now a operand.now found.old) result found.new }
 {
     match nested.expr(found, operand.expression(), scope) {
@@ -57,7 +62,7 @@ pub(crate) fn with_operands<N: Nested, T: Operand>(
     rest: &[T],
     scope: &Scope<'_>,
 ) -> Result<Bound, BindError>
-    requires { N.callable nested.now }
+    requires { All (λ x. N.may_read nested.now (T.inner x)) rest.now }
     ensures { Binds (through (with_operand T.part T.joins scope.now) rest.now first found.old) result found.new }
 {
     let mut all = first;
@@ -86,7 +91,7 @@ pub(crate) fn tried_operand<N: Nested, T: Operand>(
     operand: &T,
     scope: &Scope<'_>,
 ) -> Result<Option<Bound>, BindError>
-    requires { N.callable nested.now }
+    requires { N.may_read nested.now (T.inner operand.now) }
     ensures { Finds (tried (not (T.part operand.now).selects) (with_operand T.part T.joins scope.now a operand.now found.old)) result found.new }
 {
     if selects(operand.expression()) {

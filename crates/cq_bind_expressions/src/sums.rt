@@ -1,6 +1,9 @@
 //! Sums and products, from left to right.
 
 ghost use Rattle.std.specs.Prelude.{◌≡◌, ◌&&◌, map, not};
+ghost use Rattle.std.specs.List.{All};
+ghost use Rattle.cq_grammar.specs.declared.expr.Added.{out-Added};
+ghost use Rattle.cq_grammar.specs.declared.expr.Multiplied.{out-Multiplied};
 ghost use Rattle.cq_reading.specs.Outcomes.{Binds, Judges};
 ghost use Rattle.cq_reading.specs.Scopes as scopes;
 ghost use Rattle.cq_reading.specs.Rules as rule;
@@ -21,6 +24,8 @@ use cq_value::Items;
 use std::alloc::Global;
 
 impl Operand for Added {
+    ghost inner = { λ x. (out-Added x).term };
+
     ghost part = { λ x. (added_part x).part };
 
     ghost joins = { λ x a b. rule.added (added_part x).operator a b (added_part x).at };
@@ -37,6 +42,8 @@ impl Operand for Added {
 }
 
 impl Operand for Multiplied {
+    ghost inner = { λ x. (out-Multiplied x).factor };
+
     ghost part = { λ x. (multiplied_part x).part };
 
     ghost joins = { λ x a b. rule.multiplied (multiplied_part x).operator a b (title.literal_of (multiplied_part x).part.form) (multiplied_part x).at };
@@ -66,7 +73,8 @@ fn from_left<N: Nested, T: Operand>(
     rest: &[T],
     scope: &Scope<'_>,
 ) -> Result<Bound, BindError>
-    requires { N.callable nested.now }
+    requires first { N.may_read nested.now first.now }
+    requires rest { All (λ x. N.may_read nested.now (T.inner x)) rest.now }
     ensures { Binds (reads (expression.from_left T.part (with_operand T.part T.joins) (part_of first.now) rest.now) scope.now found.old) result found.new }
 {
     match key_front(nested, first, rest, scope)? {
@@ -85,7 +93,8 @@ pub(crate) fn sum<N: Nested>(
     rest: &Items<Added>,
     scope: &Scope<'_>,
 ) -> Result<Bound, BindError>
-    requires { N.callable nested.now }
+    requires first { N.may_read nested.now first.now }
+    requires rest { All (λ a. N.may_read nested.now (out-Added a).term) rest.now }
     ensures { Binds (expression.sum_reading (part_of first.now) (map added_part rest.now) scope.now found.old) result found.new }
 {
     from_left(nested, found, first, rest.as_slice(), scope)
@@ -98,7 +107,8 @@ pub(crate) fn product<N: Nested>(
     rest: &Items<Multiplied>,
     scope: &Scope<'_>,
 ) -> Result<Bound, BindError>
-    requires { N.callable nested.now }
+    requires first { N.may_read nested.now first.now }
+    requires rest { All (λ m. N.may_read nested.now (out-Multiplied m).factor) rest.now }
     ensures { Binds (expression.product_reading (part_of first.now) (map multiplied_part rest.now) scope.now found.old) result found.new }
 {
     from_left(nested, found, first, rest.as_slice(), scope)

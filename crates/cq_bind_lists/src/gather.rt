@@ -1,6 +1,8 @@
 //! The outputs that the items of a select list stand for, gone through in turn.
 
 ghost use Rattle.std.specs.Prelude.{◌≡◌, map};
+ghost use Rattle.std.specs.List.{All};
+ghost use Rattle.cq_grammar.specs.declared.expr.Expr.{Expr as TheExpr};
 ghost use Rattle.cq_reading.specs.Steps as reading;
 ghost use Rattle.cq_reading.specs.Steps.{Reading};
 ghost use Rattle.cq_reading.specs.Outcomes.{Binds, Judges};
@@ -9,6 +11,7 @@ ghost use Rattle.cq_reading.specs.Scopes.{Context};
 ghost use Rattle.cq_reading.specs.Selects as spec;
 ghost use Rattle.cq_reading.specs.Selects.{Target};
 ghost use Rattle.cq_reading.specs.Walk.{part_of, item_part};
+ghost use Rattle.cq_bind_calls.specs.Parts.{ItemParts};
 ghost use Rattle.cq_bind_lists.specs.Stars as stars;
 
 use crate::stars::{Star, is_meant, is_there};
@@ -23,7 +26,7 @@ pub trait Gather {
 
     ghost step: { Self → Context → Self.State → Target → Reading Self.State };
 
-    ghost callable: { Self → Type 0 };
+    ghost may_read: { Self → TheExpr → Type 0 };
 
     /// A column that `*` stands for.
     fn star(
@@ -54,7 +57,7 @@ pub trait Gather {
         value: &Expr,
         alias: &Option<Name>,
     ) -> Result<Self::State, BindError>
-        requires { callable self.now }
+        requires { may_read self.now value.now }
         ensures { Binds (step self.now scope.now before (stars.value_target (part_of value.now) (stars.alias_of alias.now)) found.old) result found.new };
 }
 
@@ -137,7 +140,7 @@ impl<'a, G: Gather> Step for EachItem<'a, G> {
 
     ghost reading = { λ s before item. reading.through (G.step s.gather.now s.scope.now) (spec.targets_of s.scope.now.columns (item_part item)) before };
 
-    ghost callable = { λ s. G.callable s.gather.now };
+    ghost callable = { λ s item. ItemParts (G.may_read s.gather.now) item };
 
     fn step(
         &self,
@@ -163,7 +166,7 @@ pub fn gather_all<G: Gather>(
     items: &Items<Item>,
     first: G::State,
 ) -> Result<G::State, BindError>
-    requires callable { G.callable gather.now }
+    requires callable { All (ItemParts (G.may_read gather.now)) items.now }
     ensures { Binds (reading.through (G.step gather.now scope.now) (spec.targets scope.now.columns (map item_part items.now)) first found.old) result found.new }
 {
     through_of(&EachItem { gather, scope }, found, items, first)

@@ -1,12 +1,14 @@
 //! GROUP BY, of which a key may be the place or the name of an output.
 
-ghost use Rattle.std.specs.Prelude.{◌≡◌, Some, position, map};
+ghost use Rattle.std.specs.Prelude.{◌≡◌, Some, position, map, IfSome};
+ghost use Rattle.std.specs.List.{All};
 ghost use Rattle.std.specs.Option.{option_map};
 ghost use Rattle.cq_reading.specs.declared.error.Limited.TheVariants as limited;
 ghost use Rattle.cq_reading.specs.Outcomes.{Binds};
 ghost use Rattle.cq_reading.specs.Scopes as scopes;
 ghost use Rattle.cq_reading.specs.Selects as spec;
 ghost use Rattle.cq_reading.specs.Walk.{part_of, item_part, group_part};
+ghost use Rattle.cq_bind_calls.specs.Parts.{GroupParts, ItemParts};
 
 use crate::pick::{output_at, outputs_named};
 use crate::values::{check_number, put, value};
@@ -42,7 +44,7 @@ fn key_by_title<N: Nested>(
     items: &Items<Item>,
     scope: &Scope<'_>,
 ) -> Result<Bound, BindError>
-    requires { N.callable nested.now }
+    requires { All (ItemParts (N.may_read nested.now)) items.now }
     ensures { Binds (spec.key_by_title scope.now (spec.targets scope.now.columns (map item_part items.now)) name.now at found.old) result found.new }
 {
     let bounds = outputs_named(nested, found, name, items, scope)?;
@@ -58,7 +60,8 @@ fn key_by_name<N: Nested>(
     items: &Items<Item>,
     scope: &Scope<'_>,
 ) -> Result<Bound, BindError>
-    requires { N.callable nested.now }
+    requires key { N.may_read nested.now key.now }
+    requires items { All (ItemParts (N.may_read nested.now)) items.now }
     ensures { Binds (spec.key_by_name scope.now (spec.targets scope.now.columns (map item_part items.now)) (part_of key.now) name.now (scopes.place_of (scopes.has_name name.now) scope.now.columns) found.old) result found.new }
 {
     match first_named(scope, name) {
@@ -74,7 +77,8 @@ fn key_value<N: Nested>(
     items: &Items<Item>,
     scope: &Scope<'_>,
 ) -> Result<Bound, BindError>
-    requires { N.callable nested.now }
+    requires key { N.may_read nested.now key.now }
+    requires items { All (ItemParts (N.may_read nested.now)) items.now }
     ensures { Binds (spec.group_key_by scope.now (spec.targets scope.now.columns (map item_part items.now)) (part_of key.now) (part_of key.now).form found.old) result found.new }
 {
     match form(key) {
@@ -91,7 +95,8 @@ fn group_key<N: Nested>(
     items: &Items<Item>,
     scope: &Scope<'_>,
 ) -> Result<Tree, BindError>
-    requires { N.callable nested.now }
+    requires key { N.may_read nested.now key.now }
+    requires items { All (ItemParts (N.may_read nested.now)) items.now }
     ensures { Binds (spec.group_key scope.now (spec.targets scope.now.columns (map item_part items.now)) (part_of key.now) found.old) result found.new }
 {
     let b = key_value(nested, found, key, items, scope)?;
@@ -113,7 +118,7 @@ impl<'a, N: Nested> Step for GroupKeys<'a, N> {
 
     ghost reading = { λ s before key. spec.with_one_more 16 limited.Keys (λ e. spec.group_key s.scope.now (spec.targets s.scope.now.columns (map item_part s.items.now)) (part_of e)) before key };
 
-    ghost callable = { λ s. N.callable s.nested.now };
+    ghost callable = { λ s key. N.may_read s.nested.now key × All (ItemParts (N.may_read s.nested.now)) s.items.now };
 
     fn step(&self, found: &mut Found, before: Exprs, key: &Expr) -> Result<Exprs, BindError> {
         check_number(&before, 16, Limited::Keys)?;
@@ -129,7 +134,8 @@ fn group_by<N: Nested>(
     items: &Items<Item>,
     scope: &Scope<'_>,
 ) -> Result<Exprs, BindError>
-    requires { N.callable nested.now }
+    requires groups { GroupParts (N.may_read nested.now) groups.now }
+    requires items { All (ItemParts (N.may_read nested.now)) items.now }
     ensures { Binds (spec.group_keys scope.now (spec.targets scope.now.columns (map item_part items.now)) scope.now.joined (Some (group_part groups.now)) found.old) result found.new }
 {
     if scope.joined {
@@ -143,7 +149,8 @@ fn group_by<N: Nested>(
     through_of(&step, found, &groups.keys, Exprs::new(alloc_of(scope)))
 }
 
-/// The keys of GROUP BY, of a SELECT of these items.
+/// The keys of GROUP BY, of a SELECT of these items. `Err` is the first refusal in it, 19 over more than one relation, 33 where there
+/// are more than 16, or want of memory.
 pub fn group_keys<N: Nested>(
     nested: &N,
     found: &mut Found,
@@ -151,7 +158,8 @@ pub fn group_keys<N: Nested>(
     items: &Items<Item>,
     scope: &Scope<'_>,
 ) -> Result<Exprs, BindError>
-    requires { N.callable nested.now }
+    requires groups { IfSome groups.now (GroupParts (N.may_read nested.now)) }
+    requires items { All (ItemParts (N.may_read nested.now)) items.now }
     ensures { Binds (spec.group_keys scope.now (spec.targets scope.now.columns (map item_part items.now)) scope.now.joined (option_map group_part groups.now) found.old) result found.new }
 {
     match groups {

@@ -7,11 +7,12 @@
 
 mod gather;
 mod groups;
-mod lists;
 mod orders;
 mod outputs;
 mod pick;
 mod stars;
 mod values;
 
-pub use lists::Lists;
+pub use groups::group_keys;
+pub use orders::order_keys;
+pub use outputs::select_list;

@@ -1,9 +1,11 @@
 //! ORDER BY: a key is the place of an output, its name, an output's expression, or a hidden item.
 
 ghost use Rattle.std.specs.Prelude.{◌≡◌, position, map};
+ghost use Rattle.std.specs.List.{All};
 ghost use Rattle.cq_reading.specs.Outcomes.{Binds};
 ghost use Rattle.cq_reading.specs.Selects as spec;
 ghost use Rattle.cq_reading.specs.Walk.{order_part};
+ghost use Rattle.cq_bind_calls.specs.Parts.{OrderParts};
 
 use crate::values::{check_number, value};
 use cq_bind_calls::{Nested, Step, through_of};
@@ -36,7 +38,7 @@ impl<'a, N: Nested> OrderKeys<'a, N> {
         order: Ordered,
         key: &OrderKey,
     ) -> Result<Ordered, BindError>
-        requires { N.callable self.now.nested.now }
+        requires { OrderParts (N.may_read self.now.nested.now) key.now }
         ensures { Binds (spec.order_by_expression self.now.scope.now self.now.outputs.now self.now.distinct (order_part key.now) order found.old) result found.new }
     {
         let b = value(self.nested, found, &key.key, self.scope)?;
@@ -52,7 +54,7 @@ impl<'a, N: Nested> OrderKeys<'a, N> {
         key: &OrderKey,
         name: &Text,
     ) -> Result<Ordered, BindError>
-        requires { N.callable self.now.nested.now }
+        requires { OrderParts (N.may_read self.now.nested.now) key.now }
         ensures { Binds (spec.order_by_name self.now.scope.now self.now.outputs.now self.now.distinct (order_part key.now) order name.now (position (spec.has_title name.now) self.now.outputs.now) found.old) result found.new }
     {
         match output_place(name, self.outputs) {
@@ -75,7 +77,7 @@ impl<'a, N: Nested> OrderKeys<'a, N> {
         order: Ordered,
         key: &OrderKey,
     ) -> Result<Ordered, BindError>
-        requires { N.callable self.now.nested.now }
+        requires { OrderParts (N.may_read self.now.nested.now) key.now }
         ensures { Binds (spec.order_by_form self.now.scope.now self.now.outputs.now self.now.distinct (order_part key.now) order (order_part key.now).key.form found.old) result found.new }
     {
         match form(&key.key) {
@@ -99,7 +101,7 @@ impl<'a, N: Nested> Step for OrderKeys<'a, N> {
 
     ghost reading = { λ s order key. spec.with_order_key s.scope.now s.outputs.now s.distinct order (order_part key) };
 
-    ghost callable = { λ s. N.callable s.nested.now };
+    ghost callable = { λ s key. OrderParts (N.may_read s.nested.now) key };
 
     fn step(
         &self,
@@ -112,8 +114,9 @@ impl<'a, N: Nested> Step for OrderKeys<'a, N> {
     }
 }
 
-/// ORDER BY, over outputs whose items are those of `order`.
-pub fn orders<N: Nested>(
+/// ORDER BY, over outputs whose items are those of `order`. `Err` is the first refusal in it, 33 where there are more than 16 keys,
+/// or want of memory.
+pub fn order_keys<N: Nested>(
     nested: &N,
     found: &mut Found,
     keys: &Items<OrderKey>,
@@ -122,7 +125,7 @@ pub fn orders<N: Nested>(
     order: Ordered,
     scope: &Scope<'_>,
 ) -> Result<Ordered, BindError>
-    requires { N.callable nested.now }
+    requires { All (OrderParts (N.may_read nested.now)) keys.now }
     ensures { Binds (spec.order_keys scope.now outputs.now distinct (map order_part keys.now) order found.old) result found.new }
 {
     let step = OrderKeys {

@@ -1,10 +1,12 @@
 //! The select list: what its items stand for, in turn, and at most 512 outputs.
 
 ghost use Rattle.std.specs.Prelude.{◌≡◌, map};
+ghost use Rattle.std.specs.List.{All};
 ghost use Rattle.cq_reading.specs.declared.error.Limited.TheVariants as limited;
 ghost use Rattle.cq_reading.specs.Outcomes.{Binds, Judges};
 ghost use Rattle.cq_reading.specs.Selects as spec;
 ghost use Rattle.cq_reading.specs.Walk.{part_of, item_part};
+ghost use Rattle.cq_bind_calls.specs.Parts.{ItemParts};
 ghost use Rattle.cq_bind_lists.specs.Stars as stars;
 
 use crate::gather::{Gather, gather_all};
@@ -30,7 +32,7 @@ fn shown<N: Nested>(
     alias: &Option<Name>,
     scope: &Scope<'_>,
 ) -> Result<Shown, BindError>
-    requires { N.callable nested.now }
+    requires { N.may_read nested.now e.now }
     ensures { Binds (spec.read_target scope.now (stars.value_target (part_of e.now) (stars.alias_of alias.now)) found.old) result found.new }
 {
     let title = title_of(alloc_of(scope), e, alias)?;
@@ -49,7 +51,7 @@ impl<'a, N: Nested> Gather for AllOutputs<'a, N> {
 
     ghost step = { λ s cx. stars.with_output cx };
 
-    ghost callable = { λ s. N.callable s.nested.now };
+    ghost may_read = { λ s e. N.may_read s.nested.now e };
 
     fn star(
         &self,
@@ -88,14 +90,14 @@ impl<'a, N: Nested> Gather for AllOutputs<'a, N> {
     }
 }
 
-/// The outputs of a select list.
-pub fn outputs<N: Nested>(
+/// The outputs of a select list. `Err` is the first refusal in it, 33 where they are more than 512, or want of memory.
+pub fn select_list<N: Nested>(
     nested: &N,
     found: &mut Found,
     items: &Items<Item>,
     scope: &Scope<'_>,
 ) -> Result<ShownList, BindError>
-    requires { N.callable nested.now }
+    requires { All (ItemParts (N.may_read nested.now)) items.now }
     ensures { Binds (spec.at_most 512 limited.Outputs (spec.read_target scope.now) (spec.targets scope.now.columns (map item_part items.now)) found.old) result found.new }
 {
     let none = ShownList::new(alloc_of(scope));

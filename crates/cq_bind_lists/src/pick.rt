@@ -1,10 +1,12 @@
 //! The outputs of a name, and the output of a place.
 
 ghost use Rattle.std.specs.Prelude.{◌≡◌, bytes_eq, map, IfOk};
+ghost use Rattle.std.specs.List.{All};
 ghost use Rattle.cq_reading.specs.Steps as reading;
 ghost use Rattle.cq_reading.specs.Outcomes.{Binds, Judges};
 ghost use Rattle.cq_reading.specs.Selects as spec;
 ghost use Rattle.cq_reading.specs.Walk.{part_of, item_part};
+ghost use Rattle.cq_bind_calls.specs.Parts.{ItemParts};
 ghost use Rattle.cq_bind_lists.specs.Stars as stars;
 ghost use Rattle.cq_bind_lists.specs.Picks as picks;
 
@@ -61,7 +63,7 @@ impl<'a, N: Nested> Gather for OutputsNamed<'a, N> {
 
     ghost step = { λ s cx. picks.with_titled cx s.name.now };
 
-    ghost callable = { λ s. N.callable s.nested.now };
+    ghost may_read = { λ s e. N.may_read s.nested.now e };
 
     fn star(
         &self,
@@ -116,7 +118,7 @@ pub fn outputs_named<N: Nested>(
     items: &Items<Item>,
     scope: &Scope<'_>,
 ) -> Result<Items<Bound>, BindError>
-    requires { N.callable nested.now }
+    requires { All (ItemParts (N.may_read nested.now)) items.now }
     ensures { Binds (reading.each (picks.target_value scope.now) (spec.titled name.now (spec.targets scope.now.columns (map item_part items.now))) found.old) result found.new }
 {
     let none = Items::new(alloc_of(scope));
@@ -144,7 +146,7 @@ fn first_value<N: Nested>(
     alias: &Option<Name>,
     scope: &Scope<'_>,
 ) -> Result<Pick, BindError>
-    requires { N.callable nested.now }
+    requires { N.may_read nested.now e.now }
     ensures { Binds (picks.first_pick scope.now (stars.value_target (part_of e.now) (stars.alias_of alias.now)) found.old) result found.new }
 {
     let b = value(nested, found, e, scope)?;
@@ -162,7 +164,7 @@ impl<'a, N: Nested> Gather for OutputAt<'a, N> {
 
     ghost step = { λ s cx. picks.picked cx };
 
-    ghost callable = { λ s. N.callable s.nested.now };
+    ghost may_read = { λ s e. N.may_read s.nested.now e };
 
     fn star(
         &self,
@@ -210,7 +212,7 @@ fn picked<N: Nested>(
     items: &Items<Item>,
     scope: &Scope<'_>,
 ) -> Result<Pick, BindError>
-    requires { N.callable nested.now }
+    requires { All (ItemParts (N.may_read nested.now)) items.now }
     ensures { Binds (reading.through (picks.picked scope.now) (spec.targets scope.now.columns (map item_part items.now)) (picks.skipping n) found.old) result found.new }
 {
     gather_all(&OutputAt { nested }, found, scope, items, Pick::Skip(n))
@@ -234,7 +236,7 @@ pub fn output_at<N: Nested>(
     items: &Items<Item>,
     scope: &Scope<'_>,
 ) -> Result<Bound, BindError>
-    requires { N.callable nested.now }
+    requires { All (ItemParts (N.may_read nested.now)) items.now }
     ensures { Binds (spec.key_by_place scope.now (spec.nth n (spec.targets scope.now.columns (map item_part items.now))) at found.old) result found.new }
 {
     if n == 0 {

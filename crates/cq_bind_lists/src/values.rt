@@ -24,7 +24,7 @@ pub fn value<N: Nested>(
     e: &Expr,
     scope: &Scope<'_>,
 ) -> Result<Bound, BindError>
-    requires { N.callable nested.now }
+    requires { N.may_read nested.now e.now }
     ensures { Binds (spec.value_of (part_of e.now).at (reads (part_of e.now) scope.now) found.old) result found.new }
 {
     let b = nested.expr(found, e, scope)?;

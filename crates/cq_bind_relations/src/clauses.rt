@@ -1,11 +1,12 @@
 //! A condition, as it stands in ON, WHERE and HAVING.
 
-ghost use Rattle.std.specs.Prelude.{◌≡◌, Some};
+ghost use Rattle.std.specs.Prelude.{◌≡◌, Some, IfSome};
 ghost use Rattle.std.specs.Option.{option_map};
 ghost use Rattle.cq_reading.specs.Outcomes.{Binds};
 ghost use Rattle.cq_reading.specs.Relations.{condition_of};
 ghost use Rattle.cq_reading.specs.Selects as spec;
 ghost use Rattle.cq_reading.specs.Walk.{part_of, having_part};
+ghost use Rattle.cq_bind_calls.specs.Parts.{HavingParts};
 
 use cq_bind_calls::Nested;
 use cq_bind_looks::place;
@@ -22,7 +23,7 @@ pub fn condition<N: Nested>(
     e: &Expr,
     scope: &Scope<'_>,
 ) -> Result<Cond, BindError>
-    requires { N.callable nested.now }
+    requires { N.may_read nested.now e.now }
     ensures { Binds (condition_of (part_of e.now) scope.now found.old) result found.new }
 {
     let b = nested.expr(found, e, scope)?;
@@ -36,7 +37,7 @@ pub fn filtered<N: Nested>(
     filter: &Option<Boxed<Expr>>,
     scope: &Scope<'_>,
 ) -> Result<Cond, BindError>
-    requires { N.callable nested.now }
+    requires { IfSome filter.now (N.may_read nested.now) }
     ensures { Binds (spec.filter_of scope.now (option_map part_of filter.now) found.old) result found.new }
 {
     match filter {
@@ -52,7 +53,7 @@ fn having_by<N: Nested>(
     having: &Having,
     scope: &Scope<'_>,
 ) -> Result<Cond, BindError>
-    requires { N.callable nested.now }
+    requires { HavingParts (N.may_read nested.now) having.now }
     ensures { Binds (spec.having_of scope.now scope.now.joined (Some (having_part having.now)) found.old) result found.new }
 {
     if scope.joined {
@@ -61,14 +62,14 @@ fn having_by<N: Nested>(
     condition(nested, found, &having.condition, scope)
 }
 
-/// HAVING.
+/// HAVING. `Err` is the first refusal in it, 19 over more than one relation, or want of memory.
 pub fn having_of<N: Nested>(
     nested: &N,
     found: &mut Found,
     having: &Option<Having>,
     scope: &Scope<'_>,
 ) -> Result<Cond, BindError>
-    requires { N.callable nested.now }
+    requires { IfSome having.now (HavingParts (N.may_read nested.now)) }
     ensures { Binds (spec.having_of scope.now scope.now.joined (option_map having_part having.now) found.old) result found.new }
 {
     match having {

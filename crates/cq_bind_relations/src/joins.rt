@@ -5,6 +5,7 @@ ghost use Rattle.cq_tree.specs.declared.query.FromTree.{Inner, Left};
 ghost use Rattle.cq_reading.specs.Outcomes.{Binds};
 ghost use Rattle.cq_reading.specs.Relations as relation;
 ghost use Rattle.cq_reading.specs.Walk.{part_of, relation_part, join_part};
+ghost use Rattle.cq_bind_calls.specs.Parts.{JoinParts, RelationParts};
 ghost use Rattle.cq_bind_relations.specs.Joins as joins;
 
 use crate::clauses::condition;
@@ -41,7 +42,7 @@ fn beside<N: Nested>(
     names: &[Text],
     a: &Relations,
 ) -> Result<Relations, BindError>
-    requires { N.callable nested.now }
+    requires { RelationParts (N.may_select nested.now) relation.now }
     ensures { Binds (relation_part relation.now world.now (names.now ++ a.now.names) found.old) result found.new }
 {
     let names = all_names(world.alloc, names, a)?;
@@ -58,7 +59,7 @@ fn on_of<N: Nested>(
     a: &Relations,
     b: &Relations,
 ) -> Result<Cond, BindError>
-    requires { N.callable nested.now }
+    requires { N.may_read nested.now on.now }
     ensures { Binds (relation.condition_of (part_of on.now) (relation.on_context world.now first (a.now.columns ++ b.now.columns)) found.old) result found.new }
 {
     let columns = reached(world.alloc, a, b)?;
@@ -87,7 +88,8 @@ impl<'a, N: Nested> Joined<'a, N> {
         relation: &Relation,
         on: &Expr,
     ) -> Result<Relations, BindError>
-        requires { N.callable self.now.nested.now }
+        requires relation { RelationParts (N.may_select self.now.nested.now) relation.now }
+        requires on { N.may_read self.now.nested.now on.now }
         ensures { Binds (joins.joined_reading Inner (relation_part relation.now) (part_of on.now) self.now.world.now self.now.names.now self.now.first a found.old) result found.new }
     {
         let world = self.world;
@@ -103,7 +105,8 @@ impl<'a, N: Nested> Joined<'a, N> {
         relation: &Relation,
         on: &Expr,
     ) -> Result<Relations, BindError>
-        requires { N.callable self.now.nested.now }
+        requires relation { RelationParts (N.may_select self.now.nested.now) relation.now }
+        requires on { N.may_read self.now.nested.now on.now }
         ensures { Binds (joins.joined_reading Left (relation_part relation.now) (part_of on.now) self.now.world.now self.now.names.now self.now.first a found.old) result found.new }
     {
         let world = self.world;
@@ -118,7 +121,7 @@ impl<'a, N: Nested> Joined<'a, N> {
         a: Relations,
         relation: &Relation,
     ) -> Result<Relations, BindError>
-        requires { N.callable self.now.nested.now }
+        requires { RelationParts (N.may_select self.now.nested.now) relation.now }
         ensures { Binds (joins.crossed_reading (relation_part relation.now) self.now.world.now self.now.names.now a found.old) result found.new }
     {
         let world = self.world;
@@ -134,7 +137,7 @@ impl<'a, N: Nested> Step for Joined<'a, N> {
 
     ghost reading = { λ s a join. relation.with_join s.world.now s.names.now s.first a (join_part join) };
 
-    ghost callable = { λ s. N.callable s.nested.now };
+    ghost callable = { λ s join. JoinParts (N.may_read s.nested.now) (N.may_select s.nested.now) join };
 
     #[tactic(auto, using(cq_bind_looks::proofs::Looks::looks_of_selects))]
     fn step(

@@ -5,6 +5,6 @@ mod clauses;
 mod joins;
 mod relations;
 mod sources;
-mod walk;
 
-pub use walk::Froms;
+pub use clauses::{filtered, having_of};
+pub use relations::relations_of;

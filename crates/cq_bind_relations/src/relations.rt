@@ -1,10 +1,12 @@
 //! The relations of a FROM, from left to right, each ON at its join.
 
 ghost use Rattle.std.specs.Prelude.{◌≡◌, [], ◌∷◌, ◌++◌, map, length, MatchResult};
+ghost use Rattle.std.specs.List.{All};
 ghost use Rattle.cq_reading.specs.declared.error.BindError.TheVariants.{Memory};
 ghost use Rattle.cq_reading.specs.Outcomes.{Binds};
 ghost use Rattle.cq_reading.specs.Relations as relation;
 ghost use Rattle.cq_reading.specs.Walk.{from_part};
+ghost use Rattle.cq_bind_calls.specs.Parts.{FromParts};
 
 use crate::joins::Joined;
 use crate::sources::relation_of;
@@ -33,7 +35,7 @@ fn with_joins<N: Nested>(
     names: &[Text],
     first: u32,
 ) -> Result<Relations, BindError>
-    requires { N.callable nested.now }
+    requires { FromParts (N.may_read nested.now) (N.may_select nested.now) from.now }
     ensures { Binds (from_part from.now world.now names.now first found.old) result found.new }
 {
     let relation = relation_of(nested, found, &from.first, world, names)?;
@@ -53,7 +55,7 @@ fn from_behind<N: Nested>(
     world: &World<'_>,
     a: &Relations,
 ) -> Result<Relations, BindError>
-    requires { N.callable nested.now }
+    requires { FromParts (N.may_read nested.now) (N.may_select nested.now) from.now }
     ensures { Binds (from_part from.now world.now a.now.names (length a.now.columns) found.old) result found.new }
 {
     let first = how_many(a.columns.as_slice())?;
@@ -68,7 +70,7 @@ fn with_product<N: Nested>(
     from: &From,
     world: &World<'_>,
 ) -> Result<Relations, BindError>
-    requires { N.callable nested.now }
+    requires { FromParts (N.may_read nested.now) (N.may_select nested.now) from.now }
     ensures { Binds (relation.with_product world.now a (from_part from.now) found.old) result found.new }
 {
     let b = from_behind(nested, found, from, world, &a)?;
@@ -89,7 +91,7 @@ impl<'a, N: Nested> Step for Products<'a, N> {
 
     ghost reading = { λ s a from. relation.with_product s.world.now a (from_part from) };
 
-    ghost callable = { λ s. N.callable s.nested.now };
+    ghost callable = { λ s from. FromParts (N.may_read s.nested.now) (N.may_select s.nested.now) from };
 
     fn step(
         &self,
@@ -107,7 +109,7 @@ fn first_from<N: Nested>(
     from: &From,
     world: &World<'_>,
 ) -> Result<Relations, BindError>
-    requires { N.callable nested.now }
+    requires { FromParts (N.may_read nested.now) (N.may_select nested.now) from.now }
     ensures { Binds (from_part from.now world.now [] 0 found.old) result found.new }
 {
     let names = Names::new(world.alloc);
@@ -122,21 +124,22 @@ fn froms<N: Nested>(
     more: &[From],
     world: &World<'_>,
 ) -> Result<Relations, BindError>
-    requires { N.callable nested.now }
+    requires first { FromParts (N.may_read nested.now) (N.may_select nested.now) first.now }
+    requires more { All (FromParts (N.may_read nested.now) (N.may_select nested.now)) more.now }
     ensures { Binds (relation.from_of world.now (from_part first.now ∷ map from_part more.now) found.old) result found.new }
 {
     let first = first_from(nested, found, first, world)?;
     through_all(&Products { nested, world }, found, more, first)
 }
 
-/// The relations of a FROM.
+/// The relations of a FROM. `Err` is the first refusal in it, or want of memory.
 pub fn relations_of<N: Nested>(
     nested: &N,
     found: &mut Found,
     from: &Items<From>,
     world: &World<'_>,
 ) -> Result<Relations, BindError>
-    requires { N.callable nested.now }
+    requires { All (FromParts (N.may_read nested.now) (N.may_select nested.now)) from.now }
     ensures { Binds (relation.from_of world.now (map from_part from.now) found.old) result found.new }
 {
     match from.as_slice() {

@@ -3,6 +3,7 @@
 ghost use Rattle.std.specs.Prelude.{◌≡◌};
 ghost use Rattle.cq_reading.specs.Outcomes.{Binds};
 ghost use Rattle.cq_reading.specs.Walk.{select_of, relation_part};
+ghost use Rattle.cq_bind_calls.specs.Parts.{RelationParts};
 ghost use Rattle.cq_bind_relations.specs.Joins as joins;
 
 use cq_bind_calls::Nested;
@@ -20,7 +21,7 @@ fn derived<N: Nested>(
     world: &World<'_>,
     names: &[Text],
 ) -> Result<Relations, BindError>
-    requires { N.callable nested.now }
+    requires { N.may_select nested.now select.now }
     ensures { Binds (joins.subquery_reading (select_of select.now) alias.now world.now names.now found.old) result found.new }
 {
     check_one_more(names)?;
@@ -37,7 +38,7 @@ pub fn relation_of<N: Nested>(
     world: &World<'_>,
     names: &[Text],
 ) -> Result<Relations, BindError>
-    requires { N.callable nested.now }
+    requires { RelationParts (N.may_select nested.now) relation.now }
     ensures { Binds (relation_part relation.now world.now names.now found.old) result found.new }
 {
     match relation {

@@ -1,3 +1,4 @@
 pub mod Blocks
 pub mod Layers
 pub mod Made
+pub mod Sizes

@@ -5,7 +5,6 @@
 mod knot;
 mod outputs;
 mod selects;
-mod walk;
 
 ghost use Rattle.std.specs.Prelude.{◌≡◌};
 ghost use Rattle.cq_reading.specs.Outcomes.{Binds};
@@ -19,15 +18,11 @@ use cq_grammar::{Expr, Select};
 use cq_reading::{BindError, Block, Bound, Found, Scope, World};
 use cq_tree::Cond;
 
-/// How many levels deep a tree may be: more than one that memory holds can have, since each level takes some bytes. The walk counts them
-/// down so that it is seen to end.
-const LEVELS: usize = usize::MAX;
-
 /// What an expression is read as in a scope. `Err` is the first refusal in it, or want of memory.
 pub fn expr(found: &mut Found, e: &Expr, scope: &Scope<'_>) -> Result<Bound, BindError>
     ensures { Binds (reads (part_of e.now) scope.now found.old) result found.new }
 {
-    knot::expr(found, e, scope, LEVELS)
+    knot::expr(found, e, scope)
 }
 
 /// A condition in a scope. `Err` is as of `expr`, and 14 at the root of one that is no condition.
@@ -42,5 +37,5 @@ pub fn condition(found: &mut Found, e: &Expr, scope: &Scope<'_>) -> Result<Cond,
 pub fn select(found: &mut Found, q: &Select, world: &World<'_>) -> Result<Block, BindError>
     ensures { Binds (select_of q.now world.now found.old) result found.new }
 {
-    knot::select(found, q, world, LEVELS)
+    knot::select(found, q, world)
 }

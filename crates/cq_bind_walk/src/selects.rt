@@ -1,24 +1,24 @@
 //! A SELECT: FROM, WHERE, GROUP BY, HAVING, the select list, and ORDER BY.
 
 ghost use Rattle.std.specs.Prelude.{◌≡◌, map, IfOk};
+ghost use Rattle.std.specs.List.{All};
 ghost use Rattle.cq_reading.specs.Outcomes.{Binds};
 ghost use Rattle.cq_reading.specs.Selects as spec;
 ghost use Rattle.cq_reading.specs.Walk as walk;
 ghost use Rattle.cq_reading.specs.Walk.{select_of, item_part, order_part};
 ghost use Rattle.cq_bind_names.specs.declared.blocks.Outer.{Outer};
-ghost use Rattle.cq_bind_calls.specs.Calls.{Nests};
+ghost use Rattle.cq_bind_calls.specs.Parts.{ItemParts, OrderParts, SelectParts};
 ghost use Rattle.cq_bind_walk.specs.Blocks as blocks;
 ghost use Rattle.cq_bind_walk.specs.Blocks.{layer_of};
 
 use crate::outputs::{count, names_of, outputs_of};
-use crate::walk::Selects;
-use cq_bind_calls::alloc_of;
-use cq_bind_lists::Lists;
+use cq_bind_calls::{Nested, alloc_of};
+use cq_bind_lists::{group_keys, order_keys, select_list};
 use cq_bind_looks::groups;
 use cq_bind_names::{Outer, enter, leave, unordered};
-use cq_bind_relations::Froms;
-use cq_grammar::{Count, Expr, Item, OrderKey, Select};
-use cq_reading::{BindError, Block, Bound, Found, Ordered, Relations, Scope, ShownList, World};
+use cq_bind_relations::{filtered, having_of, relations_of};
+use cq_grammar::{Count, Item, OrderKey, Select};
+use cq_reading::{BindError, Block, Found, Ordered, Relations, Scope, ShownList, World};
 use cq_tree::{Cond, Exprs, Queries, Query};
 use cq_value::{Items, NoMemory};
 use std::alloc::Global;
@@ -165,108 +165,99 @@ fn finished(
     })
 }
 
-impl<
-    F: Copy + Fn(&mut Found, &Expr, &Scope<'_>, usize) -> Result<Bound, BindError>,
-    G: Copy + Fn(&mut Found, &Select, &World<'_>, usize) -> Result<Block, BindError>,
-> Selects<F, G> {
-    /// WHERE and GROUP BY.
-    fn conditions(
-        &self,
-        found: &mut Found,
-        q: &Select,
-        relations: &Relations,
-        world: &World<'_>,
-    ) -> Result<(Cond, Exprs), BindError>
-        requires { Nests self.now.walk.left (F.pre self.now.walk.expr) (F.post self.now.walk.expr) (G.pre self.now.walk.select) (G.post self.now.walk.select) }
-        ensures { Binds (blocks.conditions_reading (layer_of q.now) world.now relations.now found.old) result found.new }
-    {
-        let froms = Froms { walk: self.walk };
-        let filter = froms.filter(found, &q.filter, &scope_before(world, relations, true))?;
-        let lists = Lists { walk: self.walk };
-        let scope = scope_before(world, relations, false);
-        let keys = lists.groups(found, &q.groups, &q.items, &scope)?;
-        Ok((filter, keys))
-    }
+/// WHERE and GROUP BY.
+fn conditions<N: Nested>(
+    nested: &N,
+    found: &mut Found,
+    q: &Select,
+    relations: &Relations,
+    world: &World<'_>,
+) -> Result<(Cond, Exprs), BindError>
+    requires { SelectParts (N.may_read nested.now) (N.may_select nested.now) q.now }
+    ensures { Binds (blocks.conditions_reading (layer_of q.now) world.now relations.now found.old) result found.new }
+{
+    let filter = filtered(nested, found, &q.filter, &scope_before(world, relations, true))?;
+    let scope = scope_before(world, relations, false);
+    let keys = group_keys(nested, found, &q.groups, &q.items, &scope)?;
+    Ok((filter, keys))
+}
 
-    fn rows(&self, found: &mut Found, q: &Select, world: &World<'_>) -> Result<Rows, BindError>
-        requires { Nests self.now.walk.left (F.pre self.now.walk.expr) (F.post self.now.walk.expr) (G.pre self.now.walk.select) (G.post self.now.walk.select) }
-        ensures { Binds (blocks.rows_reading (layer_of q.now) world.now found.old) result found.new }
-    {
-        let froms = Froms { walk: self.walk };
-        let relations = froms.relations(found, &q.from, world)?;
-        let conditions = self.conditions(found, q, &relations, world);
-        rows_of(beside(relations, conditions))
-    }
+fn rows<N: Nested>(nested: &N, found: &mut Found, q: &Select, world: &World<'_>) -> Result<Rows, BindError>
+    requires { SelectParts (N.may_read nested.now) (N.may_select nested.now) q.now }
+    ensures { Binds (blocks.rows_reading (layer_of q.now) world.now found.old) result found.new }
+{
+    let relations = relations_of(nested, found, &q.from, world)?;
+    let conditions = conditions(nested, found, q, &relations, world);
+    rows_of(beside(relations, conditions))
+}
 
-    /// The outputs of a SELECT, and ORDER BY.
-    fn ordered(
-        &self,
-        found: &mut Found,
-        items: &Items<Item>,
-        distinct: bool,
-        keys: &Items<OrderKey>,
-        scope: &Scope<'_>,
-    ) -> Result<(ShownList, Ordered), BindError>
-        requires { Nests self.now.walk.left (F.pre self.now.walk.expr) (F.post self.now.walk.expr) (G.pre self.now.walk.select) (G.post self.now.walk.select) }
-        ensures { Binds (blocks.ordered_reading (map item_part items.now) distinct (map order_part keys.now) scope.now found.old) result found.new }
-    {
-        let lists = Lists { walk: self.walk };
-        let outputs = lists.outputs(found, items, scope)?;
-        let order = unordered(alloc_of(scope), outputs.as_slice())?;
-        let order = lists.orders(found, keys, outputs.as_slice(), distinct, order, scope)?;
-        Ok((outputs, order))
-    }
+/// The outputs of a SELECT, and ORDER BY.
+fn ordered<N: Nested>(
+    nested: &N,
+    found: &mut Found,
+    items: &Items<Item>,
+    distinct: bool,
+    keys: &Items<OrderKey>,
+    scope: &Scope<'_>,
+) -> Result<(ShownList, Ordered), BindError>
+    requires items { All (ItemParts (N.may_read nested.now)) items.now }
+    requires keys { All (OrderParts (N.may_read nested.now)) keys.now }
+    ensures { Binds (blocks.ordered_reading (map item_part items.now) distinct (map order_part keys.now) scope.now found.old) result found.new }
+{
+    let outputs = select_list(nested, found, items, scope)?;
+    let order = unordered(alloc_of(scope), outputs.as_slice())?;
+    let order = order_keys(nested, found, keys, outputs.as_slice(), distinct, order, scope)?;
+    Ok((outputs, order))
+}
 
-    fn shape(
-        &self,
-        found: &mut Found,
-        q: &Select,
-        rows: &Rows,
-        grouped: bool,
-        world: &World<'_>,
-    ) -> Result<Shape, BindError>
-        requires { Nests self.now.walk.left (F.pre self.now.walk.expr) (F.post self.now.walk.expr) (G.pre self.now.walk.select) (G.post self.now.walk.select) }
-        ensures { Binds (blocks.shape_reading (layer_of q.now) world.now grouped rows.now found.old) result found.new }
-    {
-        let froms = Froms { walk: self.walk };
-        let having = froms.having(found, &q.having, &scope_after(world, rows, grouped, true))?;
-        let scope = scope_after(world, rows, grouped, false);
-        let (outputs, order) = self.ordered(found, &q.items, q.distinct, &q.order, &scope)?;
-        Ok(Shape {
-            having,
-            outputs,
-            order,
-        })
-    }
+fn shape<N: Nested>(
+    nested: &N,
+    found: &mut Found,
+    q: &Select,
+    rows: &Rows,
+    grouped: bool,
+    world: &World<'_>,
+) -> Result<Shape, BindError>
+    requires { SelectParts (N.may_read nested.now) (N.may_select nested.now) q.now }
+    ensures { Binds (blocks.shape_reading (layer_of q.now) world.now grouped rows.now found.old) result found.new }
+{
+    let having = having_of(nested, found, &q.having, &scope_after(world, rows, grouped, true))?;
+    let scope = scope_after(world, rows, grouped, false);
+    let (outputs, order) = ordered(nested, found, &q.items, q.distinct, &q.order, &scope)?;
+    Ok(Shape {
+        having,
+        outputs,
+        order,
+    })
+}
 
-    fn parts(
-        &self,
-        found: &mut Found,
-        q: &Select,
-        grouped: bool,
-        world: &World<'_>,
-    ) -> Result<(Rows, Shape), BindError>
-        requires { Nests self.now.walk.left (F.pre self.now.walk.expr) (F.post self.now.walk.expr) (G.pre self.now.walk.select) (G.post self.now.walk.select) }
-        ensures { Binds (blocks.parts_reading (layer_of q.now) world.now grouped found.old) result found.new }
-    {
-        let rows = self.rows(found, q, world)?;
-        let shape = self.shape(found, q, &rows, grouped, world);
-        beside(rows, shape)
-    }
+fn parts<N: Nested>(
+    nested: &N,
+    found: &mut Found,
+    q: &Select,
+    grouped: bool,
+    world: &World<'_>,
+) -> Result<(Rows, Shape), BindError>
+    requires { SelectParts (N.may_read nested.now) (N.may_select nested.now) q.now }
+    ensures { Binds (blocks.parts_reading (layer_of q.now) world.now grouped found.old) result found.new }
+{
+    let rows = rows(nested, found, q, world)?;
+    let shape = shape(nested, found, q, &rows, grouped, world);
+    beside(rows, shape)
+}
 
-    /// A SELECT among tables and CTEs. `Err` is the first refusal in it, 33 where it is the 65th of its statement, or want of memory.
-    pub fn block(
-        &self,
-        found: &mut Found,
-        q: &Select,
-        world: &World<'_>,
-    ) -> Result<Block, BindError>
-        requires { Nests self.now.walk.left (F.pre self.now.walk.expr) (F.post self.now.walk.expr) (G.pre self.now.walk.select) (G.post self.now.walk.select) }
-        ensures { Binds (select_of q.now world.now found.old) result found.new }
-    {
-        let outer = enter(found, world.alloc)?;
-        let (rows, shape) = self.parts(found, q, is_grouped(q), world)?;
-        let inner = leave(found, outer);
-        Ok(finished(world.alloc, q, rows, shape, inner)?)
-    }
+/// A SELECT among tables and CTEs. `Err` is the first refusal in it, 33 where it is the 65th of its statement, or want of memory.
+pub fn block<N: Nested>(
+    nested: &N,
+    found: &mut Found,
+    q: &Select,
+    world: &World<'_>,
+) -> Result<Block, BindError>
+    requires { SelectParts (N.may_read nested.now) (N.may_select nested.now) q.now }
+    ensures { Binds (select_of q.now world.now found.old) result found.new }
+{
+    let outer = enter(found, world.alloc)?;
+    let (rows, shape) = parts(nested, found, q, is_grouped(q), world)?;
+    let inner = leave(found, outer);
+    Ok(finished(world.alloc, q, rows, shape, inner)?)
 }

@@ -12,3 +12,9 @@ returns-in-Signed g c = signed_by _ _ _ _ _ _ _ _ _ c.in-Signed.is c.get-in-Sign
 
 pub returns-in-Group : goal.returns-in-Group
 returns-in-Group g c = group_by _ _ _ _ _ _ _ _ c.in-Group.is c.get-in-Group.ensures c.expr.ensures
+
+pub sum-requires-clause-rest : goal.sum-requires-clause-rest
+sum-requires-clause-rest g c = (c.requires.sum _ _ c.in-Sum.is).1
+
+pub product-requires-clause-rest : goal.product-requires-clause-rest
+product-requires-clause-rest g c = (c.requires.product _ _ c.in-Product.is).1

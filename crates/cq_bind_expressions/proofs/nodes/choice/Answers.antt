@@ -6,3 +6,6 @@ returns-in-Case g c = node_by _ _ _ _ _ _ _ c.in-Case.is (case_is _ _ _) c.case.
 
 pub returns-in-Aggregate : goal.returns-in-Aggregate
 returns-in-Aggregate g c = aggregate_by _ _ _ _ _ _ _ _ _ c.in-Aggregate.is c.get.ensures c.aggregate.ensures
+
+pub case-requires-clause-arms : goal.case-requires-clause-arms
+case-requires-clause-arms g c = (c.requires.case _ _ _ c.in-Case.is).0

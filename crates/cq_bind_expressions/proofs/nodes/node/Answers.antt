@@ -1,3 +1,4 @@
+use Rattle.std.proofs.Common.{subst, sym}
 use Rattle.cq_bind_expressions.proofs.Productions.{or_by, and_by, not_by, is_by, compare_by, tested_by}
 use Rattle.cq_bind_expressions.proofs.nodes.node.Goals as goal
 
@@ -18,3 +19,21 @@ returns-in-Compare g c = compare_by _ _ _ _ _ _ _ _ _ _ _ c.in-Compare.is c.get-
 
 pub returns-in-Tested : goal.returns-in-Tested
 returns-in-Tested g c = tested_by _ _ _ _ _ _ _ _ _ _ c.in-Tested.is c.get-in-Tested.ensures c.tested.ensures
+
+pub chain-requires-clause-rest : goal.chain-requires-clause-rest
+chain-requires-clause-rest g c = (c.requires.or _ _ c.in-Or.is).1
+
+pub chain-requires-in-And-clause-rest : goal.chain-requires-in-And-clause-rest
+chain-requires-in-And-clause-rest g c = (c.requires.and _ _ c.in-And.is).1
+
+pub compare-requires-clause-left : goal.compare-requires-clause-left
+compare-requires-clause-left g c = subst (g.N.Nested.may_read c.args.nested.now) (sym c.get-in-Compare.ensures) (c.requires.compare _ _ _ _ c.in-Compare.is).0
+
+pub compare-requires-clause-right : goal.compare-requires-clause-right
+compare-requires-clause-right g c = subst (g.N.Nested.may_read c.args.nested.now) (sym c.get-in-Compare-2.ensures) (c.requires.compare _ _ _ _ c.in-Compare.is).1
+
+pub tested-requires-clause-operand : goal.tested-requires-clause-operand
+tested-requires-clause-operand g c = subst (g.N.Nested.may_read c.args.nested.now) (sym c.get-in-Tested.ensures) (c.requires.tested _ _ _ _ c.in-Tested.is).0
+
+pub tested-requires-clause-asked : goal.tested-requires-clause-asked
+tested-requires-clause-asked g c = (c.requires.tested _ _ _ _ c.in-Tested.is).1

@@ -1,7 +1,7 @@
 use Rattle.cq_reading.specs.Selects.{with_order_key}
 use Rattle.cq_reading.specs.Walk.{order_part}
 use Rattle.cq_bind_calls.proofs.Loops.{binds_parts}
-use Rattle.cq_bind_lists.proofs.orders.orders.Goals as goal
+use Rattle.cq_bind_lists.proofs.orders.order_keys.Goals as goal
 
 pub returns : goal.returns
 returns g c =

@@ -3,7 +3,7 @@ use Rattle.cq_reading.specs.Selects.{targets}
 use Rattle.cq_reading.specs.Walk.{item_part}
 use Rattle.cq_bind_lists.specs.Stars.{with_output}
 use Rattle.cq_bind_lists.proofs.Targets.{binds_from}
-use Rattle.cq_bind_lists.proofs.outputs.outputs.Goals as goal
+use Rattle.cq_bind_lists.proofs.outputs.select_list.Goals as goal
 
 pub returns : goal.returns
 returns g c =

@@ -1,5 +1,5 @@
 use Rattle.cq_bind_walk.proofs.Blocks.{ends_at_limit, ends_inside, ends_well}
-use Rattle.cq_bind_walk.proofs.walk.Selects.block.Goals as goal
+use Rattle.cq_bind_walk.proofs.selects.block.Goals as goal
 
 pub returns-in_err-outer : goal.returns-in_err-outer
 returns-in_err-outer g c = ends_at_limit _ _ _ _ _ _ c.in_err-outer.ensures.checks.0 c.in_err-outer.ensures.checks.1 c.from_residual.ensures.1
