@@ -88,7 +88,7 @@ impl<'a> Step for EachCte<'a> {
 
     ghost reading = { λ s. reading.with_cte s.catalog.now.tables };
 
-    ghost callable = { λ _. ⊤ };
+    ghost callable = { λ _ _. ⊤ };
 
     fn step(
         &self,

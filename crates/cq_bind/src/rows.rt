@@ -119,7 +119,7 @@ impl<'a> Step for EachValue<'a> {
 
     ghost reading = { λ s. reading.with_value s.scope.now s.table.now s.row s.columns.now };
 
-    ghost callable = { λ _. ⊤ };
+    ghost callable = { λ _ _. ⊤ };
 
     fn step(&self, found: &mut Found, before: Values, item: &Written) -> Result<Values, BindError> {
         match next_column(self.columns, &before) {
@@ -219,7 +219,7 @@ impl<'a> Step for EachRow<'a> {
 
     ghost reading = { λ s. reading.with_row s.scope.now s.table.now s.columns.now };
 
-    ghost callable = { λ _. ⊤ };
+    ghost callable = { λ _ _. ⊤ };
 
     fn step(&self, found: &mut Found, before: Rows, item: &RowValues) -> Result<Rows, BindError> {
         let row = self.next_row(found, &before, item)?;

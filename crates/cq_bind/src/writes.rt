@@ -120,7 +120,7 @@ impl<'a> Step for EachSet<'a> {
 
     ghost reading = { λ s. reading.with_set s.scope.now s.table.now };
 
-    ghost callable = { λ _. ⊤ };
+    ghost callable = { λ _ _. ⊤ };
 
     fn step(&self, found: &mut Found, before: Sets, item: &SetClause) -> Result<Sets, BindError> {
         let column = set_column(self.alloc, self.table, &before, &item.column)?;

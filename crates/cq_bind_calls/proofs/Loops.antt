@@ -1,10 +1,10 @@
 -- A loop that goes through the items of a list.
-use Rattle.std.proofs.Common.{◌≡◌, ◌≢◌, ℕ, Bool, true, false, Option, None, Some, ◌+◌, ◌<◌, ◌≤◌, List, [], ◌∷◌, drop, map, length, get_or, Result, Ok, Err, IsErrAnd, sym, subst, ap, refl, ◌∙◌, drop-cons, add-one}
+use Rattle.std.proofs.Common.{◌≡◌, ◌≢◌, ℕ, Bool, true, false, ◌+◌, ◌<◌, ◌≤◌, List, [], ◌∷◌, drop, map, length, get_or, Result, Ok, Err, IsErrAnd, sym, subst, ap, refl, ◌∙◌, drop-cons, add-one}
 use Rattle.std.proofs.lemmas.List.{drop_all}
 use Rattle.cq_reading.specs.declared.bound.Found.{Found}
 use Rattle.cq_reading.specs.declared.error.BindError.{BindError}
 use Rattle.cq_reading.specs.declared.error.BindError.TheVariants.{Memory}
-use Rattle.cq_reading.specs.Steps.{Reading, give, ◌then◌, follow, provided, through, with_next, each}
+use Rattle.cq_reading.specs.Steps.{Reading, follow, provided, through, with_next, each}
 use Rattle.cq_reading.specs.Scopes.{Context}
 use Rattle.cq_reading.specs.Outcomes.{Binds}
 

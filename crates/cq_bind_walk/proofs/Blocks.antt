@@ -1,5 +1,5 @@
 -- A SELECT in parts.
-use Rattle.std.proofs.Common.{◌≡◌, ◌≢◌, ℕ, Bool, true, false, nat_lt, List, [], map, IsErrAnd, Result, Ok, Err, sym, subst, ap, refl, ◌∙◌, rules}
+use Rattle.std.proofs.Common.{◌≡◌, Bool, true, false, nat_lt, List, [], map, IsErrAnd, Result, Ok, Err, sym, subst, ap, refl, ◌∙◌}
 use Rattle.cq_grammar.specs.declared.expr.Expr.TheOpen.{Select-F}
 use Rattle.cq_grammar.specs.declared.query.Select.{Select}
 use Rattle.cq_tree.specs.declared.expression.Cond.{Cond}

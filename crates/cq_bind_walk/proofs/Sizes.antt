@@ -1,5 +1,5 @@
 -- The parts of a tree are smaller than the tree.
-use Rattle.std.proofs.Common.{◌≡◌, ℕ, ◌+◌, ◌<◌, ◌≤◌, Bool, List, [], ◌∷◌, map, Option, None, Some, IfSome, refl, sym, subst, ap, rules, arith}
+use Rattle.std.proofs.Common.{◌≡◌, ℕ, ◌+◌, ◌<◌, Bool, List, [], ◌∷◌, map, Option, None, Some, IfSome, ap, rules, arith}
 use Rattle.std.proofs.lemmas.List.Elements.{All-nil, All-cons}
 use Rattle.std.proofs.lemmas.List.Sums.{sum_by-cons}
 use Rattle.std.specs.List.{All, sum}
@@ -10,7 +10,7 @@ use Rattle.cq_grammar.specs.declared.expr.Aggregate.{Aggregate}
 use Rattle.cq_grammar.specs.declared.expr.Comparison.{Comparison}
 use Rattle.cq_grammar.specs.declared.expr.NullTest.{NullTest}
 use Rattle.cq_grammar.specs.declared.expr.Expr.{Expr, the_lemmas}
-use Rattle.cq_grammar.specs.declared.expr.Expr.TheFolds.{fold_out-From, fold_out-Chained, fold_out-Added, fold_out-Multiplied, fold_out-Arm, fold_out-GroupBy, fold_out-Having, fold_out-OrderKey, fold_out-Select}
+use Rattle.cq_grammar.specs.declared.expr.Expr.TheFolds.{fold_out-From, fold_out-Chained, fold_out-Added, fold_out-Multiplied, fold_out-Arm, fold_out-GroupBy, fold_out-Having, fold_out-OrderKey}
 use Rattle.cq_grammar.specs.declared.expr.Test.{Test}
 use Rattle.cq_grammar.specs.declared.expr.Added.{Added, out-Added}
 use Rattle.cq_grammar.specs.declared.expr.Arm.{Arm, out-Arm}

@@ -1,5 +1,5 @@
 -- A SELECT in two parts: what is read before its outputs, and the rest.
-use Rattle.std.specs.Prelude.{ℕ, Bool, true, false, List, [], map, Result, Ok, Err}
+use Rattle.std.specs.Prelude.{Bool, true, false, List, [], map, Result, Ok, Err}
 use Rattle.cq_reading.specs.declared.error.BindError.{BindError}
 use Rattle.cq_reading.specs.declared.bound.Relations.{Relations}
 use Rattle.cq_reading.specs.declared.bound.Found.{Found}

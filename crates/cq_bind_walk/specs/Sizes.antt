@@ -128,4 +128,3 @@ order_key_size = fold-OrderKey ℕ ℕ ℕ ℕ ℕ ℕ ℕ ℕ ℕ ℕ ℕ ℕ �
 
 unfoldable pub select_size : Select → ℕ
 select_size = fold-Select ℕ ℕ ℕ ℕ ℕ ℕ ℕ ℕ ℕ ℕ ℕ ℕ ℕ ℕ of_expr of_test of_item of_join of_relation of_added of_arm of_chained of_multiplied of_from of_group_by of_having of_order_key of_select
-

@@ -176,13 +176,23 @@ fn conditions<N: Nested>(
     requires { SelectParts (N.may_read nested.now) (N.may_select nested.now) q.now }
     ensures { Binds (blocks.conditions_reading (layer_of q.now) world.now relations.now found.old) result found.new }
 {
-    let filter = filtered(nested, found, &q.filter, &scope_before(world, relations, true))?;
+    let filter = filtered(
+        nested,
+        found,
+        &q.filter,
+        &scope_before(world, relations, true),
+    )?;
     let scope = scope_before(world, relations, false);
     let keys = group_keys(nested, found, &q.groups, &q.items, &scope)?;
     Ok((filter, keys))
 }
 
-fn rows<N: Nested>(nested: &N, found: &mut Found, q: &Select, world: &World<'_>) -> Result<Rows, BindError>
+fn read_rows<N: Nested>(
+    nested: &N,
+    found: &mut Found,
+    q: &Select,
+    world: &World<'_>,
+) -> Result<Rows, BindError>
     requires { SelectParts (N.may_read nested.now) (N.may_select nested.now) q.now }
     ensures { Binds (blocks.rows_reading (layer_of q.now) world.now found.old) result found.new }
 {
@@ -206,11 +216,19 @@ fn ordered<N: Nested>(
 {
     let outputs = select_list(nested, found, items, scope)?;
     let order = unordered(alloc_of(scope), outputs.as_slice())?;
-    let order = order_keys(nested, found, keys, outputs.as_slice(), distinct, order, scope)?;
+    let order = order_keys(
+        nested,
+        found,
+        keys,
+        outputs.as_slice(),
+        distinct,
+        order,
+        scope,
+    )?;
     Ok((outputs, order))
 }
 
-fn shape<N: Nested>(
+fn read_shape<N: Nested>(
     nested: &N,
     found: &mut Found,
     q: &Select,
@@ -221,7 +239,12 @@ fn shape<N: Nested>(
     requires { SelectParts (N.may_read nested.now) (N.may_select nested.now) q.now }
     ensures { Binds (blocks.shape_reading (layer_of q.now) world.now grouped rows.now found.old) result found.new }
 {
-    let having = having_of(nested, found, &q.having, &scope_after(world, rows, grouped, true))?;
+    let having = having_of(
+        nested,
+        found,
+        &q.having,
+        &scope_after(world, rows, grouped, true),
+    )?;
     let scope = scope_after(world, rows, grouped, false);
     let (outputs, order) = ordered(nested, found, &q.items, q.distinct, &q.order, &scope)?;
     Ok(Shape {
@@ -241,8 +264,8 @@ fn parts<N: Nested>(
     requires { SelectParts (N.may_read nested.now) (N.may_select nested.now) q.now }
     ensures { Binds (blocks.parts_reading (layer_of q.now) world.now grouped found.old) result found.new }
 {
-    let rows = rows(nested, found, q, world)?;
-    let shape = shape(nested, found, q, &rows, grouped, world);
+    let rows = read_rows(nested, found, q, world)?;
+    let shape = read_shape(nested, found, q, &rows, grouped, world);
     beside(rows, shape)
 }
 

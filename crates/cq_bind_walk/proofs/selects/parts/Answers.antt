@@ -3,4 +3,4 @@ use Rattle.cq_bind_walk.proofs.Made.{binds_pair}
 use Rattle.cq_bind_walk.proofs.selects.parts.Goals as goal
 
 pub returns : goal.returns
-returns g c = binds_pair (shape_reading (layer_of c.args.q.now) c.args.world.now c.args.grouped) with_shape _ _ _ _ _ _ c.in_ok-rows.ensures c.shape-shape.ensures c.beside.ensures
+returns g c = binds_pair (shape_reading (layer_of c.args.q.now) c.args.world.now c.args.grouped) with_shape _ _ _ _ _ _ c.in_ok-rows.ensures c.read_shape-shape.ensures c.beside.ensures

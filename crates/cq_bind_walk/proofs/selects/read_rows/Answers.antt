@@ -1,7 +1,7 @@
 use Rattle.std.proofs.Common.{ap, ◌∙◌}
 use Rattle.cq_bind_walk.specs.Blocks.{layer_of, conditions_reading, made, rows_of, rows_from}
 use Rattle.cq_bind_walk.proofs.Made.{binds_pair, made_twice}
-use Rattle.cq_bind_walk.proofs.selects.rows.Goals as goal
+use Rattle.cq_bind_walk.proofs.selects.read_rows.Goals as goal
 
 pub returns : goal.returns
 returns g c =
