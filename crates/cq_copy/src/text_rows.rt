@@ -20,12 +20,14 @@ fn row_of_line(frame: &Frame<'_>, row: u64, line: &[u8]) -> Result<Row, CopyErro
     ensures { Gives result (spec.row_of_line frame.now.table.now frame.now.listed.now row line.now) }
 {
     if is_simple(line) {
-        return frame.row_of_simple(row, line);
+        if let Some(row) = frame.row_of_simple(line)? {
+            return Ok(row);
+        }
     }
     if !is_text(line) {
         return Err(CopyError::Encoding { row });
     }
-    let fields = fields_of(frame.alloc, line)?;
+    let fields = fields_of(frame.alloc, b'\t', line)?;
     frame.row_of_fields(row, fields.as_slice())
 }
 
