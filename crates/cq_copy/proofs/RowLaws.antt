@@ -1,6 +1,6 @@
 -- Rows that are read one after another, and the fields of a row.
 use Rattle.std.proofs.Common.{◌≡◌, ℕ, ◌+◌, ◌<◌, ◌≤◌, List, [], ◌∷◌, ◌++◌, length, get_or, drop, Bool, true, false, not, ◌&&◌, Option, Some, None, is_some, if◌then◌else◌, Result, Ok, Err, refl, sym, ◌∙◌, ap, arith, append_assoc, append-nil}
-use Rattle.std.proofs.lemmas.List.{drop_more, drop_all}
+use Rattle.std.proofs.lemmas.List.{drop_more, drop_all, drop-drop, length-append, length-drop, length-map}
 use Rattle.std.specs.Prelude.{slice_set}
 use Rattle.cq_value.specs.declared.value.Value.{Value}
 use Rattle.cq_catalog.specs.declared.info.TableInfo.{TableInfo}
@@ -14,7 +14,7 @@ use Rattle.cq_value.specs.declared.schema.Kind.{Kind}
 use Rattle.cq_copy.specs.declared.format.Format.TheVariants as format
 use Rattle.cq_copy.specs.Texts.{is_simple, fields, stands, text_of}
 use Rattle.cq_copy.specs.Values.{value_in}
-use Rattle.cq_copy.specs.Rows.{Row, after, is_null, value_of_text, value_of_field, value_at, filled, kind_at, checked, blank, missing, complete, row_of_fields, row_of_line, rows_from}
+use Rattle.cq_copy.specs.Rows.{Row, after, is_null, value_of_text, value_of_field, value_at, filled, kind_at, checked, InOrder, blank, missing, complete, row_of_fields, row_of_line, rows_from}
 use Rattle.cq_copy.proofs.TextLaws.{simple_ascii, simple_stands, text_stands}
 use Rattle.cq_copy.proofs.ValueLaws.{ascii_is_utf8}
 
@@ -68,6 +68,50 @@ filled_next f t row listed fields values i v e lt h = sym (filled_more f t row l
 pub filled_refused : (f : Format) (t : TableInfo) (row : ℕ) (listed : List ℕ) (fields : List (List ℕ)) (values : Row) (i : ℕ) (why : CopyError) → length fields ≡ length listed → i < length listed → value_at f t row (get_or listed i 0) (get_or fields i []) ≡ Err why
     → filled f t row (drop i listed) (drop i fields) values ≡ Err why
 filled_refused f t row listed fields values i why e lt h = filled_more f t row listed fields values i e lt ∙ ap (λ r. after r (λ v. filled f t row (drop (i + 1) listed) (drop (i + 1) fields) (slice_set values (get_or listed i 0) v))) h
+
+-- ---- a row whose columns come in order
+
+-- the row, where those of its columns that aren't there yet are NULL
+abbrev pub padded : Bool → TableInfo → Row → Row
+padded whole t values = if whole then values ++ drop (length values) (blank t) else values
+
+abbrev pub put_by : Bool → Row → ℕ → Value → Row
+put_by whole values c v = if whole then values ++ v ∷ [] else slice_set values c v
+
+blank_len : (t : TableInfo) → length (blank t) ≡ length t.columns
+blank_len t = length-map t.columns _
+
+set_here : (xs ys : Row) (v : Value) → 0 < length ys → slice_set (xs ++ ys) (length xs) v ≡ (xs ++ v ∷ []) ++ drop 1 ys
+set_here [] [] v lt = absurd (omega arith)
+set_here [] (y ∷ ys) v lt = refl
+set_here (x ∷ xs) ys v lt = ap (λ zs. x ∷ zs) (set_here xs ys v lt)
+
+pub padded_begun : (whole : Bool) (t : TableInfo) (values : Row) → values ≡ (if whole then [] else blank t) → padded whole t values ≡ blank t
+padded_begun true t values e = ap (λ vs. vs ++ drop (length vs) (blank t)) e
+padded_begun false t values e = e
+
+pub begun_len : (whole : Bool) (t : TableInfo) (values : Row) → values ≡ (if whole then [] else blank t) → whole ≡ true → length values ≡ 0
+begun_len true t values e w = ap length e
+begun_len false t values e w = absurd (let h : false ≡ true = w in cc)
+
+pub padded_put : (whole : Bool) (t : TableInfo) (listed : List ℕ) (values : Row) (i : ℕ) (v : Value) → (whole ≡ true → InOrder t listed) → (whole ≡ true → length values ≡ i) → i < length listed
+    → slice_set (padded whole t values) (get_or listed i 0) v ≡ padded whole t (put_by whole values (get_or listed i 0) v)
+padded_put true t listed values i v order len lt =
+    let o = order refl in
+    let here : get_or listed i 0 ≡ length values = o.1 i lt ∙ sym (len refl) in
+    let more : 0 < length (drop (length values) (blank t)) = omega (arith, length-drop (length values) (blank t), blank_len t, o.0, len refl) in
+    ap (λ c. slice_set (values ++ drop (length values) (blank t)) c v) here ∙ set_here values (drop (length values) (blank t)) v more
+    ∙ ap (λ rest. (values ++ v ∷ []) ++ rest) (drop-drop 1 (length values) (blank t) ∙ ap (λ n. drop n (blank t)) (sym (length-append values (v ∷ []))))
+padded_put false t listed values i v order len lt = refl
+
+pub put_len : (whole : Bool) (values : Row) (c i : ℕ) (v : Value) → (whole ≡ true → length values ≡ i) → whole ≡ true → length (put_by whole values c v) ≡ i + 1
+put_len true values c i v len w = length-append values (v ∷ []) ∙ ap (λ n. n + 1) (len w)
+put_len false values c i v len w = absurd (let h : false ≡ true = w in cc)
+
+pub padded_all : (whole : Bool) (t : TableInfo) (listed : List ℕ) (values : Row) (i : ℕ) → (whole ≡ true → InOrder t listed) → (whole ≡ true → length values ≡ i) → length listed ≤ i → padded whole t values ≡ values
+padded_all true t listed values i order len le =
+    ap (λ rest. values ++ rest) (drop_all (length values) (blank t) (omega (arith, blank_len t, (order refl).0, len refl))) ∙ append-nil values
+padded_all false t listed values i order len le = refl
 
 -- ---- a row without refusal
 

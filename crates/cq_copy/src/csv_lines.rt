@@ -81,6 +81,7 @@ pub(crate) fn behind_first(bytes: &[u8]) -> &[u8]
 fn row_of_line(frame: &Frame<'_>, row: u64, line: &[u8]) -> Result<Row, CopyError>
     requires format { frame.now.format ≡ formats.Csv }
     requires absent { frame.now.absent ≡ spec.missing frame.now.table.now frame.now.listed.now }
+    requires whole { frame.now.whole ≡ true → spec.InOrder frame.now.table.now frame.now.listed.now }
     ensures { Gives result (row_of_record frame.now.table.now frame.now.listed.now row (fields_by 44 line.now)) }
 {
     if is_simple(line) {
@@ -96,6 +97,7 @@ fn row_of_line(frame: &Frame<'_>, row: u64, line: &[u8]) -> Result<Row, CopyErro
 pub(crate) fn rows_of_lines(frame: &Frame<'_>, bytes: &[u8]) -> Result<Rows, CopyError>
     requires format { frame.now.format ≡ formats.Csv }
     requires absent { frame.now.absent ≡ spec.missing frame.now.table.now frame.now.listed.now }
+    requires whole { frame.now.whole ≡ true → spec.InOrder frame.now.table.now frame.now.listed.now }
     ensures { Gives result (spec.rows_from (row_of_record frame.now.table.now frame.now.listed.now) 1 (lines.records_in (lines.lines bytes.now))) }
 {
     let mut rows = Rows::new(frame.alloc);

@@ -128,6 +128,7 @@ fn rows_of_unquoted(frame: &Frame<'_>, bytes: &[u8], header: bool) -> Result<Row
     requires format { frame.now.format ≡ formats.Csv }
     requires absent { frame.now.absent ≡ spec.missing frame.now.table.now frame.now.listed.now }
     requires unquoted { list_all of_lines.is_unquoted bytes.now ≡ true }
+    requires whole { frame.now.whole ≡ true → spec.InOrder frame.now.table.now frame.now.listed.now }
     ensures { Gives result (of_records.rows_of_csv bytes.now frame.now.table.now frame.now.listed.now header) }
 {
     let data = unmarked(bytes);
