@@ -86,14 +86,6 @@ set_here [] [] v lt = absurd (omega arith)
 set_here [] (y ∷ ys) v lt = refl
 set_here (x ∷ xs) ys v lt = ap (λ zs. x ∷ zs) (set_here xs ys v lt)
 
-pub padded_begun : (whole : Bool) (t : TableInfo) (values : Row) → values ≡ (if whole then [] else blank t) → padded whole t values ≡ blank t
-padded_begun true t values e = ap (λ vs. vs ++ drop (length vs) (blank t)) e
-padded_begun false t values e = e
-
-pub begun_len : (whole : Bool) (t : TableInfo) (values : Row) → values ≡ (if whole then [] else blank t) → whole ≡ true → length values ≡ 0
-begun_len true t values e w = ap length e
-begun_len false t values e w = absurd (let h : false ≡ true = w in cc)
-
 pub padded_put : (whole : Bool) (t : TableInfo) (listed : List ℕ) (values : Row) (i : ℕ) (v : Value) → (whole ≡ true → InOrder t listed) → (whole ≡ true → length values ≡ i) → i < length listed
     → slice_set (padded whole t values) (get_or listed i 0) v ≡ padded whole t (put_by whole values (get_or listed i 0) v)
 padded_put true t listed values i v order len lt =

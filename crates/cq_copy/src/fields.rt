@@ -1,4 +1,4 @@
-ghost use Rattle.std.specs.Prelude.{◌≡◌, ℕ, true, Some, Ok, ◌+◌, ◌-◌, ◌^◌, IfOk, min};
+ghost use Rattle.std.specs.Prelude.{◌≡◌, ℕ, true, Some, Ok, ◌+◌, ◌-◌, ◌^◌, IfOk, IfSome, min};
 ghost use Rattle.std.specs.List.{list_all};
 ghost use Rattle.cq_copy.specs.Rows as spec;
 ghost use Rattle.cq_copy.specs.Rows.{Gives};
@@ -68,7 +68,7 @@ fn value_of_field(
     }
 }
 
-/// The value of a field of simple bytes in a column of this type, if it has one.
+/// The value of a field of simple bytes in a column of this type, unless it has none or is a number with spaces, or the least of its type.
 #[tactic(auto, unfolding(crate::specs::Rows::value_of_field))]
 pub(crate) fn simple_value(
     alloc: Global,
@@ -77,7 +77,7 @@ pub(crate) fn simple_value(
     field: &[u8],
 ) -> Result<Option<Value>, NoMemory>
     requires { list_all is_simple field.now ≡ true }
-    ensures { IfOk result (λ v. v ≡ spec.value_of_field format kind field.now) }
+    ensures { IfOk result (λ found. IfSome found (λ v. spec.value_of_field format kind field.now ≡ Some v)) }
 {
     match format {
         Format::Text => read_ascii(alloc, kind, field),

@@ -140,8 +140,8 @@ impl<'a> Frame<'a> {
         complete(row, self.absent, Row::shared(self.alloc, values)?)
     }
 
-    /// The row with the value of each field of a line in its column, where there are as many fields as listed columns and each has
-    /// a value that its column may have. The line's bytes are simple.
+    /// The row with the value of each field of a line in its column; none where `simple_value` gives none, a value may not stand in
+    /// its column, or there are more or fewer fields than listed columns. The line's bytes are simple.
     fn values_of_line(&self, line: &[u8]) -> Result<Option<Values>, NoMemory>
         requires whole { self.now.whole ≡ true → spec.InOrder self.now.table.now self.now.listed.now }
         requires simple { list_all is_simple line.now ≡ true }
@@ -170,7 +170,8 @@ impl<'a> Frame<'a> {
         Ok(Some(values))
     }
 
-    /// The row of the fields of a line whose bytes are simple, if it isn't refused.
+    /// The row of the fields of a line whose bytes are simple; none where a column is missing or `values_of_line` gives none, which
+    /// `row_of_fields` must then look at.
     pub(crate) fn row_of_simple(&self, line: &[u8]) -> Result<Option<Row>, NoMemory>
         requires absent { self.now.absent ≡ spec.missing self.now.table.now self.now.listed.now }
         requires whole { self.now.whole ≡ true → spec.InOrder self.now.table.now self.now.listed.now }

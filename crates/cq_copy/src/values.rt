@@ -199,13 +199,15 @@ fn ascii_value(alloc: Global, bytes: &[u8]) -> Result<Value, NoMemory>
     Ok(Value::Text(Text::of(alloc, text)?))
 }
 
-/// As `read_value`, of a text in ASCII.
+/// The value of a text in ASCII, unless it has none or is a number with spaces, or the least of its type.
+#[tactic(auto, unfolding(crate::specs::Values::value_in))]
 pub(crate) fn read_ascii(alloc: Global, kind: Kind, text: &[u8]) -> Result<Option<Value>, NoMemory>
     requires { list_all is_ascii text.now ≡ true }
-    ensures { IfOk result (λ v. v ≡ value_in kind text.now) }
+    ensures { IfOk result (λ found. IfSome found (λ v. value_in kind text.now ≡ Some v)) }
 {
     match kind {
-        Kind::Bigint | Kind::Integer => read_value(alloc, kind, text),
+        Kind::Bigint => Ok(plain_within(9_223_372_036_854_775_808, text)),
+        Kind::Integer => Ok(plain_within(2_147_483_648, text)),
         Kind::Text => Ok(Some(ascii_value(alloc, text)?)),
     }
 }

@@ -7,7 +7,7 @@ pub loop-column-preserved : goal.loop-column-preserved
 loop-column-preserved c =
     let inv = rw c.in-Some.is at c.loop-column.invariant in
     let fields = rw c.separator.ensures at c.first_field.ensures.fields in
-    let value = sym (rw (c.in-Some-2.is, c.kind_at-kind.ensures) at c.in_ok-value.ensures) in
+    let value = rw (c.in-Some-2.is, c.kind_at-kind.ensures) at c.in_ok-value.ensures in
     let put = padded_put c.args.self.now.whole c.args.self.now.table.now c.args.self.now.listed.now c.loop-column.values c.loop-column.column-index c.in-Some-2.value c.requires.whole inv.3 c.loop-column-test.true in (
       λ row. rw (c.in_ok-values-2.ensures, sym put) (
           sym (filled_step c.args.self.now.format c.args.self.now.table.now row c.args.self.now.listed.now c.first_field.result.0.now _ _ c.loop-column.column-index c.in-Some-2.value c.loop-column-test.true value (c.may_have.ensures c.if-not-may_have.false row))
