@@ -2,3 +2,4 @@ pub mod TextLaws
 pub mod RowLaws
 pub mod RecordLaws
 pub mod ValueLaws
+pub mod LineLaws

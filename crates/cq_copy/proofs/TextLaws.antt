@@ -1,15 +1,15 @@
 -- Lines, and the texts of fields.
 use Rattle.std.proofs.Common.{◌≡◌, ℕ, zero, suc, ◌+◌, ◌<◌, ◌≤◌, List, [], ◌∷◌, ◌++◌, length, get_or, drop, take, Bool, true, false, not, ◌&&◌, ◌||◌, cond, eqb, Option, Some, None, refl, sym, ◌∙◌, ap, arith, append_assoc, append-nil, if◌then◌else◌}
 use Rattle.std.specs.Prelude.{option_map, ◌==◌}
-use Rattle.std.specs.List.{count_by, list_all, onto_first, position_or_len, prefix_len}
-use Rattle.cq_copy.specs.Texts.{is_newline, is_tab, is_simple, lines, fields, text_of, before, escaped, plain, stands}
+use Rattle.std.specs.List.{list_all, onto_first, position_or_len, prefix_len, slice_split}
+use Rattle.cq_copy.specs.Texts.{is_newline, is_simple, lines, text_of, before, escaped, plain, stands}
 use Rattle.std.specs.Char.{is_ascii}
-use Rattle.std.proofs.lemmas.List.Sums.{sum_by-cons, prefix_len_is}
+use Rattle.std.proofs.lemmas.List.Sums.{prefix_len_is}
 use Rattle.memchr.specs.Find.{Nowhere, NoneBefore, Passes, is_byte}
 
 -- ---- the first place of a byte
 
-not_yes : (t : Bool) → ¬ (t ≡ true) → not t ≡ true
+pub not_yes : (t : Bool) → ¬ (t ≡ true) → not t ≡ true
 not_yes true never = absurd (never refl)
 not_yes false never = refl
 
@@ -67,65 +67,35 @@ unfolding lines
 last_line [] lt le = absurd (omega arith)
 last_line (b ∷ bs) lt le = no_newline (b ∷ bs) le
 
--- ---- the fields of a line
+-- ---- parts of a list, as the fields of a line
 
-count_of : (t : Bool) (b : ℕ) (fs : List (List ℕ)) (n : ℕ) → length fs ≡ n + 1 → length (cond t ([] ∷ fs) (onto_first b fs)) ≡ (cond t 1 0 + n) + 1
-count_of true b fs n e = omega (arith, e)
-count_of false b [] n e = absurd (omega (arith, e))
-count_of false b (f ∷ fs) n e = omega (arith, e)
+abbrev part_by : Bool → List (List ℕ) → ℕ → List (List ℕ)
+part_by t more b = cond t ([] ∷ more) (onto_first b more)
 
--- one more than there are tabs
-pub count_fields : (bs : List ℕ) → length (fields bs) ≡ count_by is_tab bs + 1
-count_fields [] = refl
-count_fields (b ∷ bs) =
-    count_of (is_tab b) b (fields bs) (count_by is_tab bs) (count_fields bs) ∙ ap (λ n. n + 1) (sym (sum_by-cons (λ (x : ℕ). cond (is_tab x) 1 0) b bs))
+abbrev part_len : (ℕ → Bool) → Bool → List ℕ → ℕ
+part_len p t bs = cond (not t) (1 + position_or_len p bs) 0
 
-abbrev tab_at : List ℕ → ℕ
-tab_at bs = position_or_len is_tab bs
+split_by : (p : ℕ → Bool) (b : ℕ) (bs : List ℕ) (t : Bool) → (position_or_len p bs < length bs → slice_split p bs ≡ take (position_or_len p bs) bs ∷ slice_split p (drop (position_or_len p bs + 1) bs))
+    → part_len p t bs < length (b ∷ bs) → part_by t (slice_split p bs) b ≡ take (part_len p t bs) (b ∷ bs) ∷ slice_split p (drop (part_len p t bs + 1) (b ∷ bs))
+split_by p b bs true more lt = refl
+split_by p b bs false more lt =
+    let one : 1 + position_or_len p bs ≡ suc (position_or_len p bs) = omega arith in
+    let two : 1 + position_or_len p bs + 1 ≡ suc (position_or_len p bs + 1) = omega arith in
+    rw (two, one) (ap (onto_first b) (more (omega arith)))
 
-onto_is : (b : ℕ) (fs : List (List ℕ)) (f : List ℕ) (more : List (List ℕ)) → fs ≡ f ∷ more → onto_first b fs ≡ (b ∷ f) ∷ drop 1 (onto_first b fs)
-onto_is b [] f more e = absurd (omega (arith, ap length e))
-onto_is b (g ∷ fs) f more e = ap (λ x. (b ∷ x) ∷ fs) (ap (λ l. get_or l 0 []) e)
+-- the first part ends before the list does
+pub split_ends : (p : ℕ → Bool) (bs : List ℕ) → position_or_len p bs < length bs → slice_split p bs ≡ take (position_or_len p bs) bs ∷ slice_split p (drop (position_or_len p bs + 1) bs)
+split_ends p [] lt = absurd (omega arith)
+split_ends p (b ∷ bs) lt = split_by p b bs (p b) (split_ends p bs) lt
 
-field_by : (t : Bool) (b : ℕ) (bs : List ℕ) → fields bs ≡ take (tab_at bs) bs ∷ drop 1 (fields bs)
-    → cond t ([] ∷ fields bs) (onto_first b (fields bs)) ≡ take (cond (not t) (1 + tab_at bs) 0) (b ∷ bs) ∷ drop 1 (cond t ([] ∷ fields bs) (onto_first b (fields bs)))
-field_by true b bs e = refl
-field_by false b bs e =
-    let one : 1 + tab_at bs ≡ suc (tab_at bs) = omega arith in
-    rw one (onto_is b (fields bs) (take (tab_at bs) bs) (drop 1 (fields bs)) e)
+one_part_by : (p : ℕ → Bool) (b : ℕ) (bs : List ℕ) (t : Bool) → (length bs ≤ position_or_len p bs → slice_split p bs ≡ bs ∷ []) → length (b ∷ bs) ≤ part_len p t bs → part_by t (slice_split p bs) b ≡ (b ∷ bs) ∷ []
+one_part_by p b bs true one le = absurd (omega arith)
+one_part_by p b bs false one le = ap (onto_first b) (one (omega arith))
 
-pub field_is : (bs : List ℕ) → fields bs ≡ take (tab_at bs) bs ∷ drop 1 (fields bs)
-field_is [] = refl
-field_is (b ∷ bs) = field_by (is_tab b) b bs (field_is bs)
-
-drop_onto : (b : ℕ) (fs : List (List ℕ)) → drop 1 (onto_first b fs) ≡ drop 1 fs
-drop_onto b [] = refl
-drop_onto b (f ∷ fs) = refl
-
-onto_more : (b : ℕ) (fs : List (List ℕ)) → 1 < length (onto_first b fs) → 1 < length fs
-onto_more b [] lt = absurd (omega arith)
-onto_more b (f ∷ fs) lt = lt
-
-rest_by : (t : Bool) (b : ℕ) (bs : List ℕ) → (1 < length (fields bs) → drop 1 (fields bs) ≡ fields (drop (tab_at bs + 1) bs))
-    → 1 < length (cond t ([] ∷ fields bs) (onto_first b (fields bs))) → drop 1 (cond t ([] ∷ fields bs) (onto_first b (fields bs))) ≡ fields (drop (cond (not t) (1 + tab_at bs) 0 + 1) (b ∷ bs))
-rest_by true b bs more lt = refl
-rest_by false b bs more lt =
-    let two : 1 + tab_at bs + 1 ≡ suc (tab_at bs + 1) = omega arith in
-    rw two (drop_onto b (fields bs) ∙ more (onto_more b (fields bs) lt))
-
-pub fields_behind : (bs : List ℕ) → 1 < length (fields bs) → drop 1 (fields bs) ≡ fields (drop (tab_at bs + 1) bs)
-fields_behind [] lt = absurd (omega arith)
-fields_behind (b ∷ bs) lt = rest_by (is_tab b) b bs (fields_behind bs) lt
-
-one_by : (t : Bool) (b : ℕ) (bs : List ℕ) (fs : List (List ℕ)) → (length bs ≤ tab_at bs → length fs ≤ 1) → length (b ∷ bs) ≤ cond (not t) (1 + tab_at bs) 0 → length (cond t ([] ∷ fs) (onto_first b fs)) ≤ 1
-one_by true b bs fs one le = absurd (omega arith)
-one_by false b bs [] one le = omega arith
-one_by false b bs (f ∷ fs) one le = one (omega arith)
-
--- a line without a tab
-pub one_field : (bs : List ℕ) → length bs ≤ tab_at bs → length (fields bs) ≤ 1
-one_field [] le = omega arith
-one_field (b ∷ bs) le = one_by (is_tab b) b bs (fields bs) (one_field bs) le
+-- it is the whole list
+pub one_part : (p : ℕ → Bool) (bs : List ℕ) → length bs ≤ position_or_len p bs → slice_split p bs ≡ bs ∷ []
+one_part p [] le = refl
+one_part p (b ∷ bs) le = one_part_by p b bs (p b) (one_part p bs) le
 
 -- ---- the text of a field
 
@@ -170,7 +140,7 @@ rest_and : (t more : Bool) → t && more ≡ true → more ≡ true
 rest_and true more e = e
 rest_and false more e = absurd (let h : false ≡ true = e in cc)
 
-both : (a b : Bool) → a ≡ true → b ≡ true → (a && b) ≡ true
+pub both : (a b : Bool) → a ≡ true → b ≡ true → (a && b) ≡ true
 both true b e h = h
 both false b e h = absurd (let x : false ≡ true = e in cc)
 

@@ -1,5 +1,5 @@
 -- The rows of data in the columns of a table, or why they are refused.
-use Rattle.std.specs.Prelude.{◌≡◌, ◌≢◌, ℕ, ◌+◌, ◌-◌, ◌^◌, min, Bool, false, not, ◌&&◌, ◌==◌, if◌then◌else◌, List, [], ◌∷◌, length, map, filter, fold, slice_get, slice_set, Option, Some, None, Result, Ok, Err}
+use Rattle.std.specs.Prelude.{◌≡◌, ◌≢◌, ℕ, ◌<◌, get_or, ◌+◌, ◌-◌, ◌^◌, min, Bool, false, not, ◌&&◌, ◌==◌, if◌then◌else◌, List, [], ◌∷◌, length, map, filter, fold, slice_get, slice_set, Option, Some, None, Result, Ok, Err}
 use Rattle.std.specs.List.{list_any}
 use Rattle.std.specs.Str.{is_utf8}
 use Rattle.cq_value.specs.declared.value.Value.{Value}
@@ -68,6 +68,10 @@ lower (Some d) c = Some (min d c)
 -- the first of these columns
 unfoldable pub missing : TableInfo → List ℕ → Option ℕ
 missing t listed = fold lower None (filter (is_missing t listed) t.key)
+
+-- every column is listed, in order
+abbrev pub InOrder : TableInfo → List ℕ → Type 0
+InOrder t listed = (length listed ≡ length t.columns) × ((i : ℕ) → i < length listed → get_or listed i 0 ≡ i)
 
 -- ---- rows, by their numbers from 1
 

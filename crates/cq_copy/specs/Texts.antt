@@ -2,6 +2,8 @@
 use Rattle.std.specs.Prelude.{ℕ, Bool, not, ◌&&◌, ◌||◌, ◌==◌, if◌then◌else◌, List, [], ◌∷◌, Option, Some, None, option_map}
 use Rattle.std.specs.List.{onto_first, slice_split}
 use Rattle.std.specs.Char.{is_ascii, is_ascii_digit}
+use Rattle.cq_copy.specs.declared.format.Format.{Format}
+use Rattle.cq_copy.specs.declared.format.Format.TheVariants as format
 
 abbrev pub is_newline : ℕ → Bool
 is_newline b = b == 10
@@ -17,6 +19,20 @@ lines (b ∷ bs) = if is_newline b then [] ∷ lines bs else onto_first b (lines
 -- tabs part the fields of a line
 abbrev pub fields : List ℕ → List (List ℕ)
 fields line = slice_split is_tab line
+
+-- the fields of a line with this byte between them
+abbrev pub fields_by : ℕ → List ℕ → List (List ℕ)
+fields_by separator line = slice_split (λ b. b == separator) line
+
+-- those behind a field, where there are some
+abbrev pub fields_left : ℕ → Option (List ℕ) → List (List ℕ)
+fields_left separator None = []
+fields_left separator (Some line) = fields_by separator line
+
+-- the byte between the fields of a simple line: a tab, 9, or a comma, 44
+abbrev pub separator : Format → ℕ
+separator format.Text = 9
+separator format.Csv = 44
 
 -- what a backslash and this byte stand for: backspace, form feed, newline, carriage return, tab and vertical tab for b, f, n, r, t and v;
 -- nothing for a digit and x; the byte for another

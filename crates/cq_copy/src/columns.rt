@@ -1,4 +1,4 @@
-ghost use Rattle.std.specs.Prelude.{◌≡◌, None};
+ghost use Rattle.std.specs.Prelude.{◌≡◌, true, None};
 ghost use Rattle.cq_copy.specs.Rows as spec;
 
 use cq_catalog::{Place, TableInfo};
@@ -60,4 +60,19 @@ pub(crate) fn missing(table: &TableInfo, listed: &[u32]) -> Option<u32>
         }
     }
     first
+}
+
+/// Whether every column is listed, in order.
+pub(crate) fn are_in_order(table: &TableInfo, listed: &[u32]) -> bool
+    ensures { result ≡ true → spec.InOrder table.now listed.now }
+{
+    if listed.len() as u64 != table.columns.len() {
+        return false;
+    }
+    for (at, column) in listed.iter().enumerate() {
+        if *column as usize != at {
+            return false;
+        }
+    }
+    true
 }

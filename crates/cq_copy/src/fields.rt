@@ -1,4 +1,4 @@
-ghost use Rattle.std.specs.Prelude.{◌≡◌, true, ◌+◌, ◌-◌, ◌^◌, IfOk, min};
+ghost use Rattle.std.specs.Prelude.{◌≡◌, ℕ, true, Some, Ok, ◌+◌, ◌-◌, ◌^◌, IfOk, IfSome, min};
 ghost use Rattle.std.specs.List.{list_all};
 ghost use Rattle.cq_copy.specs.Rows as spec;
 ghost use Rattle.cq_copy.specs.Rows.{Gives};
@@ -68,12 +68,36 @@ fn value_of_field(
     }
 }
 
-/// The value of a field of simple bytes in a column of this type, in the text format, if it has one.
-fn value_of_simple(alloc: Global, kind: Kind, field: &[u8]) -> Result<Option<Value>, NoMemory>
+/// The value of a field of simple bytes in a column of this type, unless it has none or is a number with spaces, or the least of its type.
+#[tactic(auto, unfolding(crate::specs::Rows::value_of_field))]
+pub(crate) fn simple_value(
+    alloc: Global,
+    format: Format,
+    kind: Kind,
+    field: &[u8],
+) -> Result<Option<Value>, NoMemory>
     requires { list_all is_simple field.now ≡ true }
-    ensures { IfOk result (λ v. v ≡ spec.value_of_field Format.Text kind field.now) }
+    ensures { IfOk result (λ found. IfSome found (λ v. spec.value_of_field format kind field.now ≡ Some v)) }
 {
-    read_ascii(alloc, kind, field)
+    match format {
+        Format::Text => read_ascii(alloc, kind, field),
+        Format::Csv => {
+            if field.is_empty() {
+                return Ok(Some(Value::Null));
+            }
+            read_ascii(alloc, kind, field)
+        }
+    }
+}
+
+/// Whether a column may have the value.
+pub(crate) fn may_have(table: &TableInfo, column: u32, value: &Value) -> bool
+    ensures { result ≡ true → (row : ℕ) → spec.checked table.now row column (Some value.now) ≡ Ok value.now }
+{
+    match value {
+        Value::Null => !needs_value(table, column),
+        Value::Int(_) | Value::Text(_) => true,
+    }
 }
 
 /// A column's value, or its refusal.
@@ -109,20 +133,5 @@ pub(crate) fn value_at(
     ensures { Gives result (spec.value_at format table.now row column field.now) }
 {
     let value = value_of_field(alloc, format, kind_at(table, column), field)?;
-    checked(table, row, column, value)
-}
-
-/// As `value_at` in the text format, of a field of simple bytes.
-pub(crate) fn simple_value_at(
-    alloc: Global,
-    table: &TableInfo,
-    row: u64,
-    column: u32,
-    field: &[u8],
-) -> Result<Value, CopyError>
-    requires { list_all is_simple field.now ≡ true }
-    ensures { Gives result (spec.value_at Format.Text table.now row column field.now) }
-{
-    let value = value_of_simple(alloc, kind_at(table, column), field)?;
     checked(table, row, column, value)
 }

@@ -1,3 +1,6 @@
+ghost use Rattle.std.specs.Prelude.{◌≡◌};
+ghost use Rattle.cq_copy.specs.Texts as spec;
+
 /// How data are written.
 #[derive(Clone, Copy, Debug, PartialEq, Eq)]
 pub enum Format {
@@ -5,4 +8,14 @@ pub enum Format {
     Text,
     /// A record for each row.
     Csv,
+}
+
+/// The byte between two fields.
+pub(crate) fn separator(format: Format) -> u8
+    ensures { result ≡ spec.separator format }
+{
+    match format {
+        Format::Text => b'\t',
+        Format::Csv => b',',
+    }
 }

@@ -1,27 +1,27 @@
-ghost use Rattle.std.specs.Prelude.{◌≡◌, true, map, length, slice_set, IfOk};
+ghost use Rattle.std.specs.Prelude.{◌≡◌, ◌++◌, ◌∷◌, [], if◌then◌else◌, true, map, length, slice_set, IfOk, IfSome, Ok, ℕ};
 ghost use Rattle.std.specs.List.{list_all};
-ghost use Rattle.cq_copy.specs.declared.format.Format.TheVariants as formats;
 ghost use Rattle.cq_copy.specs.Rows as spec;
 ghost use Rattle.cq_copy.specs.Rows.{Gives};
-ghost use Rattle.cq_copy.specs.Texts.{fields, is_simple};
+ghost use Rattle.cq_copy.specs.Texts.{fields_by, separator, is_simple};
 
-use crate::columns::missing;
+use crate::columns::{are_in_order, kind_at, missing};
 use crate::error::CopyError;
-use crate::fields::{bad_value, simple_value_at, value_at};
-use crate::format::Format;
-use crate::texts::{field_count, first_field};
+use crate::fields::{bad_value, may_have, simple_value, value_at};
+use crate::format::{Format, separator};
+use crate::texts::first_field;
 use cq_catalog::TableInfo;
 use cq_value::{NoMemory, Row, Value, Values};
 use std::alloc::Global;
 
-/// Into what rows are read: how the data are written, a table and its listed columns, and the first column that isn't listed and may
-/// not be NULL.
+/// Into what rows are read: how the data are written, a table and its listed columns, whether these are all columns in order, and the
+/// first column that isn't listed and may not be NULL.
 #[derive(Clone, Copy)]
 pub(crate) struct Frame<'a> {
     pub alloc: Global,
     format: Format,
     table: &'a TableInfo,
     listed: &'a [u32],
+    whole: bool,
     absent: Option<u32>,
 }
 
@@ -47,6 +47,18 @@ fn with_value(values: Values, column: u32, value: Value) -> Values
     values
 }
 
+/// The row with the value in its column. Of a whole row, whose columns come in order, those behind it aren't there yet.
+fn placed(whole: bool, values: Values, column: u32, value: Value) -> Result<Values, NoMemory>
+    ensures { IfOk result (λ after. after ≡ (if whole then values ++ value ∷ [] else slice_set values column value)) }
+{
+    if !whole {
+        return Ok(with_value(values, column, value));
+    }
+    let mut values = values;
+    values.put(value)?;
+    Ok(values)
+}
+
 /// The row, if no column is missing.
 fn complete(row: u64, absent: Option<u32>, values: Row) -> Result<Row, CopyError>
     ensures { result ≡ spec.complete row absent values }
@@ -58,6 +70,17 @@ fn complete(row: u64, absent: Option<u32>, values: Row) -> Result<Row, CopyError
 }
 
 impl<'a> Frame<'a> {
+    /// The row before its fields are read: of NULLs, or an empty one with room for all columns, where they come in order.
+    fn begun(&self) -> Result<Values, NoMemory>
+        ensures { IfOk result (λ values. values ≡ (if self.now.whole then [] else spec.blank self.now.table.now)) }
+    {
+        if self.whole {
+            Values::with_room(self.alloc, self.table.columns.len())
+        } else {
+            blank(self.alloc, self.table)
+        }
+    }
+
     /// Of data in this format, for a table and its listed columns.
     pub(crate) fn new(
         alloc: Global,
@@ -68,6 +91,7 @@ impl<'a> Frame<'a> {
         ensures format { result.format ≡ format }
         ensures table { result.table.now ≡ table.now }
         ensures listed { result.listed.now ≡ listed.now }
+        ensures whole { result.whole ≡ true → spec.InOrder result.table.now result.listed.now }
         ensures absent { result.absent ≡ spec.missing table.now listed.now }
     {
         Frame {
@@ -75,6 +99,7 @@ impl<'a> Frame<'a> {
             format,
             table,
             listed,
+            whole: are_in_order(table, listed),
             absent: missing(table, listed),
         }
     }
@@ -115,39 +140,50 @@ impl<'a> Frame<'a> {
         complete(row, self.absent, Row::shared(self.alloc, values)?)
     }
 
-    /// The row with the value of each field of a line in its column, from left to right, or the first refusal of one. The line has a
-    /// field for each listed column, and its bytes are simple.
-    fn filled_of_line(&self, row: u64, line: &[u8]) -> Result<Values, CopyError>
-        requires count { length (fields line.now) ≡ length self.now.listed.now }
+    /// The row with the value of each field of a line in its column; none where `simple_value` gives none, a value may not stand in
+    /// its column, or there are more or fewer fields than listed columns. The line's bytes are simple.
+    fn values_of_line(&self, line: &[u8]) -> Result<Option<Values>, NoMemory>
+        requires whole { self.now.whole ≡ true → spec.InOrder self.now.table.now self.now.listed.now }
         requires simple { list_all is_simple line.now ≡ true }
-        ensures { Gives result (spec.filled formats.Text self.now.table.now row self.now.listed.now (fields line.now) (spec.blank self.now.table.now)) }
+        ensures { IfOk result (λ found. IfSome found (λ values. (length (fields_by (separator self.now.format) line.now) ≡ length self.now.listed.now) × ((row : ℕ) → spec.filled self.now.format self.now.table.now row self.now.listed.now (fields_by (separator self.now.format) line.now) (spec.blank self.now.table.now) ≡ Ok values))) }
     {
-        let mut values = blank(self.alloc, self.table)?;
-        let mut left = line;
+        let mut values = self.begun()?;
+        let mut left = Some(line);
         for column in self.listed {
-            let (field, more) = first_field(left);
-            let value = simple_value_at(self.alloc, self.table, row, *column, field)?;
-            values = with_value(values, *column, value);
+            let Some(text) = left else {
+                return Ok(None);
+            };
+            let (field, more) = first_field(separator(self.format), text);
+            let kind = kind_at(self.table, *column);
+            let Some(value) = simple_value(self.alloc, self.format, kind, field)? else {
+                return Ok(None);
+            };
+            if !may_have(self.table, *column, &value) {
+                return Ok(None);
+            }
+            values = placed(self.whole, values, *column, value)?;
             left = more;
         }
-        Ok(values)
+        if left.is_some() {
+            return Ok(None);
+        }
+        Ok(Some(values))
     }
 
-    /// The row of the fields of a line in the text format whose bytes are simple, or its first refusal.
-    #[tactic(auto, unfolding(crate::specs::Rows::row_of_fields))]
-    pub(crate) fn row_of_simple(&self, row: u64, line: &[u8]) -> Result<Row, CopyError>
+    /// The row of the fields of a line whose bytes are simple; none where a column is missing or `values_of_line` gives none, which
+    /// `row_of_fields` must then look at.
+    pub(crate) fn row_of_simple(&self, line: &[u8]) -> Result<Option<Row>, NoMemory>
         requires absent { self.now.absent ≡ spec.missing self.now.table.now self.now.listed.now }
+        requires whole { self.now.whole ≡ true → spec.InOrder self.now.table.now self.now.listed.now }
         requires simple { list_all is_simple line.now ≡ true }
-        ensures { Gives result (spec.row_of_fields formats.Text self.now.table.now self.now.listed.now row (fields line.now)) }
+        ensures { IfOk result (λ found. IfSome found (λ row. (number : ℕ) → spec.row_of_fields self.now.format self.now.table.now self.now.listed.now number (fields_by (separator self.now.format) line.now) ≡ Ok row)) }
     {
-        let found = field_count(line);
-        if found != self.listed.len() {
-            return Err(CopyError::Columns {
-                row,
-                found: found as u64,
-            });
+        if self.absent.is_some() {
+            return Ok(None);
         }
-        let values = self.filled_of_line(row, line)?;
-        complete(row, self.absent, Row::shared(self.alloc, values)?)
+        match self.values_of_line(line)? {
+            Some(values) => Ok(Some(Row::shared(self.alloc, values)?)),
+            None => Ok(None),
+        }
     }
 }

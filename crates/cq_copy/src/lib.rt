@@ -2,6 +2,7 @@
 #![tactic(auto)]
 
 mod columns;
+mod csv_lines;
 mod data;
 mod error;
 mod fields;

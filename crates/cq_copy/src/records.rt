@@ -11,7 +11,9 @@ ghost use Rattle.cq_copy.specs.Rows as spec;
 ghost use Rattle.cq_copy.specs.Rows.{Gives};
 ghost use Rattle.cq_copy.specs.Records as of_records;
 ghost use Rattle.cq_copy.specs.Records.{Reads, Gave};
+ghost use Rattle.cq_copy.specs.Lines as of_lines;
 
+use crate::csv_lines::{behind_first, is_unquoted, rows_of_lines, unmarked};
 use crate::error::CopyError;
 use crate::format::Format;
 use crate::frame::Frame;
@@ -65,7 +67,7 @@ fn are_texts(fields: &[&[u8]]) -> bool
 
 /// The row of a record's fields, or its first refusal.
 #[tactic(auto, unfolding(crate::specs::Records::row_of_record))]
-fn row_of_texts(frame: &Frame<'_>, row: u64, fields: &[&[u8]]) -> Result<Row, CopyError>
+pub(crate) fn row_of_texts(frame: &Frame<'_>, row: u64, fields: &[&[u8]]) -> Result<Row, CopyError>
     requires format { frame.now.format ≡ formats.Csv }
     requires absent { frame.now.absent ≡ spec.missing frame.now.table.now frame.now.listed.now }
     ensures { Gives result (of_records.row_of_record frame.now.table.now frame.now.listed.now row (map (λ f. f.now) fields.now)) }
@@ -104,6 +106,38 @@ fn rows_left(frame: &Frame<'_>, reader: &mut Reader<&[u8]>, most: usize) -> Resu
     Ok(rows)
 }
 
+/// The rows of the records that a reader gives.
+fn rows_of_records(frame: &Frame<'_>, bytes: &[u8], header: bool) -> Result<Rows, CopyError>
+    requires format { frame.now.format ≡ formats.Csv }
+    requires absent { frame.now.absent ≡ spec.missing frame.now.table.now frame.now.listed.now }
+    ensures { Gives result (of_records.rows_of_csv bytes.now frame.now.table.now frame.now.listed.now header) }
+{
+    let mut reader = reader_of(frame.alloc, bytes);
+    if header {
+        let mut names = ByteRecord::new(frame.alloc);
+        if !read_next(&mut reader, &mut names)? {
+            return Ok(Rows::new(frame.alloc));
+        }
+        return rows_left(frame, &mut reader, bytes.len());
+    }
+    rows_left(frame, &mut reader, bytes.len() + 1)
+}
+
+/// The rows of the records of data without quotes.
+fn rows_of_unquoted(frame: &Frame<'_>, bytes: &[u8], header: bool) -> Result<Rows, CopyError>
+    requires format { frame.now.format ≡ formats.Csv }
+    requires absent { frame.now.absent ≡ spec.missing frame.now.table.now frame.now.listed.now }
+    requires unquoted { list_all of_lines.is_unquoted bytes.now ≡ true }
+    requires whole { frame.now.whole ≡ true → spec.InOrder frame.now.table.now frame.now.listed.now }
+    ensures { Gives result (of_records.rows_of_csv bytes.now frame.now.table.now frame.now.listed.now header) }
+{
+    let data = unmarked(bytes);
+    if header {
+        return rows_of_lines(frame, behind_first(data));
+    }
+    rows_of_lines(frame, data)
+}
+
 /// The rows of data in CSV, a record each, whose fields stand for the listed columns in their order (PostgreSQL, `COPY`, "CSV Format",
 /// with `FORCE_NULL` on every column). The other columns are NULL. `columns` are places from 0. With a header the first record is
 /// passed over.
@@ -119,13 +153,8 @@ pub fn rows_of_csv(
     ensures { Gives result (of_records.rows_of_csv bytes.now table.now columns.now header) }
 {
     let frame = Frame::new(alloc, Format::Csv, table, columns);
-    let mut reader = reader_of(alloc, bytes);
-    if header {
-        let mut names = ByteRecord::new(alloc);
-        if !read_next(&mut reader, &mut names)? {
-            return Ok(Rows::new(alloc));
-        }
-        return rows_left(&frame, &mut reader, bytes.len());
+    if is_unquoted(bytes) {
+        return rows_of_unquoted(&frame, bytes, header);
     }
-    rows_left(&frame, &mut reader, bytes.len() + 1)
+    rows_of_records(&frame, bytes, header)
 }

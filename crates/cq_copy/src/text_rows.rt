@@ -1,4 +1,4 @@
-ghost use Rattle.std.specs.Prelude.{◌≡◌};
+ghost use Rattle.std.specs.Prelude.{◌≡◌, true};
 ghost use Rattle.cq_copy.specs.declared.format.Format.TheVariants as formats;
 ghost use Rattle.cq_copy.specs.Rows as spec;
 ghost use Rattle.cq_copy.specs.Rows.{Gives};
@@ -17,15 +17,18 @@ use std::alloc::Global;
 fn row_of_line(frame: &Frame<'_>, row: u64, line: &[u8]) -> Result<Row, CopyError>
     requires format { frame.now.format ≡ formats.Text }
     requires absent { frame.now.absent ≡ spec.missing frame.now.table.now frame.now.listed.now }
+    requires whole { frame.now.whole ≡ true → spec.InOrder frame.now.table.now frame.now.listed.now }
     ensures { Gives result (spec.row_of_line frame.now.table.now frame.now.listed.now row line.now) }
 {
     if is_simple(line) {
-        return frame.row_of_simple(row, line);
+        if let Some(row) = frame.row_of_simple(line)? {
+            return Ok(row);
+        }
     }
     if !is_text(line) {
         return Err(CopyError::Encoding { row });
     }
-    let fields = fields_of(frame.alloc, line)?;
+    let fields = fields_of(frame.alloc, b'\t', line)?;
     frame.row_of_fields(row, fields.as_slice())
 }
 

@@ -1,7 +1,7 @@
-ghost use Rattle.std.specs.Prelude.{◌≡◌, ◌<◌, ◌≤◌, ◌∷◌, length, map, drop, true, None, IfOk, MatchOption, IfSome, Some, option_map, vec_items};
+ghost use Rattle.std.specs.Prelude.{◌≡◌, ◌==◌, ◌<◌, ◌≤◌, ◌∷◌, length, map, drop, true, None, IfOk, MatchOption, IfSome, Some, option_map, vec_items};
 ghost use Rattle.std.specs.List.{list_all, position_or_len};
 ghost use Rattle.cq_copy.specs.Texts as spec;
-ghost use Rattle.cq_copy.specs.Texts.{is_newline, is_tab, is_simple, lines, fields, text_of, before, stands};
+ghost use Rattle.cq_copy.specs.Texts.{is_newline, is_simple, lines, fields_by, fields_left, text_of, before, stands};
 
 use cq_value::NoMemory;
 use memchr::memchr;
@@ -32,43 +32,31 @@ pub(crate) fn first_line(bytes: &[u8]) -> (&[u8], &[u8])
 }
 
 /// The fields of a line.
-pub(crate) fn fields_of(alloc: Global, line: &[u8]) -> Result<Vec<&[u8]>, AllocError>
-    ensures { IfOk result (λ v. map (λ f. f.now) v.items ≡ fields line.now) }
+pub(crate) fn fields_of(alloc: Global, separator: u8, line: &[u8]) -> Result<Vec<&[u8]>, AllocError>
+    ensures { IfOk result (λ v. map (λ f. f.now) v.items ≡ fields_by separator line.now) }
 {
-    line.split(|byte| *byte == b'\t').collect(alloc)
-}
-
-/// How many fields a line has.
-pub(crate) fn field_count(line: &[u8]) -> usize
-    ensures { result ≡ length (fields line.now) }
-{
-    let mut tabs = 0usize;
-    for byte in line {
-        tabs = tabs.wrapping_add(usize::from(*byte == b'\t'));
-    }
-    tabs + 1
+    line.split(|byte| *byte == separator).collect(alloc)
 }
 
 /// How many bytes the first field has.
-fn field_len(line: &[u8]) -> usize
-    ensures value { result ≡ position_or_len is_tab line.now }
+fn field_len(separator: u8, line: &[u8]) -> usize
+    ensures value { result ≡ position_or_len (λ b. b == separator) line.now }
     ensures within { result ≤ length line.now }
 {
-    line.iter().take_while(|byte| **byte != b'\t').count()
+    line.iter().take_while(|byte| **byte != separator).count()
 }
 
-/// The first field of a line, and the bytes behind its tab, or none.
-pub(crate) fn first_field(line: &[u8]) -> (&[u8], &[u8])
-    ensures field { fields line.now ≡ result.0.now ∷ drop 1 (fields line.now) }
-    ensures more { 1 < length (fields line.now) → drop 1 (fields line.now) ≡ fields result.1.now }
+/// The first field of a line, and what stands behind its separator, if it has one.
+pub(crate) fn first_field(separator: u8, line: &[u8]) -> (&[u8], Option<&[u8]>)
+    ensures fields { fields_by separator line.now ≡ result.0.now ∷ fields_left separator (option_map (λ more. more.now) result.1) }
     ensures simple { list_all is_simple line.now ≡ true → list_all is_simple result.0.now ≡ true }
-    ensures simple_more { list_all is_simple line.now ≡ true → list_all is_simple result.1.now ≡ true }
+    ensures simple_more { list_all is_simple line.now ≡ true → IfSome result.1 (λ more. list_all is_simple more.now ≡ true) }
 {
-    let len = field_len(line);
+    let len = field_len(separator, line);
     if len == line.len() {
-        return (line, &[]);
+        return (line, None);
     }
-    (&line[..len], &line[len + 1..])
+    (&line[..len], Some(&line[len + 1..]))
 }
 
 /// Whether a line is in ASCII and each of its bytes stands for itself.

@@ -64,18 +64,8 @@ fn plain_number(text: &[u8]) -> Option<u64>
 }
 
 /// The number of a text of one digit or more with spaces alone behind them, or the greatest u64 where it is more.
-fn magnitude(text: &[u8]) -> Option<u64>
-    ensures { result ≡ option_map (λ n. min n (2 ^ 64 - 1)) (spec.magnitude text.now) }
-{
-    match plain_number(text) {
-        Some(number) => Some(number),
-        None => spaced_magnitude(text),
-    }
-}
-
-/// As `magnitude`, of any text.
 #[tactic(auto, unfolding(crate::specs::Values::magnitude))]
-fn spaced_magnitude(text: &[u8]) -> Option<u64>
+fn magnitude(text: &[u8]) -> Option<u64>
     ensures { result ≡ option_map (λ n. min n (2 ^ 64 - 1)) (spec.magnitude text.now) }
 {
     let digits = digits_len(text);
@@ -130,8 +120,19 @@ fn within(limit: u64, x: i128) -> Option<Value>
     }
 }
 
-/// The number of a text, where it is one and lies in the range from -limit to limit - 1.
-fn number_within(limit: u64, text: &[u8]) -> Option<Value>
+/// The number of a text of a sign or none and digits, where it lies between -limit and limit.
+fn plain_within(limit: u64, text: &[u8]) -> Option<Value>
+    requires { limit ≤ 2 ^ 63 }
+    ensures { IfSome result (λ v. spec.within limit (spec.number text.now) ≡ Some v) }
+{
+    match plain_number(unsigned(text)) {
+        Some(n) if n < limit => Some(Value::Int(with_sign(is_negative(text), n))),
+        _ => None,
+    }
+}
+
+/// As `number_within`, of any text.
+fn spaced_within(limit: u64, text: &[u8]) -> Option<Value>
     requires { limit ≤ 2 ^ 63 }
     ensures { result ≡ spec.within limit (spec.number text.now) }
 {
@@ -139,6 +140,17 @@ fn number_within(limit: u64, text: &[u8]) -> Option<Value>
     match magnitude(unsigned(text)) {
         Some(n) => within(limit, with_sign(is_negative(text), n)),
         None => None,
+    }
+}
+
+/// The number of a text, where it is one and lies in the range from -limit to limit - 1.
+fn number_within(limit: u64, text: &[u8]) -> Option<Value>
+    requires { limit ≤ 2 ^ 63 }
+    ensures { result ≡ spec.within limit (spec.number text.now) }
+{
+    match plain_within(limit, text) {
+        Some(value) => Some(value),
+        None => spaced_within(limit, text),
     }
 }
 
@@ -187,13 +199,15 @@ fn ascii_value(alloc: Global, bytes: &[u8]) -> Result<Value, NoMemory>
     Ok(Value::Text(Text::of(alloc, text)?))
 }
 
-/// As `read_value`, of a text in ASCII.
+/// The value of a text in ASCII, unless it has none or is a number with spaces, or the least of its type.
+#[tactic(auto, unfolding(crate::specs::Values::value_in))]
 pub(crate) fn read_ascii(alloc: Global, kind: Kind, text: &[u8]) -> Result<Option<Value>, NoMemory>
     requires { list_all is_ascii text.now ≡ true }
-    ensures { IfOk result (λ v. v ≡ value_in kind text.now) }
+    ensures { IfOk result (λ found. IfSome found (λ v. value_in kind text.now ≡ Some v)) }
 {
     match kind {
-        Kind::Bigint | Kind::Integer => read_value(alloc, kind, text),
+        Kind::Bigint => Ok(plain_within(9_223_372_036_854_775_808, text)),
+        Kind::Integer => Ok(plain_within(2_147_483_648, text)),
         Kind::Text => Ok(Some(ascii_value(alloc, text)?)),
     }
 }
