@@ -13,7 +13,7 @@ use Rattle.cq_task_laws.specs.Merging.{merging_rows, joined, as_table}
 use Rattle.cq_task_laws.proofs.GatherRows.{whole_rows}
 use Rattle.cq_task_laws.proofs.SafeMerge.{at_has}
 
-merged : (d : Bool) (q : Query) (rs : Results) (rows : List Row) → ((r : Row) → Has rows r → length r ≡ length (out-Query q).items) →
+pub merged : (d : Bool) (q : Query) (rs : Results) (rows : List Row) → ((r : Row) → Has rows r → length r ≡ length (out-Query q).items) →
     AnswersWith (merging_rows d q) (as_table rows) rs (let p = out-Query q in cut p.shown p.limit p.offset (sorted (keys_cmp p.order) (distinct_if d rows)))
 unfolding out-Query roll-Query denote.Hole.Carrier.out denote.Hole.Carrier.roll
 merged d (Query' cs ctes ss subs from filter_ grouped keys aggs having items shown distinct order limit offset names) rs rows width =

@@ -9,7 +9,8 @@ use Rattle.std.proofs.lemmas.List.Sorted.{sorted_far}
 use Rattle.std.proofs.lemmas.Option.{get_or_from_slice_get}
 use Rattle.cq_meaning.specs.Values.{Row}
 use Rattle.cq_tree.specs.declared.query.Key.{Key}
-use Rattle.cq_meaning.specs.Sorting.{placed, sorted, keys_cmp, limited}
+use Rattle.cq_meaning.specs.Sorting.{placed, sorted, sorted_by, keys_cmp, limited}
+use Rattle.cq_queries.specs.Wanted.{put_before}
 
 module _ {X : Type 0} (lt : X → X → Bool) where
   take_behind : (n : ℕ) (y : X) (ys : List X) → take n (y ∷ take n ys) ≡ take n (y ∷ ys)
@@ -51,6 +52,27 @@ module _ {X : Type 0} (lt : X → X → Bool) where
     (λ k d low below. parted o x ys up k (length ys - 1) d (omega arith) (omega arith) (subst (λ y. lt y x ≡ true) (sym (get_or_from_slice_get ys (length ys - 1) last d is)) e)),
     (λ k d low below. absurd (omega arith)),
   )
+
+  end_stays : (x : X) (ys : List X) → take (length ys) (insert ys (length ys) x) ≡ ys
+  end_stays x [] = refl
+  end_stays x (y ∷ ys) = ap (λ us. y ∷ us) (end_stays x ys)
+
+  -- what all of enough elements are below isn't among the first
+  pub goes_behind : (n : ℕ) (x : X) (ys : List X) → IsPartitionPoint (λ y. lt y x ≡ true) (λ y. lt y x ≡ false) ys (length ys) → n ≡ length ys → take n (placed lt x ys) ≡ ys
+  goes_behind n x ys p e = rw (placed_at x ys (length ys) p (omega arith), e) (end_stays x ys)
+
+  put_first : (n : ℕ) (xs ys : List X) → take n (put_before lt xs (take n ys)) ≡ take n (put_before lt xs ys)
+  put_first n [] ys = take-take n n ys (omega arith)
+  put_first n (x ∷ xs) ys =
+      sym (placed_first n x (put_before lt xs (take n ys))) ∙ (ap (λ us. take n (placed lt x us)) (put_first n xs ys) ∙ placed_first n x (put_before lt xs ys))
+
+  put_sorted : (xs zs : List X) → put_before lt xs (sorted_by lt zs) ≡ sorted_by lt (xs ++ zs)
+  put_sorted [] zs = refl
+  put_sorted (x ∷ xs) zs = ap (placed lt x) (put_sorted xs zs)
+
+  -- the first of elements and of the first behind them are the first of all
+  pub top_sorted : (n : ℕ) (xs zs : List X) → take n (put_before lt xs (take n (sorted_by lt zs))) ≡ take n (sorted_by lt (xs ++ zs))
+  top_sorted n xs zs = put_first n xs (sorted_by lt zs) ∙ ap (take n) (put_sorted xs zs)
 
   pub first_up : (n : ℕ) (xs : List X) → IsSortedBy lt xs → IsSortedBy lt (take n xs)
   first_up n xs up k d low below =

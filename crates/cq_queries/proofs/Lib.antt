@@ -4,11 +4,13 @@ pub mod GroupPush
 pub mod JoinedLaws
 pub mod KeptLaws
 pub mod LentLaws
+pub mod MeaningLaws
 pub mod PairLaws
 pub mod PruneLaws
 pub mod StepLaws
 pub mod TallyLaws
 pub mod TalliedLaws
 pub mod TieLaws
+pub mod TopLaws
 pub mod TreeRows
 pub mod MemberLaws

@@ -9,4 +9,5 @@ pub mod Tallied
 pub mod Tallies
 pub mod Ties
 pub mod TreeLists
+pub mod Wanted
 pub mod Members

@@ -22,8 +22,10 @@ mod tables;
 mod tally;
 mod tallying;
 mod ties;
+mod wanted;
 
 pub use expression::{eval, test};
 pub use members::{Listed, Lookups};
-pub use query::{finish, run_query};
+pub use query::{cut_by, finish, run_query, run_wanted};
 pub use tables::Tables;
+pub use wanted::{Top, Wanted, top_count};

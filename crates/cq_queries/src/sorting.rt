@@ -8,13 +8,14 @@ ghost use Rattle.cq_meaning.specs.Sorting.{key_cmp, keys_cmp, placed, sorted, cu
 
 use crate::expression::cell;
 use crate::operand;
+use crate::wanted::{Top, top_rows};
 use cq_tree::Key;
 use cq_value::{Items, NoMemory, Row, Rows};
 use std::alloc::Global;
 use std::cmp::Ordering;
 
 /// Where more first rows than these are looked at, all rows are sorted, since a row that goes before so many others moves them all.
-const MOST_KEPT: u64 = 256;
+pub const MOST_KEPT: u64 = 256;
 
 fn compare_at(a: &Row, b: &Row, item: u32) -> Ordering
     ensures { result ≡ value_cmp (column a.now item) (column b.now item) }
@@ -77,7 +78,7 @@ fn place_of(keys: &[Key], rows: &[Row], row: &Row) -> usize
 }
 
 /// Puts a row before all that aren't below it, among the first rows in the order of the keys, and lets go of the last where that is one too many.
-fn put_among(keys: &[Key], first: &mut Vec<Row>, most: usize, row: Row) -> Result<(), NoMemory>
+pub fn put_among(keys: &[Key], first: &mut Vec<Row>, most: usize, row: Row) -> Result<(), NoMemory>
     requires sorted { IsSorted (keys_cmp keys.now) first.old.items }
     requires few { length first.old.items ≤ most }
     ensures { OnOk result (first.new.items ≡ take_first most (placed (λ x y. is_lt (keys_cmp keys.now x y)) row first.old.items)) }
@@ -95,20 +96,8 @@ fn put_among(keys: &[Key], first: &mut Vec<Row>, most: usize, row: Row) -> Resul
     }
 }
 
-/// The first so many rows in the order of the keys, those that tie in their old order.
-fn sort_first(alloc: Global, keys: &[Key], rows: Rows, most: u64) -> Result<Rows, NoMemory>
-    ensures { IfOk result (λ first. first ≡ take_first most (sorted (keys_cmp keys.now) rows)) }
-{
-    let mut rest = rows.into_vec();
-    let mut first = Vec::new(alloc);
-    while let Some(row) = rest.pop() {
-        put_among(keys, &mut first, most as usize, row)?;
-    }
-    Ok(Items::from_vec(first))
-}
-
 /// How many of the first rows are enough for OFFSET and LIMIT.
-fn enough_for(limit: Option<u64>, offset: u64) -> Option<u64>
+pub fn enough_for(limit: Option<u64>, offset: u64) -> Option<u64>
     ensures { IfSome result (λ most. (rows : List TheRow) → limited limit (drop_first offset (take_first most rows)) ≡ limited limit (drop_first offset rows)) }
 {
     offset.checked_add(limit?)
@@ -128,7 +117,10 @@ pub fn order_rows(
         return Ok(rows);
     }
     match enough_for(limit, offset) {
-        Some(most) if most <= MOST_KEPT && most < rows.len() => sort_first(alloc, keys, rows, most),
+        Some(most) if most <= MOST_KEPT && most < rows.len() => {
+            let behind = Rows::new(alloc);
+            top_rows(Top { keys, most, behind }, rows)
+        }
         _ => sort_rows(keys, rows),
     }
 }

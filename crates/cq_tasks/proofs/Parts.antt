@@ -36,3 +36,10 @@ module _ (beside : Tables) where
       in_list : (ds : List Tables) → list_any p (reads_by beside (ds ++ (own ∷ rest))) ≡ true
       in_list [] = ap (λ b. b || list_any p (reads_by beside rest)) h
       in_list (d ∷ ds) = either (p (beside ++ d)) (list_any p (reads_by beside (ds ++ (own ∷ rest)))) (in_list ds)
+
+  -- the same at a place
+  pub read_at : (P : Tables → Type 0) (parts : List Tables) (i : ℕ) (own : Tables) → i < length parts → own ≡ get_or parts i own → AllByRecursion P (reads_by beside parts) → P (beside ++ own)
+  read_at P parts i own below is all = read_there P parts (take i parts) (drop (suc i) parts) own (split_at parts i own below is) all
+
+  pub any_at : (p : Tables → Bool) (parts : List Tables) (i : ℕ) (own : Tables) → i < length parts → own ≡ get_or parts i own → p (beside ++ own) ≡ true → list_any p (reads_by beside parts) ≡ true
+  any_at p parts i own below is h = any_there p parts (take i parts) (drop (suc i) parts) own (split_at parts i own below is) h

@@ -1,16 +1,21 @@
-ghost use Rattle.std.specs.Prelude.{◌≡◌, ◌≤◌, ◌⊎◌, ◌++◌, map, length, take, drop, true, false, IfOk, OnOk, IfErr, MatchResult};
+ghost use Rattle.std.specs.Prelude.{◌≡◌, ◌≤◌, ◌⊎◌, List, ◌++◌, map, length, take, drop, true, false, IfOk, OnOk, IfErr, MatchResult};
 ghost use Rattle.std.specs.List.{list_any, AllByRecursion};
+ghost use Rattle.cq_tree.specs.declared.query.Query.{out-Query};
+ghost use Rattle.cq_tree.specs.declared.plan.Combine.TheVariants as kinds;
+ghost use Rattle.cq_meaning.specs.Values.{Row as TheRow};
+ghost use Rattle.cq_meaning.specs.Sorting.{keys_cmp, sorted, limited};
 ghost use Rattle.cq_meaning.specs.Limits.{is_large};
 ghost use Rattle.cq_meaning.specs.Queries.{meaning};
 ghost use Rattle.cq_meaning.specs.Safety.{IsSafeQuery};
 ghost use Rattle.cq_task_laws.specs.Partial.{partial as partial_of};
-ghost use Rattle.cq_task_laws.specs.Merging.{GathersTo, has_large_together};
+ghost use Rattle.cq_task_laws.specs.Merging.{joined, GathersTo, has_large_together};
 ghost use Rattle.cq_task_laws.specs.Counting.{CanMerge};
+ghost use Rattle.cq_queries.specs.Wanted.{wanted_of, IsReady};
 ghost use Rattle.cq_tasks.specs.Execution.{reads_by, task_rows, has_large_task};
 
 use cq_combine::{RowsList, combine, partial};
-use cq_queries::{Tables, run_query};
-use cq_tree::{Combine, Query, QueryError};
+use cq_queries::{Tables, Top, Wanted, cut_by, run_wanted, top_count};
+use cq_tree::{Combine, Key, Query, QueryError};
 use cq_value::{Items, NoMemory, Results, Rows};
 use std::alloc::Global;
 use std::hash::RandomState;
@@ -54,24 +59,26 @@ fn split_off(alloc: Global, tables: &mut Tables, count: u64) -> Result<Tables, N
     }
 }
 
-/// The rows of a task over the tables beside it and its own.
+/// What is wanted of the rows of a task over the tables beside it and its own.
 fn run_task(
     alloc: Global,
     hash: RandomState,
     task: &Query,
+    want: Wanted<'_>,
     beside: &mut Tables,
     own: &mut Tables,
     results: &Results,
 ) -> Result<Rows, QueryError>
-    requires { IsSafeQuery task.now (beside.old ++ own.old) results.now }
-    ensures rows { IfOk result (λ rows. rows ≡ meaning task.now (beside.old ++ own.old) results.now) }
+    requires ready { IsReady want }
+    requires safe { IsSafeQuery task.now (beside.old ++ own.old) results.now }
+    ensures rows { IfOk result (λ rows. rows ≡ wanted_of want.entry (meaning task.now (beside.old ++ own.old) results.now)) }
     ensures fits { OnOk result (is_large task.now (beside.old ++ own.old) results.now ≡ false) }
     ensures lent { OnOk result ((beside.new ≡ beside.old) × (own.new ≡ own.old)) }
     ensures err { IfErr result (λ e. e ≡ QueryError.Rows → is_large task.now (beside.old ++ own.old) results.now ≡ true) }
 {
     let count = beside.len();
     memory(join(beside, mem::replace(own, Tables::new(alloc))))?;
-    let rows = run_query(alloc, hash, task, beside, results)?;
+    let rows = run_wanted(alloc, hash, task, want, beside, results)?;
     *own = memory(split_off(alloc, beside, count))?;
     Ok(rows)
 }
@@ -94,11 +101,89 @@ fn run_tasks(
     let mut all = RowsList::new(alloc);
     for part in mem::replace(parts, Parts::new(alloc)).into_vec() {
         let mut own = part;
-        let rows = run_task(alloc, hash, task, beside, &mut own, results)?;
+        let rows = run_task(alloc, hash, task, Wanted::All, beside, &mut own, results)?;
         memory(all.put(rows))?;
         memory(parts.put(own))?;
     }
     Ok(all)
+}
+
+/// The first rows in an order of those of all tasks together. The tasks run from the last to the first, and the first rows of those behind a task
+/// are put behind its own. Each one's tables are put back when it is done.
+fn top_of_tasks(
+    alloc: Global,
+    hash: RandomState,
+    task: &Query,
+    keys: &[Key],
+    most: u64,
+    beside: &mut Tables,
+    parts: &mut Parts,
+    results: &Results,
+) -> Result<Rows, QueryError>
+    requires { AllByRecursion (λ db. IsSafeQuery task.now db results.now) (reads_by beside.old parts.old) }
+    ensures rows { IfOk result (λ rows. rows ≡ take most (sorted (keys_cmp keys.now) (joined (map (λ db. meaning task.now db results.now) (reads_by beside.old parts.old))))) }
+    ensures fits { OnOk result (list_any (λ db. is_large task.now db results.now) (reads_by beside.old parts.old) ≡ false) }
+    ensures lent { OnOk result ((beside.new ≡ beside.old) × (parts.new ≡ parts.old)) }
+    ensures err { IfErr result (λ e. e ≡ QueryError.Rows → list_any (λ db. is_large task.now db results.now) (reads_by beside.old parts.old) ≡ true) }
+{
+    let mut all = mem::replace(parts, Parts::new(alloc)).into_vec();
+    let mut behind = Rows::new(alloc);
+    let mut at = all.len();
+    'part: while at > 0 {
+        at -= 1;
+        let want = Wanted::Top(Top { keys, most, behind });
+        behind = run_task(alloc, hash, task, want, beside, &mut all[at], results)?;
+    }
+    *parts = Parts::from_vec(all);
+    Ok(behind)
+}
+
+/// The rows of a block whose tasks' rows are joined, where so many of the first rows in its order are enough for its OFFSET and LIMIT. Of the tasks'
+/// rows no more are made.
+fn run_top(
+    alloc: Global,
+    hash: RandomState,
+    query: &Query,
+    most: u64,
+    beside: &mut Tables,
+    parts: &mut Parts,
+    results: &Results,
+) -> Result<Rows, QueryError>
+    requires enough { (rows : List TheRow) → let p = out-Query query.now in limited p.limit (drop p.offset (take most rows)) ≡ limited p.limit (drop p.offset rows) }
+    requires tasks { AllByRecursion (λ db. IsSafeQuery (partial_of kinds.RowsOnly query.now) db results.now) (reads_by beside.old parts.old) }
+    ensures gathers { IfOk result (λ rows. GathersTo kinds.RowsOnly query.now results.now (task_rows kinds.RowsOnly query.now results.now (reads_by beside.old parts.old)) rows) }
+    ensures fits { OnOk result (has_large_task kinds.RowsOnly query.now results.now (reads_by beside.old parts.old) ≡ false) }
+    ensures err { IfErr result (λ e. e ≡ QueryError.Rows → has_large_task kinds.RowsOnly query.now results.now (reads_by beside.old parts.old) ≡ true) }
+    ensures lent { OnOk result ((beside.new ≡ beside.old) × (parts.new ≡ parts.old)) }
+{
+    let task = memory(partial(alloc, query, Combine::RowsOnly))?;
+    let keys = query.order.as_slice();
+    let first = top_of_tasks(alloc, hash, &task, keys, most, beside, parts, results);
+    drop(task);
+    memory(cut_by(alloc, query, first?))
+}
+
+/// The rows of a block, made of all rows of its tasks.
+fn run_all(
+    alloc: Global,
+    hash: RandomState,
+    query: &Query,
+    kind: Combine,
+    beside: &mut Tables,
+    parts: &mut Parts,
+    results: &Results,
+) -> Result<Rows, QueryError>
+    requires tasks { AllByRecursion (λ db. IsSafeQuery (partial_of kind query.now) db results.now) (reads_by beside.old parts.old) }
+    requires merge { has_large_task kind query.now results.now (reads_by beside.old parts.old) ≡ false → CanMerge kind query.now results.now (task_rows kind query.now results.now (reads_by beside.old parts.old)) }
+    ensures gathers { IfOk result (λ rows. GathersTo kind query.now results.now (task_rows kind query.now results.now (reads_by beside.old parts.old)) rows) }
+    ensures fits { IfOk result (λ rows. (has_large_task kind query.now results.now (reads_by beside.old parts.old) ≡ false) × (has_large_together kind query.now results.now (task_rows kind query.now results.now (reads_by beside.old parts.old)) ≡ false)) }
+    ensures err { IfErr result (λ e. e ≡ QueryError.Rows → (has_large_task kind query.now results.now (reads_by beside.old parts.old) ≡ true) ⊎ (has_large_together kind query.now results.now (task_rows kind query.now results.now (reads_by beside.old parts.old)) ≡ true)) }
+    ensures lent { OnOk result ((beside.new ≡ beside.old) × (parts.new ≡ parts.old)) }
+{
+    let task = memory(partial(alloc, query, kind))?;
+    let rows = run_tasks(alloc, hash, &task, beside, parts, results);
+    drop(task);
+    combine(alloc, hash, query, kind, rows?, results)
 }
 
 /// The rows of a block, made of those of its tasks, each of which computes its part of the block over its own tables and those beside all. The tasks
@@ -123,8 +208,10 @@ pub fn run_by_tasks(
     ensures err { IfErr result (λ e. e ≡ QueryError.Rows → (has_large_task kind query.now results.now (reads_by beside.old parts.old) ≡ true) ⊎ (has_large_together kind query.now results.now (task_rows kind query.now results.now (reads_by beside.old parts.old)) ≡ true)) }
     ensures lent { OnOk result ((beside.new ≡ beside.old) × (parts.new ≡ parts.old)) }
 {
-    let task = memory(partial(alloc, query, kind))?;
-    let rows = run_tasks(alloc, hash, &task, beside, parts, results);
-    drop(task);
-    combine(alloc, hash, query, kind, rows?, results)
+    if let Combine::RowsOnly = kind {
+        if let Some(most) = top_count(query) {
+            return run_top(alloc, hash, query, most, beside, parts, results);
+        }
+    }
+    run_all(alloc, hash, query, kind, beside, parts, results)
 }

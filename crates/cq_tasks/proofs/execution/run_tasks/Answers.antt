@@ -10,8 +10,8 @@ use Rattle.cq_tasks.specs.Execution.{reads_by}
 use Rattle.cq_tasks.proofs.Parts.{as_mapped, split, read_there, any_there}
 use Rattle.cq_tasks.proofs.execution.run_tasks.Goals as goal
 
-pub run_task-requires : goal.run_task-requires
-run_task-requires c =
+pub run_task-requires-clause-safe : goal.run_task-requires-clause-safe
+run_task-requires-clause-safe c =
     let all = c.args.parts.now in
     let done = c.loop-part.yielded in
     let own = c.in-Some.part in

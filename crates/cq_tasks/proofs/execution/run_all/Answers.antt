@@ -8,7 +8,7 @@ use Rattle.cq_task_laws.specs.Partial.{partial}
 use Rattle.cq_task_laws.specs.Merging.{GathersTo, has_large_together}
 use Rattle.cq_task_laws.specs.Counting.{CanMerge}
 use Rattle.cq_tasks.specs.Execution.{reads_by, task_rows, has_large_task}
-use Rattle.cq_tasks.proofs.execution.run_by_tasks.Goals as goal
+use Rattle.cq_tasks.proofs.execution.run_all.Goals as goal
 
 pub returns-in_err-rows-clause-err : goal.returns-in_err-rows-clause-err
 returns-in_err-rows-clause-err c =
