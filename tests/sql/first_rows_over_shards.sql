@@ -1,0 +1,28 @@
+-- The first rows in an order, over four shards: few and many, behind an offset, of a join, of groups and of distinct rows.
+SET citus.shard_count TO 4;
+CREATE TABLE scores (player bigint, round bigint, points integer, PRIMARY KEY (player, round));
+SELECT create_distributed_table('scores', 'player');
+CREATE TABLE players (player bigint, team bigint, PRIMARY KEY (player));
+SELECT create_distributed_table('players', 'player', colocate_with => 'scores');
+CREATE TABLE teams (team bigint, name text);
+SELECT create_reference_table('teams');
+INSERT INTO teams VALUES (1, 'red'), (2, 'blue'), (3, NULL);
+INSERT INTO players VALUES (1, 1), (2, 2), (3, 3), (4, 1), (5, 2), (6, 4);
+INSERT INTO scores VALUES (1, 1, 50), (1, 2, NULL), (2, 1, 70), (2, 2, 50), (3, 1, 20), (3, 2, 90), (4, 1, 90), (4, 2, 10), (5, 1, NULL), (5, 2, 30), (6, 1, 60), (6, 2, 40);
+SELECT player, round, points FROM scores ORDER BY points DESC, player, round LIMIT 4;
+SELECT player, round FROM scores ORDER BY points, player DESC, round LIMIT 3 OFFSET 2;
+SELECT player, round FROM scores WHERE points IS NOT NULL ORDER BY points DESC, player LIMIT 1;
+SELECT player, round FROM scores ORDER BY player, round LIMIT 0;
+SELECT player, round FROM scores ORDER BY player, round LIMIT 5 OFFSET 11;
+SELECT player, round FROM scores ORDER BY player, round LIMIT 5 OFFSET 12;
+SELECT player, round FROM scores ORDER BY player DESC, round DESC LIMIT 300;
+SELECT s.player, t.name, s.points FROM scores s JOIN players p ON s.player = p.player JOIN teams t ON p.team = t.team ORDER BY s.points DESC, s.player, s.round LIMIT 5;
+SELECT s.player, s.round, p.team FROM scores s LEFT JOIN players p ON s.player = p.player AND p.team < 3 ORDER BY p.team DESC, s.points, s.player LIMIT 6;
+SELECT player, sum(points) AS total FROM scores GROUP BY player ORDER BY total DESC, player LIMIT 2;
+SELECT points % 20 AS rest, count(*) FROM scores GROUP BY points % 20 ORDER BY rest DESC LIMIT 2 OFFSET 1;
+SELECT DISTINCT points FROM scores ORDER BY points DESC LIMIT 4;
+SELECT DISTINCT player FROM scores ORDER BY player LIMIT 2 OFFSET 3;
+WITH best AS (SELECT player, points FROM scores ORDER BY points DESC, player LIMIT 3) SELECT player FROM best ORDER BY player LIMIT 2;
+SELECT round FROM scores WHERE player = 3 ORDER BY points DESC LIMIT 1;
+SELECT round FROM scores WHERE player = 3 ORDER BY points + round LIMIT 1 OFFSET 1;
+SELECT player FROM scores ORDER BY points DESC, player LIMIT 2 OFFSET 9223372036854775807;
