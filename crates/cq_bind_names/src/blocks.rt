@@ -78,7 +78,7 @@ fn item_of(alloc: Global, s: &Shown) -> Result<Expr, NoMemory>
 fn items_of(alloc: Global, outputs: &[Shown]) -> Result<Exprs, NoMemory>
     ensures { IfOk result (λ all. all ≡ map item_in outputs.now) }
 {
-    let mut all = Exprs::new(alloc);
+    let mut all = Exprs::with_room(alloc, outputs.len() as u64)?;
     for s in outputs {
         all.put(item_of(alloc, s)?)?;
     }

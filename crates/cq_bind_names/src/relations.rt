@@ -65,7 +65,7 @@ fn source_of_column(alloc: Global, relation: &Text, column: &Column) -> Result<S
 pub fn table_sources(alloc: Global, relation: &Text, table: &TableInfo) -> Result<Sources, NoMemory>
     ensures { IfOk result (λ s. s ≡ sources_of_table relation.now table.now) }
 {
-    let mut sources = Sources::new(alloc);
+    let mut sources = Sources::with_room(alloc, table.columns.len())?;
     for column in table.columns.as_slice() {
         sources.put(source_of_column(alloc, relation, column)?)?;
     }
@@ -98,7 +98,7 @@ fn output_sources(alloc: Global, relation: &Text, outputs: &[Output]) -> Result<
 fn one_name(alloc: Global, name: &Text) -> Result<Names, NoMemory>
     ensures { IfOk result (λ all. all ≡ name.now ∷ []) }
 {
-    let mut all = Names::new(alloc);
+    let mut all = Names::with_room(alloc, 1)?;
     all.put(name.copy(alloc)?)?;
     Ok(all)
 }

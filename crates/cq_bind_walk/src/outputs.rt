@@ -22,7 +22,7 @@ pub fn count(outputs: &ShownList) -> Result<u32, NoMemory>
 pub fn names_of(alloc: Global, outputs: &[Shown]) -> Result<Names, NoMemory>
     ensures { IfOk result (λ names. names ≡ map (λ s. s.title) outputs.now) }
 {
-    let mut names = Names::new(alloc);
+    let mut names = Names::with_room(alloc, outputs.len() as u64)?;
     for shown in outputs {
         names.put(shown.title.copy(alloc)?)?;
     }
@@ -44,7 +44,7 @@ fn output_of(shown: Shown) -> Output
 pub fn outputs_of(alloc: Global, outputs: ShownList) -> Result<Outputs, NoMemory>
     ensures { IfOk result (λ all. all ≡ map output_in outputs) }
 {
-    let mut all = Outputs::new(alloc);
+    let mut all = Outputs::with_room(alloc, outputs.len())?;
     for shown in outputs.into_vec() {
         all.put(output_of(shown))?;
     }
