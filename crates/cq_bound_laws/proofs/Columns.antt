@@ -1,5 +1,5 @@
--- Between two statements of a serial script each distribution column is a column of its table.
-use Rattle.std.proofs.Common.{◌≡◌, ◌<◌, zero, suc, ℕ, Bool, false, List, [], ◌∷◌, ◌++◌, length, refl, sym, ap, ◌∙◌, subst, arith, Some, None, Option, slice_get, position}
+-- Between two phases of a script each distribution column is a column of its table.
+use Rattle.std.proofs.Common.{◌≡◌, ◌<◌, zero, suc, ℕ, Bool, false, List, [], ◌∷◌, ◌++◌, length, refl, sym, ap, ◌∙◌, subst, arith, Some, None, Option, slice_get, position, append-nil}
 use Rattle.std.specs.Prelude.{option_and_then, unwrap_or, is_none}
 use Rattle.std.proofs.lemmas.List.{length-map}
 use Rattle.std.proofs.lemmas.List.Quantifiers.{position-Some}
@@ -27,8 +27,11 @@ use Rattle.cq_planning_laws.specs.Laid.{IsColumnOf}
 use Rattle.cq_journal.specs.Records.{Journal}
 use Rattle.cq_history.specs.Run.{Run, Rules, Environment, first, after, environment_from}
 use Rattle.cq_history.specs.Standing.{Yields, Runs, distribution_fault}
-use Rattle.cq_history.specs.Deeds.{Deed, Does, in_deed}
-use Rattle.cq_history.specs.Log.{who_of, AllDoneFrom}
+use Rattle.cq_history.specs.Deeds.{Deed, Phase, Does, in_deed}
+use Rattle.cq_history.specs.Phases.{who_of, environment_at, AreInScriptOrder, IsAllowed}
+use Rattle.cq_history.specs.Log.{IsDone}
+use Rattle.cq_history.proofs.Catalogs.{catalog_before}
+use Rattle.std.specs.List.{AllByRecursion}
 use Rattle.cq_history.proofs.Moving.{failed_keeps_catalog}
 use Rattle.cq_bound_laws.specs.Laws.{HasColumns, ColumnsStand}
 use Rattle.cq_history.proofs.Given.{IsGiven, given_yields, given_runs, none_before}
@@ -92,16 +95,16 @@ module _ (c : Contents) (columns : HasColumns c) where
 
 -- ---- statements
 
-module _ (rules : Rules) (run : Run) (e : Environment) (who : Who) (d : Deed) (columns : HasColumns e.catalog) where
-  runs : (s : Statement) (a : Answer) → IsGiven a → Does rules run e who d (Some s) a → Runs (rules.touched e.catalog s) run e (in_deed e.catalog d) s a
-  runs s a g h = given_runs (rules.refusal e s) (rules.touched e.catalog s) run e (in_deed e.catalog d) s a g h.stands
+module _ (rules : Rules) (run : Run) (e : Environment) (p : Phase) (who : Who) (d : Deed) (columns : HasColumns e.catalog) where
+  runs : (s : Statement) (a : Answer) → IsGiven a → Does rules run e p who d (Some s) a → Runs (rules.touched e.catalog s) run e (in_deed p e.catalog d) s a
+  runs s a g h = given_runs (rules.refusal e s) (rules.touched e.catalog s) run e (in_deed p e.catalog d) s a g h.stands
 
   after_distribution : (table column : List ℕ) (count : Option ℕ) (beside : With) (done : Answer → Type 0) (a : Answer) → IsGiven a → (nodes : ℕ → ℕ) → Yields (distribution_fault run e.catalog e.retired nodes e.settings.shard_count table column count beside) done a →
       HasColumns (distributed_by e.catalog (decision_of e.catalog table column count beside e.settings.shard_count))
   after_distribution table column count beside done a g nodes y =
       distributed e.catalog columns table column count beside e.settings.shard_count (none_before (distribution_refusal e.catalog table column count beside e.settings.shard_count) _ (given_yields _ done a g y))
 
-  after_tag : (s : Statement) (t : Tag) → Does rules run e who d (Some s) (answer.Tag t) → HasColumns (after e (Some s) (answer.Tag t)).catalog
+  after_tag : (s : Statement) (t : Tag) → Does rules run e p who d (Some s) (answer.Tag t) → HasColumns (after e (Some s) (answer.Tag t)).catalog
   after_tag (statement.CreateTable name cs key) t h = created e.catalog columns name cs key
   after_tag (statement.Distribute table column count beside) t h = let r = runs (statement.Distribute table column count beside) (answer.Tag t) tt h in after_distribution table column count beside _ (answer.Tag t) tt r.1 r.3
   after_tag (statement.Reference table) t h = referenced e.catalog columns table
@@ -114,7 +117,7 @@ module _ (rules : Rules) (run : Run) (e : Environment) (who : Who) (d : Deed) (c
   after_tag (statement.Rebalance by_size) t h = columns
   after_tag (statement.RebalancePlan by_size) t h = columns
 
-  after_table : (s : Statement) (names : _) (rows : _) → Does rules run e who d (Some s) (answer.Table names rows) → HasColumns (after e (Some s) (answer.Table names rows)).catalog
+  after_table : (s : Statement) (names : _) (rows : _) → Does rules run e p who d (Some s) (answer.Table names rows) → HasColumns (after e (Some s) (answer.Table names rows)).catalog
   after_table (statement.CreateTable name cs key) names rows h = created e.catalog columns name cs key
   after_table (statement.Distribute table column count beside) names rows h =
       let r = runs (statement.Distribute table column count beside) (answer.Table names rows) tt h in after_distribution table column count beside _ (answer.Table names rows) tt r.1 r.3
@@ -128,18 +131,30 @@ module _ (rules : Rules) (run : Run) (e : Environment) (who : Who) (d : Deed) (c
   after_table (statement.Rebalance by_size) names rows h = columns
   after_table (statement.RebalancePlan by_size) names rows h = columns
 
-  after_any : (bound : Option Statement) (a : Answer) → Does rules run e who d bound a → HasColumns (after e bound a).catalog
+  after_any : (bound : Option Statement) (a : Answer) → Does rules run e p who d bound a → HasColumns (after e bound a).catalog
   after_any None (answer.Tag t) h = columns
   after_any None (answer.Table names rows) h = columns
   after_any bound (answer.Failed f) h = subst HasColumns (sym (failed_keeps_catalog e bound f)) columns
   after_any (Some s) (answer.Tag t) h = after_tag s t h
   after_any (Some s) (answer.Table names rows) h = after_table s names rows h
 
-after_all : (rules : Rules) (run : Run) (e : Environment) (last : Contents) (journals : List Journal) (answers : List Answered) → AllDoneFrom rules run e last journals answers → HasColumns e.catalog → HasColumns (environment_from e answers).catalog
-after_all rules run e last journals [] done h = h
-after_all rules run e last journals (a ∷ more) done h =
-    after_all rules run (after e a.bound a.answer) last journals more done.2 (after_any rules run e (who_of a) done.0.0 h a.bound a.answer done.0.1)
+-- a list with its next item in front
+pushed : (front : List Answered) (a : Answered) (more : List Answered) → (front ++ a ∷ []) ++ more ≡ front ++ a ∷ more
+pushed [] a more = refl
+pushed (x ∷ front) a more = ap (λ (v : List Answered). x ∷ v) (pushed front a more)
+
+-- answer by answer, behind those before
+after_all : (rules : Rules) (run : Run) (all : List Answered) (last : Contents) (journals : List Journal) → AreInScriptOrder all → AllByRecursion IsAllowed all → (front rest : List Answered) → all ≡ front ++ rest →
+    AllByRecursion (IsDone rules run all last journals) rest → HasColumns (environment_from (first run) front).catalog → HasColumns (environment_from (first run) all).catalog
+after_all rules run all last journals script allowed front [] is done h = subst (λ (v : List Answered). HasColumns (environment_from (first run) v).catalog) (sym (is ∙ append-nil front)) h
+after_all rules run all last journals script allowed front (a ∷ more) is done h =
+    let so = subst (λ (v : List Answered). ((environment_at run v a.phase).catalog ≡ (environment_from (first run) front).catalog)
+    × ((after (environment_at run v a.phase) a.bound a.answer).catalog ≡ (environment_from (first run) (front ++ a ∷ [])).catalog)) (sym is)
+    (catalog_before run front a more (subst AreInScriptOrder is script) (subst (AllByRecursion IsAllowed) is allowed)) in
+    let here : HasColumns (environment_at run all a.phase).catalog = subst HasColumns (sym so.0) h in
+    after_all rules run all last journals script allowed (front ++ a ∷ []) more (is ∙ sym (pushed front a more)) done.1
+    (subst HasColumns so.1 (after_any rules run (environment_at run all a.phase) done.0.phase (who_of a) done.0.deed here a.bound a.answer done.0.does))
 
 pub columns_stand : ColumnsStand
 columns_stand rules run e answers journals c =
-    subst (λ (v : Environment). HasColumns v.catalog) (sym c.environment) (after_all rules run (first run) e.catalog journals answers c.done (λ table. tt))
+    subst (λ (v : Environment). HasColumns v.catalog) (sym c.environment) (after_all rules run answers e.catalog journals c.log.script c.log.allowed [] answers refl c.done (λ table. tt))
