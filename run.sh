@@ -173,10 +173,10 @@ write_case() {
 
 # Takes the answers and the status of a case out of what the trial build wrote. Where it didn't end, that is shown.
 read_case() {
-    sed -n "1,/^== $mark\.$n\$/d; /^== $mark\./q; p" "$work/all" >"$work/$n.out"
+    sed -n "/^== $mark\.$n\$/,/^== $mark\./{/^== $mark\./!p;}" "$work/all" >"$work/$n.out"
     sed -n "s/^case=$mark\.$n run=ended status=\([0-9]*\) .*/\1/p" "$work/log" >"$work/$n.status"
     [ -s "$work/$n.status" ] || {
-        cat "$work/log" >&2
+        sed "s/^case=$mark\.\([0-9]*\) /script \1: /" "$work/log" >&2
         fail 'the trial build gave no answer'
     }
 }
