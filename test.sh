@@ -107,8 +107,9 @@ pass_lists() {
     [ "$failed" -eq 0 ] || status=1
 }
 
-# Runs the commands of a transcript, its lines that begin with `$ `, and prints each with what it writes: standard output, standard error
-# behind a mark, and the status where it isn't 0. Words: the transcript, the folder to run in, the mark.
+# Runs the commands of a transcript, its lines that begin with `$ `, and prints each with what it writes: standard output, then standard error.
+# Where a mark is given, it stands before lines of standard error, and the status is told where it isn't 0. Words: the transcript, the folder
+# to run in, the mark.
 replay() {
     while IFS= read -r line; do
         case $line in '$ '*) ;; *) continue ;; esac
@@ -117,7 +118,7 @@ replay() {
         found=$?
         cat "$work/replay.out"
         sed "s/^/$3/" "$work/replay.err"
-        [ "$found" -eq 0 ] || echo "[status $found]"
+        [ -z "$3" ] || [ "$found" -eq 0 ] || echo "[status $found]"
     done <"$1"
 }
 

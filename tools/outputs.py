@@ -38,13 +38,32 @@ class Entry:
     detail: str
 
 
+@dataclass(frozen=True)
+class Move:
+    """A move of a shard group to a node, which was done or given up."""
+
+    statement: int
+    node: int
+    is_done: bool
+
+
 @dataclass
 class Group:
-    """A shard group: the node that it is on at the end, or none for that of a reference table, and its journal."""
+    """A shard group: the node that it is on, or none for that of a reference table, and its journal."""
 
     number: int
     node: Optional[int]
     entries: list[Entry] = field(default_factory=list)
+
+    @property
+    def moves(self) -> Iterator[Move]:
+        """Its moves that came to an end."""
+        node = 0
+        for entry in self.entries:
+            if entry.kind == "move":
+                node = int(entry.detail)
+            elif entry.kind in ("cutover", "stop"):
+                yield Move(entry.statement, node, entry.kind == "cutover")
 
 
 def lines_of(output: bytes) -> list[str]:

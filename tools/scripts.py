@@ -8,6 +8,7 @@ from dataclasses import dataclass
 from typing import Iterator, Optional
 
 BLANKS = b" \t\r\n"
+FRONT = re.compile(rb"[ \t\r\n;]*")
 STOP = re.compile(rb"[;']|--")
 OPAQUE = re.compile(rb"'[^']*(?:'|\Z)|--[^\n]*")
 CSV_FIELD = re.compile(rb'(?:"[^"]*(?:""[^"]*)*(?:"|\Z))?[^,\r\n]*')
@@ -39,6 +40,11 @@ class Statement:
     def bare(self) -> bytes:
         """The text with blanks in the place of quoted texts and comments, so that offsets stay."""
         return OPAQUE.sub(lambda found: b" " * len(found.group()), self.text)
+
+    @property
+    def plain(self) -> bytes:
+        """The text with blanks in the place of comments alone."""
+        return OPAQUE.sub(lambda found: found.group() if found.group().startswith(b"'") else b" " * len(found.group()), self.text)
 
     @property
     def first_word(self) -> str:
@@ -99,14 +105,12 @@ def line_end(script: bytes, at: int) -> int:
 
 def skip_front(script: bytes, at: int) -> int:
     """Passes over blanks, comments and semicolons."""
-    while at < len(script):
-        if script[at] in BLANKS or script[at : at + 1] == b";":
-            at += 1
-        elif script.startswith(b"--", at):
-            at = line_end(script, at)
-        else:
-            break
-    return at
+    while True:
+        front = FRONT.match(script, at)
+        at = front.end() if front else at
+        if not script.startswith(b"--", at):
+            return at
+        at = line_end(script, at)
 
 
 def statement_end(script: bytes, at: int) -> int:

@@ -16,7 +16,7 @@ NAME = r"[A-Za-z_][A-Za-z0-9_$]*"
 TEXT = r"'([^']*)'"
 CALL = re.compile(rf"(?is)select\s+(create_distributed_table|create_reference_table)\s*\(\s*{TEXT}\s*(?:,\s*{TEXT}\s*)?(.*)\)")
 SETTING = re.compile(r"(?i)set\s+citus\s*\.\s*shard_count\s+(?:to|=)\s*(\d+)")
-WRITE = re.compile(rf"(?i)(insert\s+into|copy|delete\s+from)\s+({NAME})")
+WRITE = re.compile(rf"(?i)(insert\s+into|update|copy|delete\s+from)\s+({NAME})")
 
 
 @dataclass
@@ -61,7 +61,7 @@ class Tables:
 
     def follow(self, answer: Answer) -> None:
         """What a statement that was done has changed."""
-        text = answer.statement.text.decode(errors="replace")
+        text = answer.statement.plain.decode(errors="replace")
         setting = SETTING.match(text)
         call = CALL.match(text)
         if answer.statement.first_word == "CREATE":
@@ -85,7 +85,7 @@ class Tables:
         beside = re.search(rf"(?i)colocate_with\s*=>\s*{TEXT}", options)
         count = re.search(r"(?i)shard_count\s*=>\s*(\d+)", options)
         colocation = self._colocation(
-            self.kinds[name][column],
+            self.kinds.get(name, {}).get(column, ""),
             beside[1] if beside else "default",
             int(count[1]) if count else None,
         )
@@ -93,8 +93,9 @@ class Tables:
 
     def _colocation(self, kind: str, beside: str, count: Optional[int]) -> Colocation:
         """The co-location group that a new table joins, which may be a new one."""
-        if beside not in ("default", "none"):
-            return next(table.colocation for table in self.distributed if table.name == beside and table.colocation)
+        for table in self.distributed:
+            if table.name == beside and table.colocation:
+                return table.colocation
         is_joinable = beside == "default" and count is None
         for colocation in self.colocations if is_joinable else []:
             if colocation.is_joinable and colocation.kind == kind and colocation.count == self.shard_count:
@@ -125,9 +126,18 @@ def tables_of(answers: Iterable[Answer]) -> Tables:
     return tables
 
 
-def row_changes(answer: Answer) -> tuple[str, int]:
-    """The table of a write, and by how much it changes the number of rows for each row that its journals count."""
+@dataclass(frozen=True)
+class RowChange:
+    """What each row that the journals count of a write does to its table: it is one more, one less, or another one."""
+
+    table: str
+    sign: int
+
+
+def row_change(answer: Answer) -> Optional[RowChange]:
+    """What a statement does to the rows of a table, if it writes."""
     found = WRITE.match(answer.statement.bare.decode(errors="replace"))
     if found is None:
-        return "", 0
-    return found[2].lower(), -1 if found[1].lower().startswith("delete") else 1
+        return None
+    verb = found[1].lower()
+    return RowChange(found[2].lower(), -1 if verb.startswith("delete") else 0 if verb == "update" else 1)

@@ -1,5 +1,0 @@
-﻿SELECT 1 FROM t;
-COPY t FROM STDIN;
-1
-\.
-SELECT 2 FROM t;
