@@ -131,9 +131,16 @@ answer_script() {
     end_script "$@"
 }
 
-# Writes what a trial build has answered. Words: those of the program.
+# Writes what the trial build has answered to a script, and shows what it says where the program didn't end. Words: those of the program.
 write_answers() {
     name_script
+    sed -n "/^== $mark\.$n\$/,/^== $mark\./{/^== $mark\./!p;}" "$work/all" >"$work/$n.out"
+    sed -n "s/^case=$mark\.$n run=ended status=\([0-9]*\) .*/\1/p" "$work/log" >"$work/$n.status"
+    if [ ! -s "$work/$n.status" ]; then
+        echo 1 >"$work/$n.status"
+        sed "s/^case=$mark\.\([0-9]*\) /script \1: /" "$work/log" >&2
+        say "the program did not end over $(cat "$work/$n.name")"
+    fi
     cat "$work/$n.out" || echo 4 >"$work/$n.status"
     end_script "$@"
 }
@@ -155,7 +162,7 @@ end_script() {
     fi
 }
 
-# Answers all scripts by one trial build, which prints a line `== NAME` in front of what each case answers. Words: those of the program.
+# Runs all scripts by one trial build, which prints a line `== NAME` in front of what each case answers. Words: those of the program.
 try_scripts() {
     mark=$(basename "$work")
     mkdir "$work/cases"
@@ -163,22 +170,15 @@ try_scripts() {
     start_ticking
     (cd "$crate" && rt try --seconds 600 --cases "$work/cases") >"$work/all" 2>"$work/log" || true
     stop_ticking
-    for_each_script read_case
+    grep -q '^case=' "$work/log" || {
+        cat "$work/log" >&2
+        fail 'the trial build failed'
+    }
 }
 
 write_case() {
     cp "$work/$n.sql" "$work/cases/$mark.$n"
     [ $# -eq 0 ] || printf '%s\n' "$@" >"$work/cases/$mark.$n.args"
-}
-
-# Takes the answers and the status of a case out of what the trial build wrote. Where it didn't end, that is shown.
-read_case() {
-    sed -n "/^== $mark\.$n\$/,/^== $mark\./{/^== $mark\./!p;}" "$work/all" >"$work/$n.out"
-    sed -n "s/^case=$mark\.$n run=ended status=\([0-9]*\) .*/\1/p" "$work/log" >"$work/$n.status"
-    [ -s "$work/$n.status" ] || {
-        sed "s/^case=$mark\.\([0-9]*\) /script \1: /" "$work/log" >&2
-        fail 'the trial build gave no answer'
-    }
 }
 
 # Counts the seconds on a terminal.
