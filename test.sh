@@ -206,9 +206,9 @@ for crate in $(sed -n 's/^\([a-z_]*\):.*/\1/p' crates.txt); do
 done
 
 # The main job.
-for example in tenants dashboard tiles moves rebalance growth; do
-    ./run.sh "examples/$example.sql" >"$work/out" 2>"$work/err" || { cat "$work/err"; fail "run.sh: examples/$example.sql has another status than 0"; }
-    diff "examples/$example.out" "$work/out" || fail "run.sh: another output than examples/$example.out"
+for script in examples/*.sql; do
+    ./run.sh "$script" >"$work/out" 2>"$work/err" || { cat "$work/err"; fail "run.sh: $script has another status than 0"; }
+    diff "${script%.sql}.out" "$work/out" || fail "run.sh: another output than ${script%.sql}.out"
 done
 
 # A script of one byte too many is no file of tests/sql.
