@@ -196,7 +196,7 @@ fi
 [ "${1-}" = --own ] || pass_gate
 
 # A session of nothing passes just where a proved program stands that no source is newer than.
-./run.sh --shell </dev/null || exit 1
+./run.sh --shell </dev/null 2>"$work/err" || { fail "the own checks want a proved program: $(cat "$work/err")"; exit 1; }
 
 [ "$(cat HANDLES)" = 'Handles allowed: Threads, Wait.' ] || fail 'HANDLES has another line'
 

@@ -41,6 +41,10 @@ SELECT s.host, t.hits FROM sites s JOIN (SELECT site, count(*) AS hits FROM hits
 EXPLAIN SELECT p.team, t.hits FROM (SELECT page, count(*) AS hits FROM hits GROUP BY page) t JOIN pages p ON p.page = t.page ORDER BY p.team;
 SELECT p.team, t.hits FROM (SELECT page, count(*) AS hits FROM hits GROUP BY page) t JOIN pages p ON p.page = t.page ORDER BY p.team;
 
+-- The busiest minute: the coordinator asks the rows of a CTE alone, and no task is left.
+EXPLAIN WITH minutes AS (SELECT minute, count(*) AS hits FROM hits GROUP BY minute) SELECT minute, hits FROM minutes ORDER BY hits DESC, minute LIMIT 1;
+WITH minutes AS (SELECT minute, count(*) AS hits FROM hits GROUP BY minute) SELECT minute, hits FROM minutes ORDER BY hits DESC, minute LIMIT 1;
+
 -- Sites beside each other that were slow on the same page: rows that meet lie in different shards, so they have to move.
 SET citus.enable_repartition_joins TO on;
 EXPLAIN SELECT a.page, a.site, a.minute, b.site AS other_site, b.minute AS other_minute FROM hits a JOIN hits b ON a.page = b.page WHERE a.site < b.site AND a.ms > 40 AND b.ms > 40 ORDER BY a.minute;

@@ -1,5 +1,5 @@
 -- What a user of PostgreSQL would trip over.
-SELECT a FROM t RIGHT JOIN u ON t.k = u.k; SELECT a FROM t AS right JOIN u ON t.k = u.k;
+SELECT a FROM t RIGHT JOIN u ON t.k = u.k; SELECT a FROM t AS  right JOIN u ON t.k = u.k;
 SELECT a FROM t full outer
     join u ON t.k = u.k -- natural join
     WHERE a = 'NATURAL JOIN';
