@@ -1,10 +1,9 @@
 -- Nodes whose stores never fail, as stores go to and fro.
-use Rattle.std.proofs.Common.{◌≡◌, ◌≢◌, ◌⊎◌, inl, inr, ℕ, zero, suc, ◌+◌, ◌-◌, ◌<◌, Bool, true, false, cond, List, [], ◌∷◌, ◌++◌, length, map, get_or, take, refl, sym, ap, subst, ◌∙◌, arith, Some, slice_get, Result, Ok, Err, IfOk, IfErr}
+use Rattle.std.proofs.Common.{◌≡◌, inl, inr, ℕ, zero, suc, ◌-◌, ◌<◌, Bool, true, false, cond, List, [], ◌∷◌, ◌++◌, length, map, get_or, take, refl, sym, ap, subst, ◌∙◌, arith, Some, slice_get, Result, Ok, Err, IfOk, IfErr}
 use Rattle.std.specs.Prelude.{IsTrue, find}
 use Rattle.std.specs.List.{AllByRecursion, AllZip, flat_map}
 use Rattle.std.proofs.Math.ListN.{set}
-use Rattle.cq_value.proofs.Truths.{two_ways}
-use Rattle.cq_value.proofs.Lists.{all_weaker, all_map, all_append, all_more, all_left, all_right, all_filtered}
+use Rattle.cq_value.proofs.Lists.{all_map, all_append, all_more, all_left, all_right, all_filtered}
 use Rattle.cq_answer.specs.declared.answer.Answer.{Answer}
 use Rattle.cq_answer.specs.declared.answer.Answer.TheVariants as answer
 use Rattle.cq_answer.specs.declared.fault.Fault.{Fault}
@@ -30,11 +29,10 @@ use Rattle.cq_cluster.specs.declared.cluster.Cluster.{Cluster}
 use Rattle.cq_cluster.specs.declared.retired.Retired.{Retired}
 use Rattle.cq_cluster.specs.Accounts.{NamesFailed, Retires}
 use Rattle.cq_cluster.specs.Cluster.{IsRetired, IsSound}
-use Rattle.cq_cluster.specs.Moving.{HasKeptGroup, HasMovedGroup, IsChangedAt, move_answer}
+use Rattle.cq_cluster.specs.Moving.{HasKeptGroup, HasMovedGroup, move_answer}
 use Rattle.cq_cluster.specs.Steady.{AreExchangedSteady, ArePartedSteady, AreSteady, AreTakenSteady, GroupsAreSteady, IsSteadyAt, KeepsSteady, NamesNoSteady, NamesNode, RetiredAreSteady, SparesSteady, StaySteady, TakesBackSteady, WorkersAreSteady}
 use Rattle.cq_cluster.specs.Steps.{AreOpened, HasOpened, IsBegun, forgotten}
 use Rattle.cq_cluster.proofs.ListLaws.{item_at}
-use Rattle.cq_cluster.proofs.MovingLawsGroups.{changed_list}
 
 -- ---- a fact of each item of a list
 
@@ -55,7 +53,7 @@ all_got P (x ∷ xs) each = (each 0 x refl, all_got P xs (λ k y s. each (suc k)
 
 -- ---- a worker's list
 
-abbrev IsSteadyOn : ℕ → StoreState → Type 0
+abbrev pub IsSteadyOn : ℕ → StoreState → Type 0
 IsSteadyOn node s = s.node ≡ node → IsTrue s.steady
 
 all_kept : (P : StoreState → Type 0) (n : ℕ) (ss : List StoreState) → AllByRecursion P ss → AllByRecursion P (kept n ss)
@@ -71,6 +69,9 @@ all_kept P (suc n) (s ∷ ss) all = by_test (keeps_no_shard s)
 pub as_steady : (node : ℕ) (s t : StoreState) → t.node ≡ s.node → t.steady ≡ s.steady → IsSteadyOn node s → IsSteadyOn node t
 as_steady node s t at is h on = subst IsTrue (sym is) (h (sym at ∙ on))
 
+not_both : (b : Bool) → b ≡ false → IsTrue b → ⊥
+not_both b off on = let no : true ≡ false = sym on ∙ off in cc
+
 module _ {X : Type 0} (state : X → StoreState) where
   states_back : (P : StoreState → Type 0) (xs : List X) → AllByRecursion P (map state xs) → AllByRecursion (λ (x : X). P (state x)) xs
   states_back P [] all = tt
@@ -79,9 +80,10 @@ module _ {X : Type 0} (state : X → StoreState) where
   pub parted : (n : ℕ) (old out left : List X) → map state out ≡ taken n (map state old) → map state left ≡ kept n (map state old) → ArePartedSteady state old out left
   parted n old out left takes keeps node all =
       let P : StoreState → Type 0 = IsSteadyOn node in
-      let states = all_map (λ (x : X). P (state x)) P state (λ x p. p) old all in
-      (states_back P out (subst (AllByRecursion P) (sym takes) (all_take P n (spares (map state old)) (all_filtered P keeps_no_shard (map state old) states))),
-      states_back P left (subst (AllByRecursion P) (sym keeps) (all_kept P n (map state old) states)))
+      let states = all_map (λ (x : X). P (state x)) P state (λ x p. p) old all in (
+        states_back P out (subst (AllByRecursion P) (sym takes) (all_take P n (spares (map state old)) (all_filtered P keeps_no_shard (map state old) states))),
+        states_back P left (subst (AllByRecursion P) (sym keeps) (all_kept P n (map state old) states)),
+      )
 
   pub joined_one : (node : ℕ) (old new : List X) (x : X) → new ≡ old ++ x ∷ [] → AreSteady state node old → IsSteadyOn node (state x) → AreSteady state node new
   joined_one node old new x same all p = subst (AreSteady state node) (sym same) (all_more (λ (y : X). IsSteadyOn node (state y)) old x all p)
@@ -158,11 +160,6 @@ module _ {X : Type 0} (state : X → StoreState) where
 
   -- ---- a group that becomes another
 
-  pub changed_steady : (node k : ℕ) (was is : GroupState X) (old new : List (GroupState X)) → IsChangedAt k was is old new → (AreSteady state node (stores_of was) → AreSteady state node (stores_of is)) → GroupsAreSteady state node old → GroupsAreSteady state node new
-  changed_steady node k was is old new ch step all =
-      let P : GroupState X → Type 0 = λ g. AreSteady state node (stores_of g) in
-      subst (GroupsAreSteady state node) (sym (changed_list state k was is old new ch)) (all_set P old k is all (step (all_at P old k was all ch.there)))
-
   -- the group of this place got other stores, and gave those that it had
   pub exchanged : (k : ℕ) (was is : GroupState X) (groups : List (GroupState X)) (given back : List X) → slice_get groups k ≡ Some was → AllZip (Lifted state IsTried) given (stores_of is) → AllZip (Lifted state GoesOn) (stores_of was) back →
       AreExchangedSteady state groups given (set groups k is) back
@@ -212,21 +209,13 @@ module _ {X : Type 0} (state : X → StoreState) where
   failed_unsteady node shard before after [] ys some all = some
   failed_unsteady node shard before after (x ∷ xs) [] some all = some
   failed_unsteady node shard before after (x ∷ xs) (y ∷ ys) some all = elim some [
-    | inl f ↦ no (state x).steady f.unsteady (all.0 f.of_node)
+    | inl f ↦ not_both (state x).steady f.unsteady (all.0 f.of_node)
     | inr more ↦ failed_unsteady node shard before after xs ys more all.1
   ]
-    where
-      no : (b : Bool) → b ≡ false → IsTrue b → ⊥
-      no true e t = cc
-      no false e t = t
 
   -- so is one that is retired
   pub retired_unsteady : (node : ℕ) (r : Retired X) → IsRetired state r → r.node ≡ node → ((state r.store).node ≡ node → IsTrue (state r.store).steady) → ⊥
-  retired_unsteady node r is at h = no (state r.store).steady is.unsteady (h (is.of_node ∙ at))
-    where
-      no : (b : Bool) → b ≡ false → IsTrue b → ⊥
-      no true e t = cc
-      no false e t = t
+  retired_unsteady node r is at h = not_both (state r.store).steady is.unsteady (h (is.of_node ∙ at))
 
   all_last : {Y : Type 0} (P : Y → Type 0) (xs : List Y) (y : Y) → AllByRecursion P (xs ++ y ∷ []) → P y
   all_last P xs y all = (all_right P xs (y ∷ []) all).0
