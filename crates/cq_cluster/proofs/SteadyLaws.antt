@@ -4,15 +4,15 @@ use Rattle.std.specs.Prelude.{IsTrue, find}
 use Rattle.std.specs.List.{AllByRecursion, AllZip, flat_map}
 use Rattle.std.proofs.Math.ListN.{set}
 use Rattle.cq_value.proofs.Lists.{all_map, all_append, all_more, all_left, all_right, all_filtered}
+use Rattle.cq_tree.specs.declared.journal.Who.{Who}
+use Rattle.cq_catalog.specs.declared.info.Opened.{Opened}
 use Rattle.cq_answer.specs.declared.answer.Answer.{Answer}
 use Rattle.cq_answer.specs.declared.answer.Answer.TheVariants as answer
 use Rattle.cq_answer.specs.declared.fault.Fault.{Fault}
 use Rattle.cq_answer.specs.declared.fault.Fault.TheVariants as fault
-use Rattle.cq_catalog.specs.declared.info.Opened.{Opened}
-use Rattle.cq_tree.specs.declared.journal.Who.{Who}
 use Rattle.cq_history.specs.Faults.{NamesNoStore}
-use Rattle.cq_history.proofs.Lists.{all_at, all_take, got_below}
 use Rattle.cq_history.specs.Rebalances.{Either}
+use Rattle.cq_history.proofs.Lists.{all_at, all_take, got_below}
 use Rattle.cq_store.specs.Stores.{StoreState}
 use Rattle.cq_store.specs.Workers.{keeps_no_shard, spares, taken, kept}
 use Rattle.cq_store.specs.declared.worker.Worker.{Worker}

@@ -1,5 +1,5 @@
 -- Nodes whose stores never fail: what a call leaves of them, and that no answer names one.
-use Rattle.std.specs.Prelude.{◌≡◌, ◌≢◌, ℕ, IsTrue, false, List, [], ◌∷◌}
+use Rattle.std.specs.Prelude.{◌≡◌, ℕ, IsTrue, List}
 use Rattle.std.specs.List.{AllByRecursion}
 use Rattle.cq_answer.specs.declared.answer.Answer.{Answer}
 use Rattle.cq_answer.specs.declared.answer.Answer.TheVariants as answer

@@ -34,12 +34,12 @@ use Rattle.cq_store.specs.Stores.{StoreState}
 use Rattle.cq_group.specs.declared.group.GroupState.{GroupState}
 use Rattle.cq_group.specs.Groups.{stores_of, entries_of}
 use Rattle.cq_cluster.specs.Accounts.{moved_by, later_than, AreAccounted, Retires}
-use Rattle.cq_cluster.specs.declared.cluster.Cluster.{Cluster}
 use Rattle.cq_cluster.specs.declared.retired.Retired.{Retired}
-use Rattle.cq_cluster.specs.Steady.{NamesNode, SparesSteady}
 use Rattle.cq_bound_laws.specs.Laws.{HasColumns}
 use Rattle.cq_bound_laws.proofs.Statements.{copies_are_there}
 use Rattle.cq_bound_laws.proofs.Copies.{copies_fit, inserts_compute}
+use Rattle.cq_cluster.specs.declared.cluster.Cluster.{Cluster}
+use Rattle.cq_cluster.specs.Steady.{NamesNode, SparesSteady}
 use Rattle.cq_coordinator.specs.Coordination.{IsNoCopy, NeedsNoData}
 use Rattle.cq_session.specs.Responses.{fault_of_copy, insertion, insertion_into, with_data, is_copy, IsThere, tagged, IsTagged}
 use Rattle.cq_session.proofs.ReadingLaws.{computable_read}

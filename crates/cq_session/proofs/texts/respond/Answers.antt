@@ -7,14 +7,14 @@ use Rattle.cq_history.proofs.Answering.{refusal_is_answered}
 use Rattle.cq_cluster.specs.Cluster.{run_of}
 use Rattle.cq_cluster.proofs.AnswerLaws.{other_is_accounted}
 use Rattle.cq_cluster.specs.Accounts.{Retires}
-use Rattle.cq_cluster.specs.Steady.{SparesSteady}
-use Rattle.cq_cluster.proofs.SteadyLaws.{spares_none}
 use Rattle.cq_coordinator.proofs.Naming.{none_retired}
 use Rattle.cq_session.proofs.Naming.{unread_named, unread_names_none, unread_is_of_reading}
 use Rattle.cq_session.proofs.Copies.{computable_with, no_data_with, answered_with, accounted_with, retires_with, spares_with, tagged_is, failed_is_tagged}
 use Rattle.cq_session.proofs.ReadingLaws.{bound_ok, bound_err}
 use Rattle.cq_session.specs.Responses.{tagged, is_copy, reading_with, IsTagged}
 use Rattle.cq_statement.specs.Reading.{reading_of}
+use Rattle.cq_cluster.specs.Steady.{SparesSteady}
+use Rattle.cq_cluster.proofs.SteadyLaws.{spares_none}
 use Rattle.cq_coordinator.specs.Coordination.{environment, journals}
 use Rattle.cq_session.proofs.texts.respond.Goals as goal
 
