@@ -59,11 +59,11 @@ IsSteadyOn node s = s.node ≡ node → IsTrue s.steady
 all_kept : (P : StoreState → Type 0) (n : ℕ) (ss : List StoreState) → AllByRecursion P ss → AllByRecursion P (kept n ss)
 all_kept P zero ss all = all
 all_kept P (suc n) [] all = tt
-all_kept P (suc n) (s ∷ ss) all = by_test (keeps_no_shard s)
+all_kept P (suc n) (s ∷ ss) all = by_test (keeps_no_shard s) (all_kept P n ss all.1) (all_kept P (suc n) ss all.1)
   where
-    by_test : (b : Bool) → AllByRecursion P (cond b (kept n ss) (s ∷ kept (suc n) ss))
-    by_test true = all_kept P n ss all.1
-    by_test false = (all.0, all_kept P (suc n) ss all.1)
+    by_test : (b : Bool) → AllByRecursion P (kept n ss) → AllByRecursion P (kept (suc n) ss) → AllByRecursion P (cond b (kept n ss) (s ∷ kept (suc n) ss))
+    by_test true fewer same = fewer
+    by_test false fewer same = (all.0, same)
 
 -- a store that became another is as steady
 pub as_steady : (node : ℕ) (s t : StoreState) → t.node ≡ s.node → t.steady ≡ s.steady → IsSteadyOn node s → IsSteadyOn node t
@@ -250,19 +250,19 @@ module _ {X : Type 0} (state : X → StoreState) where
 
   pub found_steady : (node : ℕ) (test : X → Bool) (xs : List X) (x : X) → find test xs ≡ Some x → AreSteady state node xs → IsSteadyOn node (state x)
   found_steady node test [] x is all = cc
-  found_steady node test (y ∷ ys) x is all = by_test (test y) is
+  found_steady node test (y ∷ ys) x is all = by_test (test y) is (λ e. found_steady node test ys x e all.1)
     where
-      by_test : (b : Bool) → cond b (Some y) (find test ys) ≡ Some x → IsSteadyOn node (state x)
-      by_test true e = subst (λ (z : X). IsSteadyOn node (state z)) (let same : y ≡ x = cc in same) all.0
-      by_test false e = found_steady node test ys x e all.1
+      by_test : (b : Bool) → cond b (Some y) (find test ys) ≡ Some x → (find test ys ≡ Some x → IsSteadyOn node (state x)) → IsSteadyOn node (state x)
+      by_test true e more = subst (λ (z : X). IsSteadyOn node (state z)) (let same : y ≡ x = cc in same) all.0
+      by_test false e more = more e
 
   pub left_steady : (node : ℕ) (test : X → Bool) (xs : List X) → AreSteady state node xs → AreSteady state node (without_first test xs)
   left_steady node test [] all = tt
-  left_steady node test (x ∷ xs) all = by_test (test x)
+  left_steady node test (x ∷ xs) all = by_test (test x) (left_steady node test xs all.1)
     where
-      by_test : (b : Bool) → AreSteady state node (cond b xs (x ∷ without_first test xs))
-      by_test true = all.1
-      by_test false = (all.0, left_steady node test xs all.1)
+      by_test : (b : Bool) → AreSteady state node (without_first test xs) → AreSteady state node (cond b xs (x ∷ without_first test xs))
+      by_test true rest = all.1
+      by_test false rest = (all.0, rest)
 
   pub one_retired_more : (node : ℕ) (old new : List (Retired X)) (r : Retired X) → new ≡ old ++ r ∷ [] → RetiredAreSteady state node old → IsSteadyOn node (state r.store) → RetiredAreSteady state node new
   one_retired_more node old new r same all p = subst (RetiredAreSteady state node) (sym same) (all_more (λ (s : Retired X). IsSteadyOn node (state s.store)) old r all p)
