@@ -3,7 +3,7 @@ use Rattle.std.specs.List.{list_any}
 use Rattle.std.specs.Prelude.{ℕ, ◌+◌, List, [], ◌∷◌, ◌++◌, map, filter_map, length, Bool, false, if◌then◌else◌, Option, None, Some, is_some}
 use Rattle.cq_value.specs.declared.value.Value.{Value}
 use Rattle.cq_tree.specs.declared.plan.Planner.{Planner}
-use Rattle.cq_tree.specs.declared.query.FromTree.{FromTree, Table, Sub, Sub', Result, Cross', Inner', Left', end_of-FromTree, more_of-FromTree, end_of-Query, more_of-Query}
+use Rattle.cq_tree.specs.declared.query.FromTree.{FromTree, Table, Sub', Result, Cross', Inner', Left', end_of-FromTree, more_of-FromTree, end_of-Query, more_of-Query}
 use Rattle.cq_tree.specs.declared.query.Query.{Query, Query', Row_of-Query}
 use Rattle.cq_tree.specs.declared.query.Query as query
 use Rattle.cq_meaning.specs.Queries.{columns_in}
@@ -21,7 +21,7 @@ use Rattle.cq_planning.specs.Narrowing.{distribution_in, right_sets, sets_in, gi
 use Rattle.cq_planning.specs.Blocks.{subqueries_in}
 use Rattle.cq_planning.specs.Joins.{lacks_equality, has_loose_join}
 use Rattle.cq_planning.specs.Refusals.{is_cut_loosely}
-use Rattle.cq_planning.specs.Occurrences.{Occurrence, key_values, occurrence_of, occurrences_in}
+use Rattle.cq_planning.specs.Occurrences.{Occurrence, occurrence_of, occurrences_in}
 use Rattle.cq_outline.specs.declared.outline.Leaving.{Leaving}
 use Rattle.cq_outline.specs.declared.joining.Joined.{Joined}
 use Rattle.cq_outline.specs.Joining.{nothing_joined}

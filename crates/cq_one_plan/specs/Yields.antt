@@ -1,6 +1,6 @@
 -- What a plan may give over captures of the groups that it touches: its subplans' rows become results; each of its tasks gives an answer of the partial
 -- query over what it reads; and its rows are gathered from these.
-use Rattle.std.specs.Prelude.{◌≡◌, ℕ, ◌+◌, ℤ, List, [], ◌∷◌, ◌++◌, map, length, ⊤, Bool, true, false, if◌then◌else◌, Option, None, Some}
+use Rattle.std.specs.Prelude.{◌≡◌, ℕ, ◌+◌, List, [], ◌∷◌, map, length, ⊤, Bool, true, false, if◌then◌else◌, Option, None, Some}
 use Rattle.std.specs.List.{range_with_len, flat_map}
 use Rattle.std.specs.List.Sorted.{IsPermutation}
 use Rattle.cq_tree.specs.declared.plan.Combine.{Combine}
@@ -10,15 +10,14 @@ use Rattle.cq_tree.specs.declared.plan.Task.{Task}
 use Rattle.cq_tree.specs.declared.query.FromTree.{FromTree, Table, Sub', Result, Cross', Inner', Left', end_of-FromTree, more_of-FromTree, end_of-Query, more_of-Query}
 use Rattle.cq_tree.specs.declared.query.Query.{Query, Query'}
 use Rattle.cq_meaning.specs.Values.{Row, Results, Tables, table_rows, result_at}
-use Rattle.cq_meaning.specs.Limits.{is_large}
-use Rattle.cq_meaning.specs.Queries.{columns_in, outputs_of, meaning, AnswersWith}
+use Rattle.cq_meaning.specs.Queries.{outputs_of, meaning, AnswersWith}
 use Rattle.cq_catalog.specs.Contents.{Contents}
 use Rattle.cq_catalog.specs.Placement.{place_at}
 use Rattle.cq_catalog.specs.Ranges.{ends}
 use Rattle.cq_planning.specs.Database.{Held}
 use Rattle.cq_planning.specs.Routing.{is_distributed_place, is_reference_place}
 use Rattle.cq_task_laws.specs.Partial.{partial}
-use Rattle.cq_task_laws.specs.Merging.{GathersTo, has_large_together}
+use Rattle.cq_task_laws.specs.Merging.{GathersTo}
 use Rattle.cq_task_laws.specs.Tasks.{AnswerEach}
 use Rattle.cq_pushdown_laws.specs.Tables.{task_tables}
 use Rattle.cq_repartition_laws.specs.Keys.{keys_of}

@@ -1,5 +1,5 @@
 -- A plan whose blocks are answered answers its statement.
-use Rattle.std.proofs.Common.{◌≡◌, ◌+◌, ◌<◌, ℕ, List, [], ◌∷◌, ◌++◌, map, filter, filter_map, length, Bool, true, false, cond, Option, None, Some, refl, sym, ap, subst, ◌∙◌}
+use Rattle.std.proofs.Common.{◌≡◌, ◌+◌, ℕ, List, [], ◌∷◌, ◌++◌, map, filter, filter_map, Bool, true, false, cond, Option, None, Some, refl, subst}
 use Rattle.std.specs.Prelude.{is_some, ⊤}
 use Rattle.std.specs.List.{AllByRecursion}
 use Rattle.std.proofs.lemmas.List.Sorted.{IsPermutation-refl}
@@ -10,17 +10,16 @@ use Rattle.cq_tree.specs.declared.plan.Planner.{Planner}
 use Rattle.cq_tree.specs.declared.query.FromTree.{FromTree, Table, Sub', Result, Cross', Inner', Left', end_of-FromTree, more_of-FromTree, end_of-Query, more_of-Query}
 use Rattle.cq_tree.specs.declared.query.Query.{Query, Query', Row_of-Query}
 use Rattle.cq_tree.specs.declared.query.Query as query
-use Rattle.cq_meaning.specs.Values.{Row, Results, Tables, table_rows, result_at}
+use Rattle.cq_meaning.specs.Values.{Results, Tables, table_rows, result_at}
 use Rattle.cq_meaning.specs.Queries.{columns_in, outputs_of, from_rows, AnswersWith}
 use Rattle.cq_meaning.specs.Results.{ins_in, ins_in_from, ins_in_ctes, count_of}
 use Rattle.cq_meaning_laws.specs.Settled.{IsSettled, IsSettledFrom, IsSettledBelow}
-use Rattle.cq_meaning_laws.specs.WholeRules.{Step, steps_in, steps_in_from, steps_in_all, steps_in_ctes, steps_of}
+use Rattle.cq_meaning_laws.specs.WholeRules.{Step, steps_in, steps_in_from, steps_in_all, steps_in_ctes}
 use Rattle.cq_subplan_laws.proofs.Settling.{below}
 use Rattle.cq_catalog.specs.Contents.{Contents}
 use Rattle.cq_catalog.specs.Placement.{place_at}
 use Rattle.cq_catalog.specs.declared.info.Place.{Place}
 use Rattle.cq_catalog.specs.declared.info.Place.TheVariants.{Local, Distributed, Reference}
-use Rattle.cq_planning.specs.Database.{shape_in}
 use Rattle.cq_planning.specs.Conjuncts.{conjuncts, conjuncts_of, equalities}
 use Rattle.cq_planning.specs.ValueSets.{ValueSet, value_set}
 use Rattle.cq_planning.specs.Relations.{OuterJoin, Relation, distribution_at, is_distributed}
@@ -36,7 +35,7 @@ use Rattle.cq_outline.specs.Joining.{nothing_joined}
 use Rattle.cq_outline.specs.declared.outline.Leaving.{Leaving}
 use Rattle.cq_outline.specs.declared.outline.Leaving.TheVariants as leaving
 use Rattle.cq_outline.specs.Leaving.{leaves, leaves_subquery, inside}
-use Rattle.cq_outline.specs.Tasking.{Touch, touch_of, planner_of, leaving_by, parting_by, shares_rows}
+use Rattle.cq_outline.specs.Tasking.{touch_of, planner_of, leaving_by, parting_by, shares_rows}
 use Rattle.cq_outline.specs.Outlines.{table_planner, subquery_planner}
 use Rattle.cq_pushdown_laws.specs.Pushed.{is_single}
 use Rattle.cq_frame_laws.specs.Frames.{StandsFor, IsFrame, relation, cross, inner, left}
@@ -49,7 +48,7 @@ use Rattle.cq_one_plan.specs.declared.plan.Part.TheVariants.{Stays, Leaves, Asks
 use Rattle.cq_one_plan.specs.Stays.{leaves_in, leaves_of, leaves_of_all, result_if, from_staying, query_staying, lone_query}
 use Rattle.cq_one_plan.specs.Plans as parted
 use Rattle.cq_one_plan.specs.Plans.{no_grounds, grounds_of, planned_in, plan_with, lone_plan, part_of_table, parts_of_subquery, key_of, output_of, output_set, plan_of, cte_plans, in_plans, parts_inside, parts_from, whole_plan, first_free, ctes_of, first_in}
-use Rattle.cq_plan_laws.specs.Laws.{with_from, IsFramed}
+use Rattle.cq_plan_laws.specs.Laws.{with_from}
 use Rattle.cq_plan_laws.specs.Composing.{IsAnswered, AreAnswered, StepAnswered, IsBase, IsSound, PlansAnswer}
 use Rattle.cq_plan_laws.proofs.Standing.{sub_stands, right_sides_stand, frames_answer}
 use Rattle.cq_plan_laws.proofs.Passing.{sub_passes}

@@ -1,6 +1,5 @@
 -- EXPLAIN's lines are those of the plan.
-use Rattle.std.proofs.Common.{◌≡◌, ℕ, ◌+◌, List, [], ◌∷◌, ◌++◌, map, filter_map, length, Bool, true, false, cond, Option, None, Some, refl, sym, ap, ◌∙◌}
-use Rattle.std.specs.List.{cons_option}
+use Rattle.std.proofs.Common.{◌≡◌, ℕ, ◌+◌, List, [], ◌∷◌, ◌++◌, map, filter_map, length, Bool, true, false, cond, Option, None, Some, refl, ap, ◌∙◌}
 use Rattle.std.specs.Prelude.{is_some}
 use Rattle.cq_value.specs.declared.value.Value.{Value}
 use Rattle.cq_tree.specs.declared.plan.Planner.{Planner}
@@ -8,7 +7,7 @@ use Rattle.cq_tree.specs.declared.query.FromTree.{FromTree, Table, Sub', Result,
 use Rattle.cq_tree.specs.declared.query.Query.{Query, Query', Row_of-Query}
 use Rattle.cq_tree.specs.declared.query.Query as query
 use Rattle.cq_meaning.specs.Queries.{columns_in}
-use Rattle.cq_meaning.specs.Results.{ins_in, ins_in_from, ins_in_ctes}
+use Rattle.cq_meaning.specs.Results.{ins_in, ins_in_from}
 use Rattle.cq_catalog.specs.Contents.{Contents}
 use Rattle.cq_catalog.specs.Placement.{place_at}
 use Rattle.cq_planning.specs.Conjuncts.{conjuncts, conjuncts_of, equalities}
@@ -35,8 +34,8 @@ use Rattle.cq_one_plan.specs.declared.plan.Plan.TheOpen.{Plan-F}
 use Rattle.cq_one_plan.specs.declared.plan.Part.{Part}
 use Rattle.cq_one_plan.specs.declared.plan.Part.TheVariants.{Stays, Leaves, Asks}
 use Rattle.cq_one_plan.specs.Stays.{leaves_in, leaves_of, leaves_of_all, from_staying, query_staying, lone_query}
-use Rattle.cq_one_plan.specs.Plans.{no_grounds, grounds_of, stays_in, planned_in, staying, leaving, asking, plan_with, lone_plan, part_of_table, parts_of_subquery, key_of, output_of, output_set, plan_of, cte_plans, in_plans, parts_inside, parts_from, whole_plan, first_free, ctes_of, first_in}
-use Rattle.cq_one_plan.specs.Reading.{outline_in, outlines_in, explained_by}
+use Rattle.cq_one_plan.specs.Plans.{no_grounds, grounds_of, stays_in, planned_in, leaving, asking, plan_with, lone_plan, part_of_table, key_of, output_of, output_set, plan_of, cte_plans, in_plans, parts_inside, parts_from, whole_plan, first_free, ctes_of, first_in}
+use Rattle.cq_one_plan.specs.Reading.{outline_in, outlines_in}
 use Rattle.cq_plan_laws.specs.Laws.{PlansExplain}
 
 -- ---- subplans as lists

@@ -1,8 +1,7 @@
 -- The groups that a plan touches are those of its statement.
-use Rattle.std.proofs.Common.{◌≡◌, ℕ, zero, suc, ◌+◌, ◌<◌, ◌≤◌, List, [], ◌∷◌, ◌++◌, map, filter, Bool, true, false, ◌||◌, cond, nat_eq, refl, sym, ap, ◌∙◌, arith}
+use Rattle.std.proofs.Common.{◌≡◌, ℕ, zero, suc, ◌+◌, ◌<◌, ◌≤◌, List, [], ◌∷◌, map, filter, Bool, true, false, ◌||◌, cond, nat_eq, refl, sym, ap, ◌∙◌, arith}
 use Rattle.std.specs.List.{flat_map}
 use Rattle.std.proofs.lemmas.List.Folds.{list_any-append}
-use Rattle.cq_tree.specs.declared.query.Query.{Query}
 use Rattle.cq_meaning.proofs.Reorder.{Reordered, then, turned, kept, none}
 use Rattle.cq_catalog.specs.Contents.{Contents}
 use Rattle.cq_planning.specs.Occurrences.{Occurrence, occurrences_of}
@@ -11,7 +10,7 @@ use Rattle.cq_planning_laws.proofs.GroupLists.{in_order_has, in_order_only}
 use Rattle.cq_outline.specs.Tasking.{Touch, touch_of}
 use Rattle.cq_one_plan.specs.Plans.{whole_plan}
 use Rattle.cq_one_plan.specs.Reading.{touches_in}
-use Rattle.cq_plan_laws.specs.Touching.{IsOutermost, PlansReach}
+use Rattle.cq_plan_laws.specs.Touching.{PlansReach}
 use Rattle.cq_plan_laws.proofs.Touching.{touches_again}
 
 or_swap : (a b d : Bool) → (a || (b || d)) ≡ (b || (a || d))

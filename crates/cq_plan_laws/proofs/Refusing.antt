@@ -1,9 +1,9 @@
 -- A statement is refused by its plan as by its blocks.
-use Rattle.std.proofs.Common.{◌≡◌, ℕ, ◌+◌, List, [], ◌∷◌, ◌++◌, map, filter, filter_map, length, nat_lt, Bool, true, false, not, ◌&&◌, ◌||◌, cond, if◌then◌else◌, Option, None, Some, is_some, ◌⊎◌, inl, inr, refl, sym, ap, subst, ◌∙◌}
+use Rattle.std.proofs.Common.{◌≡◌, ℕ, ◌+◌, List, [], ◌∷◌, ◌++◌, map, filter, filter_map, length, nat_lt, Bool, true, false, not, ◌&&◌, ◌||◌, cond, if◌then◌else◌, Option, None, Some, is_some, inl, inr, refl, sym, ap, subst, ◌∙◌}
 use Rattle.std.specs.List.{list_any}
 use Rattle.std.proofs.lemmas.List.Folds.{list_any-append}
 use Rattle.cq_value.specs.declared.value.Value.{Value}
-use Rattle.cq_value.proofs.Truths.{or_false, or_apart, left_false, right_false}
+use Rattle.cq_value.proofs.Truths.{or_false, or_apart, left_false}
 use Rattle.cq_tree.specs.declared.plan.Planner.{Planner}
 use Rattle.cq_tree.specs.declared.plan.Planner.TheVariants.{FastPath, Router, Pushdown, Repartition, Coordinator}
 use Rattle.cq_tree.specs.declared.query.FromTree.{FromTree, Table, Sub', Result, Cross', Inner', Left', end_of-FromTree, more_of-FromTree, end_of-Query, more_of-Query}
@@ -22,7 +22,7 @@ use Rattle.cq_planning.specs.Joins.{equalities_of, relations_of, are_one_compone
 use Rattle.cq_planning.specs.Narrowing.{given_to, right_sets, sets_in, distribution_in}
 use Rattle.cq_planning.specs.Occurrences.{Occurrence, occurrences_in, occurrences_from, occurrence_of}
 use Rattle.cq_planning.specs.Pushable.{Pushable, pushable, relations, distribution_by}
-use Rattle.cq_planning.specs.Refusals.{is_cut_loosely, refusal_of_query}
+use Rattle.cq_planning.specs.Refusals.{is_cut_loosely}
 use Rattle.cq_planning.specs.Relations as joins
 use Rattle.cq_planning.specs.Relations.{Relation, distribution_at, distributions, is_left_in_block}
 use Rattle.cq_planning.specs.Routing.{are_routed, fits_fast_path, fits_router, is_none_of_them, is_one_value}
@@ -35,7 +35,7 @@ use Rattle.cq_outline.specs.Leaving.{leaves, leaves_subquery, inside}
 use Rattle.cq_outline.specs.Outlines.{table_planner, subquery_planner}
 use Rattle.cq_outline.specs.Tasking.{Touch, touch_of, groups_in, planner_of, is_none_left, leaving_by, parting_by, shares_rows, shown_planner, has_reference}
 use Rattle.cq_one_plan.specs.declared.plan.Grounds.{Grounds}
-use Rattle.cq_one_plan.specs.declared.plan.Plan.{Plan, Plan', roll-Plan, Row_of-Plan, end_of-Plan, more_of-Plan, items-the_row-Plan, items_hidden-the_row-Plan-0}
+use Rattle.cq_one_plan.specs.declared.plan.Plan.{Plan, roll-Plan, Row_of-Plan, end_of-Plan, more_of-Plan, items-the_row-Plan, items_hidden-the_row-Plan-0}
 use Rattle.cq_one_plan.specs.declared.plan.Plan.TheBlock.{hidden-the_row-Plan-0}
 use Rattle.cq_one_plan.specs.declared.plan.Plan.TheOpen.{Plan-F}
 use Rattle.cq_one_plan.specs.declared.plan.Part.{Part}

@@ -1,10 +1,10 @@
 -- What the router takes it takes in each part; and what reads no table has nothing to refuse.
-use Rattle.std.proofs.Common.{◌≡◌, ◌≤◌, ◌<◌, ℕ, ◌+◌, List, [], ◌∷◌, ◌++◌, map, filter, take, length, Bool, true, false, not, ◌&&◌, ◌||◌, nat_eq, nat_lt, cond, Option, None, Some, is_some, ◌⊎◌, inl, inr, refl, sym, ap, ◌∙◌, arith}
+use Rattle.std.proofs.Common.{◌≡◌, ◌≤◌, ℕ, ◌+◌, List, [], ◌∷◌, ◌++◌, map, filter, take, length, Bool, true, false, not, ◌&&◌, ◌||◌, nat_eq, nat_lt, cond, Option, None, Some, is_some, ◌⊎◌, inl, inr, refl, sym, ap, ◌∙◌, arith}
 use Rattle.std.specs.List.{list_any, list_all, flat_map, AllByRecursion}
 use Rattle.std.proofs.lemmas.List.Folds.{list_any-append, list_all-append}
 use Rattle.std.proofs.lemmas.List.Elements.{filter-append}
 use Rattle.std.proofs.lemmas.List.Concat.{flat_map-append}
-use Rattle.cq_value.proofs.Truths.{and_both, and_left, and_right, both_true, left_false, right_false, or_true, same_number, two_ways}
+use Rattle.cq_value.proofs.Truths.{and_both, and_left, and_right, both_true, left_false, right_false, or_true, same_number}
 use Rattle.cq_value.specs.declared.value.Value.{Value}
 use Rattle.cq_tree.specs.declared.query.FromTree.{FromTree, Table, Sub', Result, Cross', Inner', Left', end_of-FromTree, more_of-FromTree, end_of-Query, more_of-Query}
 use Rattle.cq_tree.specs.declared.query.Query.{Query, Query'}
@@ -15,11 +15,11 @@ use Rattle.cq_planning.specs.Blocks.{is_taken_whole}
 use Rattle.cq_planning.specs.Classes.{first_of_class}
 use Rattle.cq_planning.specs.Components.{is_loose}
 use Rattle.cq_planning.specs.Conjuncts.{conjuncts, conjuncts_of, equalities}
-use Rattle.cq_planning.specs.Joins.{equalities_of, relations_of, plain_in, are_one_component, has_several_components, are_connected, needs_repartition, lacks_equality, has_loose_join}
+use Rattle.cq_planning.specs.Joins.{equalities_of, relations_of, are_one_component, has_several_components, are_connected, needs_repartition, lacks_equality, has_loose_join}
 use Rattle.cq_planning.specs.Narrowing.{given_to, right_sets, sets_in, distribution_in}
-use Rattle.cq_planning.specs.Occurrences.{Occurrence, occurrences_in, occurrences_from, occurrence_of}
+use Rattle.cq_planning.specs.Occurrences.{Occurrence, occurrences_in, occurrences_from}
 use Rattle.cq_planning.specs.Pushable.{pushable, pushable_over, relations, distribution_by}
-use Rattle.cq_planning.specs.Relations.{OuterJoin, Relation, is_distributed, is_right, is_plain, is_left_in_block, has_distributed_left, distribution_of, distributions, distribution_at}
+use Rattle.cq_planning.specs.Relations.{OuterJoin, Relation, is_distributed, is_right, is_plain, is_left_in_block, has_distributed_left, distribution_of, distributions}
 use Rattle.cq_planning.specs.Routing.{distributed_of, are_of_one_colocation, groups_of_all, are_routed, fits_fast_path, fits_router, is_distributed_place}
 use Rattle.cq_planning.specs.Touched.{among, in_order, groups_of, numbers}
 use Rattle.cq_planning.specs.ValueSets.{ValueSet, value_set}

@@ -8,7 +8,7 @@ use Rattle.cq_tree.specs.declared.query.FromTree.{FromTree, Table, Sub', Result,
 use Rattle.cq_tree.specs.declared.query.Query.{Query, Query', Row_of-Query}
 use Rattle.cq_tree.specs.declared.query.Query as query
 use Rattle.cq_meaning.specs.Queries.{columns_in}
-use Rattle.cq_meaning.specs.Results.{ins_in, ins_in_from, ins_in_ctes}
+use Rattle.cq_meaning.specs.Results.{ins_in, ins_in_from}
 use Rattle.cq_meaning.proofs.Reorder.{Reordered, then, same, permuted, behind, before, swapped}
 use Rattle.cq_meaning_laws.proofs.SortLaws.{back}
 use Rattle.cq_catalog.specs.Contents.{Contents}
@@ -18,7 +18,7 @@ use Rattle.cq_planning.specs.ValueSets.{ValueSet, value_set}
 use Rattle.cq_planning.specs.Relations.{OuterJoin, Relation, distribution_at}
 use Rattle.cq_planning.specs.Pushable.{Pushable, pushable, relations, distribution_by}
 use Rattle.cq_planning.specs.Narrowing.{distribution_in, right_sets, sets_in, given_to}
-use Rattle.cq_planning.specs.Occurrences.{Occurrence, occurrence_of, occurrences_from, occurrences_in, ins_of, ins_of_from, ins_of_all, with_ins, all_with_ins, blocks_of, occurrences_of}
+use Rattle.cq_planning.specs.Occurrences.{Occurrence, occurrence_of, occurrences_from, occurrences_in, ins_of, ins_of_from, ins_of_all, with_ins, all_with_ins, occurrences_of}
 use Rattle.cq_outline.specs.declared.joining.Joined.{Joined}
 use Rattle.cq_outline.specs.Joining.{nothing_joined}
 use Rattle.cq_outline.specs.declared.outline.Leaving.{Leaving}

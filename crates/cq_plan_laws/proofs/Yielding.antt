@@ -1,24 +1,19 @@
 -- All rows that a plan yields over captures are answers of its statement.
-use Rattle.std.proofs.Common.{◌≡◌, ◌+◌, ℕ, List, [], ◌∷◌, map, length, true, refl, sym, ap, subst, ◌∙◌, Some, None}
-use Rattle.std.specs.List.{AllByRecursion}
+use Rattle.std.proofs.Common.{◌≡◌, ◌+◌, List, [], ◌∷◌, map, refl, sym, ap, subst, ◌∙◌}
 use Rattle.cq_tree.specs.declared.plan.Combine.{Combine}
-use Rattle.cq_tree.specs.declared.plan.Combine.TheVariants.{Nothing}
-use Rattle.cq_tree.specs.declared.plan.Task.{Task}
 use Rattle.cq_tree.specs.declared.query.Query.{Query, Query'}
-use Rattle.cq_tree.specs.declared.statement.Statement.TheVariants as statement
 use Rattle.cq_meaning.specs.Values.{Row, Results, Tables, result_at}
 use Rattle.cq_meaning.specs.Queries.{AnswersWith}
 use Rattle.cq_meaning.specs.Results.{Answers}
 use Rattle.cq_catalog.specs.Contents.{Contents}
 use Rattle.cq_planning.specs.Database.{Held, whole}
-use Rattle.cq_planning.specs.Touched.{touched}
 use Rattle.cq_planning_laws.proofs.Statements.{table_wide, untouched_free}
 use Rattle.cq_pushdown_laws.specs.Tables.{task_tables}
 use Rattle.cq_one_plan.specs.declared.plan.Plan.{Plan, Plan', roll-Plan, Row_of-Plan, end_of-Plan, more_of-Plan}
 use Rattle.cq_one_plan.specs.declared.plan.Plan.TheOpen.{Plan-F}
 use Rattle.cq_one_plan.specs.Stays.{leaves_of}
 use Rattle.cq_one_plan.specs.Plans.{whole_plan, first_free}
-use Rattle.cq_one_plan.specs.Yields.{GivesFrom, IsDone, AreDone, Yields, read_by, number_of}
+use Rattle.cq_one_plan.specs.Yields.{GivesFrom, IsDone, AreDone, read_by, number_of}
 use Rattle.cq_plan_laws.specs.Composing.{IsAnswered, AreAnswered}
 use Rattle.cq_plan_laws.specs.Yielding.{AllServe, EachServes, BlocksServe, PlansYield}
 use Rattle.cq_plan_laws.proofs.Blocks.{one_task_serves, no_task_serves, group_tasks_serve, one_answer}

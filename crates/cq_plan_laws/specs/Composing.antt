@@ -1,5 +1,5 @@
 -- A plan whose blocks are answered answers its statement.
-use Rattle.std.specs.Prelude.{◌≡◌, ◌+◌, ℕ, List, length, ⊤}
+use Rattle.std.specs.Prelude.{◌≡◌, ◌+◌, ℕ, length, ⊤}
 use Rattle.std.specs.List.{AllByRecursion}
 use Rattle.cq_tree.specs.declared.query.Query.{Query}
 use Rattle.cq_meaning.specs.Values.{Row, Results, Tables, table_rows, result_at}

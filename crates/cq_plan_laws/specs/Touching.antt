@@ -1,5 +1,5 @@
 -- What a plan touches.
-use Rattle.std.specs.Prelude.{◌≡◌, ⊤, ℕ, List, [], map, true}
+use Rattle.std.specs.Prelude.{◌≡◌, ⊤, map, true}
 use Rattle.std.specs.List.Sorted.{IsPermutation}
 use Rattle.cq_tree.specs.declared.query.FromTree.{FromTree, Table, Sub', Result, Cross', Inner', Left', end_of-FromTree, more_of-FromTree, end_of-Query, more_of-Query}
 use Rattle.cq_tree.specs.declared.query.Query.{Query, Query', Row_of-Query}

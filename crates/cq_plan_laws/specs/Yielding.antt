@@ -1,10 +1,10 @@
 -- All rows that a plan yields over captures are answers of its statement, where its blocks' tasks serve for their queries.
-use Rattle.std.specs.Prelude.{◌≡◌, ◌≤◌, ◌+◌, ⊤, ℕ, List, [], ◌∷◌, map, length, true}
+use Rattle.std.specs.Prelude.{◌≡◌, ◌≤◌, ⊤, ℕ, List, [], ◌∷◌, map, length, true}
 use Rattle.std.specs.List.{AllByRecursion}
 use Rattle.cq_tree.specs.declared.plan.Combine.{Combine}
 use Rattle.cq_tree.specs.declared.plan.Combine.TheVariants.{Nothing}
 use Rattle.cq_tree.specs.declared.plan.Planner.{Planner}
-use Rattle.cq_tree.specs.declared.plan.Planner.TheVariants.{FastPath, Router, Pushdown, Repartition, Coordinator}
+use Rattle.cq_tree.specs.declared.plan.Planner.TheVariants.{FastPath, Router, Pushdown, Coordinator}
 use Rattle.cq_tree.specs.declared.plan.Task.{Task}
 use Rattle.cq_tree.specs.declared.query.Query.{Query}
 use Rattle.cq_tree.specs.declared.statement.Statement.TheVariants as statement
@@ -19,7 +19,7 @@ use Rattle.cq_planning.specs.Database.{Held, CanHold, whole}
 use Rattle.cq_planning.specs.Joins.{plain_in}
 use Rattle.cq_planning.specs.Reaching.{IsAscendingFrom}
 use Rattle.cq_planning.specs.Touched.{among, touched}
-use Rattle.cq_planning_laws.specs.Laid.{IsLaid, IsLaidStatement}
+use Rattle.cq_planning_laws.specs.Laid.{IsLaidStatement}
 use Rattle.cq_outline.specs.declared.joining.Joined.{Joined}
 use Rattle.cq_outline.specs.Tasking.{Touch, first_column, shares_rows, combine_by}
 use Rattle.cq_pushdown_laws.specs.Laws.{AreWide}
@@ -27,9 +27,9 @@ use Rattle.cq_pushdown_laws.specs.Pushed.{is_pushed}
 use Rattle.cq_pushdown_laws.specs.Tables.{task_tables}
 use Rattle.cq_one_plan.specs.declared.plan.Plan.{Plan, Plan', Row_of-Plan, end_of-Plan, more_of-Plan}
 use Rattle.cq_one_plan.specs.Plans.{whole_plan}
-use Rattle.cq_one_plan.specs.Yields.{GivesBy, IsDone, Yields, reads_of}
+use Rattle.cq_one_plan.specs.Yields.{GivesBy, Yields, reads_of}
 use Rattle.cq_plan_laws.specs.Blocks.{IsBlock, groups_for, query_reads_none}
-use Rattle.cq_plan_laws.specs.Composing.{IsAnswered, IsSound}
+use Rattle.cq_plan_laws.specs.Composing.{IsSound}
 use Rattle.cq_plan_laws.specs.Scoping.{IsScoped}
 
 module _ (c : Contents) (held : Held) (rs : Results) where
