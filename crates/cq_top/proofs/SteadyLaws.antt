@@ -25,7 +25,7 @@ module _ {X : Type 0} (state : X → StoreState) (entry : List (Worker X)) where
   idle_steady : AreIdle state entry → (place : ℕ) → IsSteadyPlace state entry place → WorkersAreSteady state (place + 1) entry
   idle_steady idle place at = all_got (λ (w : Worker X). AreSteady state (place + 1) w.stores.items) entry (λ k w s. elim (eqb_tells k place) [
     | inl y ↦
-        let same : at.worker ≡ w = (let e : Some at.worker ≡ Some w = sym (subst (λ n. slice_get entry n ≡ Some w) y.1 s ∙ sym at.there) in cc) in
+        let same : at.worker ≡ w = (let e : Some at.worker ≡ Some w = sym at.there ∙ subst (λ n. slice_get entry n ≡ Some w) y.1 s in cc) in
         subst (λ (v : Worker X). AreSteady state (place + 1) v.stores.items) same (all_weaker (λ (x : X). IsTrue (state x).steady) (λ (x : X). (state x).node ≡ place + 1 → IsTrue (state x).steady) (λ x t e. t) at.worker.stores.items at.steady)
     | inr z ↦
         all_weaker (λ (x : X). IsWaiting (k + 1) (state x)) (λ (x : X). (state x).node ≡ place + 1 → IsTrue (state x).steady) (λ x waits e. let node = waits.of_node in absurd (z.1 (omega (arith, node, e)))) w.stores.items
