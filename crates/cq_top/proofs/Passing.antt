@@ -9,12 +9,12 @@ use Rattle.cq_script.specs.Streams.{SinkState, PutRefused}
 use Rattle.cq_words.specs.declared.settled.Settled.{Settled}
 use Rattle.cq_top.specs.declared.stop.Stop.{Stop}
 use Rattle.cq_top.specs.declared.stop.Stop.TheVariants as stops
-use Rattle.cq_top.specs.Outputs.{stop_by}
+use Rattle.cq_top.specs.Outputs.{stop_by, texts}
 use Rattle.cq_top.specs.Scripts.{AnswersFirst}
 use Rattle.cq_top.specs.Serving.{KeepsSink, BlamesSink, IsCalm, IsCutOff, HaltsBy, StopsAmong, ShowsMore, ShowsBy}
 use Rattle.cq_top.proofs.Answering.{may_fail_same}
 use Rattle.cq_top.proofs.RunLaws.{blames_cut}
-use Rattle.cq_top.proofs.Showing.{shows_whole_part}
+use Rattle.cq_top.proofs.Showing.{part_whole}
 
 pub on_ok : {T E : Type 0} (P : Type 0) (r : Result T E) → P → OnOk r P
 on_ok P (Ok x) p = p
@@ -64,7 +64,7 @@ pub passed_shows : (s : Settled) (old mid new : SinkState) (answers more : List 
 passed_shows s old mid new answers more e f = λ before shown. e ∙ f before shown
 
 pub cut_shows : (s : Settled) (stop : Stop) (old new : SinkState) (answers more : List Answered) → IsCutOff stop → ShowsMore s old new answers more → ShowsBy s stop old new answers more
-cut_shows s stops.WriteFault old new answers more c f = shows_whole_part s old new answers more f
-cut_shows s stops.Memory old new answers more c f = shows_whole_part s old new answers more f
+cut_shows s stops.WriteFault old new answers more c f = λ before shown. (texts s.csv more, f before shown, part_whole s.csv more)
+cut_shows s stops.Memory old new answers more c f = λ before shown. (texts s.csv more, f before shown, part_whole s.csv more)
 cut_shows s stops.Statements old new answers more c f = f
 cut_shows s stops.Stopped old new answers more c f = f
