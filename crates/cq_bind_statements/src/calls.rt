@@ -1,10 +1,10 @@
 ghost use Rattle.std.specs.Prelude.{◌≡◌, None, false, IfOk};
 ghost use Rattle.cq_value.specs.declared.schema.With.TheVariants as with;
 ghost use Rattle.cq_reading.specs.Outcomes.{Judges};
-ghost use Rattle.cq_reading.specs.Steps.{through, give, ◌then◌};
-ghost use Rattle.cq_tree.specs.declared.statement.Statement.TheVariants.{Reference, Rebalance, RebalancePlan};
-ghost use Rattle.cq_bind_statements.specs.Options.{with_count as with_count_in, strategy_named as strategy_named_in};
-ghost use Rattle.cq_reading.specs.Statements.{text_of as text_in, number_in as number_of_literal, place_of_literal as place_in, argument_at as argument_in, with_of as with_in, with_option as with_option_in, with_argument as with_argument_in, distribution as distribution_in, small_number as small_number_in, moving as moving_in, strategy_of as strategy_in, with_strategy as with_strategy_in, call as call_in};
+ghost use Rattle.cq_reading.specs.Steps.{give, ◌then◌};
+ghost use Rattle.cq_tree.specs.declared.statement.Statement.TheVariants.{Rebalance, RebalancePlan};
+ghost use Rattle.cq_bind_statements.specs.Options.{with_count as with_count_in};
+ghost use Rattle.cq_reading.specs.Statements.{text_of as text_in, number_in as number_of_literal, place_of_literal as place_in, argument_at as argument_in, with_of as with_in, with_argument as with_argument_in, with_arguments as with_arguments_in, no_option as no_option_in, distribution_option as distribution_option_in, distribution as distribution_in, reference as reference_in, small_number as small_number_in, moving as moving_in, strategy_of as strategy_in, rebalance_option as rebalance_option_in, call as call_in};
 
 use cq_grammar::{Argument, Literal, Name};
 use cq_reading::{BindError, Options};
@@ -73,11 +73,32 @@ fn small_number(arguments: &Items<Argument>, i: u64) -> Result<u32, BindError>
     }
 }
 
+/// What an argument says to a call that knows no name: nothing. `Err`: 12 at its name.
+fn without_name(argument: &Argument) -> Result<(), BindError>
+    ensures { Judges (with_argument_in no_option_in tt argument.now) result }
+{
+    match &argument.name {
+        Some(unknown) => Err(BindError::Unknown { at: unknown.at }),
+        None => Ok(()),
+    }
+}
+
+/// Checks the arguments of a call that knows no name. `Err`: 12 at the first name.
+fn check_unnamed(arguments: &[Argument]) -> Result<(), BindError>
+    ensures { Judges (with_arguments_in no_option_in arguments.now tt) result }
+{
+    for argument in arguments {
+        without_name(argument)?;
+    }
+    Ok(())
+}
+
 fn moving(arguments: &Items<Argument>) -> Result<Statement, BindError>
     ensures { Judges (moving_in arguments.now) result }
 {
     let from = small_number(arguments, 1)?;
     let to = small_number(arguments, 2)?;
+    check_unnamed(arguments.as_slice())?;
     Ok(Statement::Move {
         shard: number_at(arguments, 0),
         from,
@@ -133,7 +154,7 @@ fn with_option(
     name: &Name,
     value: &Literal,
 ) -> Result<Options, BindError>
-    ensures { Judges (with_option_in options name.now.text name.now.at value.now) result }
+    ensures { Judges (distribution_option_in options name.now value.now) result }
 {
     if name.text.as_str() == "shard_count" {
         with_count(options, value)
@@ -145,7 +166,7 @@ fn with_option(
 }
 
 fn with_argument(alloc: Global, options: Options, argument: &Argument) -> Result<Options, BindError>
-    ensures { Judges (with_argument_in options argument.now) result }
+    ensures { Judges (with_argument_in distribution_option_in options argument.now) result }
 {
     match &argument.name {
         Some(name) => with_option(alloc, options, name, &argument.value),
@@ -154,7 +175,7 @@ fn with_argument(alloc: Global, options: Options, argument: &Argument) -> Result
 }
 
 fn options_of(alloc: Global, arguments: &[Argument]) -> Result<Options, BindError>
-    ensures { Judges (through with_argument_in arguments.now (record { count = None; with = with.Default })) result }
+    ensures { Judges (with_arguments_in distribution_option_in arguments.now (record { count = None; with = with.Default })) result }
 {
     let mut options = Options {
         count: None,
@@ -180,9 +201,10 @@ fn distribution(alloc: Global, arguments: &Items<Argument>) -> Result<Statement,
     })
 }
 
-fn reference(alloc: Global, arguments: &Items<Argument>) -> Result<Statement, NoMemory>
-    ensures { IfOk result (λ s. s ≡ Reference (text_in (argument_in arguments.now 0))) }
+fn reference(alloc: Global, arguments: &Items<Argument>) -> Result<Statement, BindError>
+    ensures { Judges (reference_in arguments.now) result }
 {
+    check_unnamed(arguments.as_slice())?;
     Ok(Statement::Reference {
         table: text_at(alloc, arguments, 0)?,
     })
@@ -201,27 +223,19 @@ fn strategy_of(value: &Literal) -> Result<bool, BindError>
     }
 }
 
-fn strategy_named(name: &Name, value: &Literal) -> Result<bool, BindError>
-    ensures { Judges (strategy_named_in name.now value.now) result }
-{
-    if name.text.as_str() == "rebalance_strategy" {
-        strategy_of(value)
-    } else {
-        Err(BindError::Unknown { at: name.at })
-    }
-}
-
+/// Whether moves go by the size of rows, behind this argument. `Err`: 12 where there is no option or strategy of the name.
 fn with_strategy(by_size: bool, argument: &Argument) -> Result<bool, BindError>
-    ensures { Judges (with_strategy_in by_size argument.now) result }
+    ensures { Judges (with_argument_in rebalance_option_in by_size argument.now) result }
 {
     match &argument.name {
-        Some(name) => strategy_named(name, &argument.value),
+        Some(name) if name.text.as_str() == "rebalance_strategy" => strategy_of(&argument.value),
+        Some(name) => Err(BindError::Unknown { at: name.at }),
         None => Ok(by_size),
     }
 }
 
 fn by_size(arguments: &[Argument]) -> Result<bool, BindError>
-    ensures { Judges (through with_strategy_in arguments.now false) result }
+    ensures { Judges (with_arguments_in rebalance_option_in arguments.now false) result }
 {
     let mut by_size = false;
     for argument in arguments {
@@ -231,20 +245,21 @@ fn by_size(arguments: &[Argument]) -> Result<bool, BindError>
 }
 
 fn rebalance(arguments: &Items<Argument>) -> Result<Statement, BindError>
-    ensures { Judges (through with_strategy_in arguments.now false then (λ b. give (Rebalance b))) result }
+    ensures { Judges (with_arguments_in rebalance_option_in arguments.now false then (λ b. give (Rebalance b))) result }
 {
     let by_size = by_size(arguments.as_slice())?;
     Ok(Statement::Rebalance { by_size })
 }
 
 fn rebalance_plan(arguments: &Items<Argument>) -> Result<Statement, BindError>
-    ensures { Judges (through with_strategy_in arguments.now false then (λ b. give (RebalancePlan b))) result }
+    ensures { Judges (with_arguments_in rebalance_option_in arguments.now false then (λ b. give (RebalancePlan b))) result }
 {
     let by_size = by_size(arguments.as_slice())?;
     Ok(Statement::RebalancePlan { by_size })
 }
 
-/// A call of a function. `Err`: 12 where there is no such option or strategy, 10 where a number is out of its range, and 24.
+/// A call of a function. `Err`: 12 at the first name that it doesn't know, or where there is no such strategy, 10 where a number is out
+/// of its range, and 24.
 pub fn call(
     alloc: Global,
     function: &Name,
@@ -255,7 +270,7 @@ pub fn call(
     if function.text.as_str() == "create_distributed_table" {
         distribution(alloc, arguments)
     } else if function.text.as_str() == "create_reference_table" {
-        Ok(reference(alloc, arguments)?)
+        reference(alloc, arguments)
     } else if function.text.as_str() == "citus_move_shard_placement" {
         moving(arguments)
     } else if function.text.as_str() == "rebalance_table_shards" {

@@ -326,7 +326,7 @@ get_filtered p (y ∷ ys) i x h = elim (two_ways (p y)) [
     behind y ys zs x more zero h = (0, h)
     behind y ys zs x more (suc i) h = let r = more i h in (suc r.0, r.1)
 
-get_left : (zs ys : List Answered) (i : ℕ) (x : Answered) → slice_get zs i ≡ Some x → slice_get (zs ++ ys) i ≡ Some x
+pub get_left : (zs ys : List Answered) (i : ℕ) (x : Answered) → slice_get zs i ≡ Some x → slice_get (zs ++ ys) i ≡ Some x
 get_left [] ys i x h = cc
 get_left (z ∷ zs) ys zero x h = h
 get_left (z ∷ zs) ys (suc i) x h = get_left zs ys i x h

@@ -1,5 +1,5 @@
 -- The statements of a script, in order: each one's deed keeps what holds between two statements.
-use Rattle.std.proofs.Common.{zero, suc, ne_eqb, ◌≡◌, ◌+◌, ◌<◌, ◌≤◌, inl, inr, ℕ, true, false, List, [], ◌∷◌, ◌++◌, length, filter, map, refl, sym, ◌∙◌, ap, subst, arith, Some, None, Option, append-nil, length-append, eq-eqb}
+use Rattle.std.proofs.Common.{zero, suc, ne_eqb, ◌≡◌, ◌+◌, ◌<◌, ◌≤◌, inl, inr, ℕ, true, false, List, [], ◌∷◌, ◌++◌, length, filter, map, refl, sym, ◌∙◌, ap, subst, arith, Some, None, Option, append-nil, append_assoc, length-append, eq-eqb}
 use Rattle.std.specs.Prelude.{nat_eq, not}
 use Rattle.std.specs.List.{AllByRecursion}
 use Rattle.std.proofs.lemmas.Bool.{eqb-true}
@@ -22,8 +22,9 @@ use Rattle.cq_history.specs.Journals.{journal_in, Kinds, none, with_entries}
 use Rattle.cq_history.specs.Legality.{IsLegal}
 use Rattle.cq_history.specs.Standing.{Stands}
 use Rattle.cq_history.specs.Deeds.{Deed, Phase, alone, Does, IsFresh, Grows, MayCome, Visits, deed_over}
-use Rattle.cq_history.specs.Log.{IsLaidOut, IsWhole, IsDone, AllDone, StandsAmong, AllStand, Era, no_era, IsConsistentIn, IsConsistent, IsAnsweredIn, IsAnswered, IsSession, IsPhase, phase_of, next_who, answered_by}
-use Rattle.cq_history.specs.Laws.{LogBegins, EraGoesOn, AnswersGoOn, IdleIsAnswered, DeedIsAnswered, idle, look_at, StaysLaidOut, LogStands, DoneStands}
+use Rattle.cq_history.specs.Log.{IsLaidOut, IsWhole, IsDone, AllDone, StandsAmong, AllStand, Era, no_era, joined, last_of, IsConsistentIn, IsConsistent, AreConsistent, IsAnsweredIn, IsAnswered, IsSession, IsPhase, phase_of, next_who, answered_by}
+use Rattle.cq_history.specs.Laws.{LogBegins, EraGoesOn, ErasAnswer, AnswersGoOn, IdleIsAnswered, DeedIsAnswered, idle, look_at, StaysLaidOut, LogStands, DoneStands}
+use Rattle.cq_history.proofs.Eras.{eras_go_on}
 use Rattle.cq_history.proofs.Entries.{index_beyond, with_list}
 use Rattle.cq_history.proofs.Deeds.{deeds_stand}
 use Rattle.cq_history.proofs.Visiting.{made_who, grows_visits, laid_same}
@@ -186,3 +187,12 @@ era_goes_on rules run before all e next answers old new bound a c w =
 
 pub answers_go_on : AnswersGoOn
 answers_go_on rules run e next answers old new bound a c w = era_goes_on rules run no_era answers e next answers old new bound a c w
+
+pub eras_answer : ErasAnswer
+eras_answer rules run eras e next answers old new bound a c w =
+    let all = joined eras ++ answers in
+    let last = last_of no_era eras in
+    let b = answered_by (next_who all) e bound a in
+    subst (λ (v : Environment). AreConsistent rules run eras v (answers ++ b ∷ []) new) w.leads
+    ((eras_go_on rules run eras e answers (b ∷ []) (0 ∷ []) old new c (is_phase rules run last all e next answers old new bound a c.present w)).1
+    (subst AreComplete (append_assoc (joined eras) answers (b ∷ [])) (complete rules run last all e next answers old new bound a c.present w)))

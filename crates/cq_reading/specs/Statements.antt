@@ -353,23 +353,35 @@ argument_at arguments i = literal_in (slice_get arguments i)
 abbrev pub with_of : List ℕ → With
 with_of text = if bytes_eq text (codes "none") then with.Alone else (if bytes_eq text (codes "default") then with.Default else with.Table text)
 
-abbrev pub with_option : Options → List ℕ → ℕ → Literal → Reading Options
-with_option o name at v =
-    if bytes_eq name (codes "shard_count")
-    then provided (nat_lt (number_in v) (2 ^ 32)) (error.OutOfRange (pos (number_in v)) (pos 1) (pos 128)) (give (record { count = Some (number_in v); with = o.with }))
-    else (if bytes_eq name (codes "colocate_with") then give (record { count = o.count; with = with_of (text_of v) }) else refuse (error.Unknown at))
-
-abbrev pub with_argument : Options → Argument → Reading Options
-with_argument o a = option_by o a.name a.value
+-- An argument with a name: `option`, the call's own, takes the name and the value or refuses them. One without a name adds nothing
+abbrev pub with_argument : {S : Type 0} → (S → Name → Literal → Reading S) → S → Argument → Reading S
+with_argument option s a = option_by option s a.name a.value
   where
-    option_by : Options → Option Name → Literal → Reading Options
-    option_by o None v = give o
-    option_by o (Some name) v = with_option o name.text name.at v
+    option_by : {S : Type 0} → (S → Name → Literal → Reading S) → S → Option Name → Literal → Reading S
+    option_by option s None v = give s
+    option_by option s (Some name) v = option s name v
+
+-- the arguments of a call from left to right
+abbrev pub with_arguments : {S : Type 0} → (S → Name → Literal → Reading S) → List Argument → S → Reading S
+with_arguments option arguments s = through (with_argument option) arguments s
+
+-- the option of a call that knows no name
+abbrev pub no_option : Unit {0} → Name → Literal → Reading (Unit {0})
+no_option u name v = refuse (error.Unknown name.at)
+
+abbrev pub distribution_option : Options → Name → Literal → Reading Options
+distribution_option o name v =
+    if bytes_eq name.text (codes "shard_count")
+    then provided (nat_lt (number_in v) (2 ^ 32)) (error.OutOfRange (pos (number_in v)) (pos 1) (pos 128)) (give (record { count = Some (number_in v); with = o.with }))
+    else (if bytes_eq name.text (codes "colocate_with") then give (record { count = o.count; with = with_of (text_of v) }) else refuse (error.Unknown name.at))
 
 abbrev pub distribution : List Argument → Reading Statement
 distribution arguments =
-    through with_argument arguments (record { count = None; with = with.Default }) then (λ o.
+    with_arguments distribution_option arguments (record { count = None; with = with.Default }) then (λ o.
     give (statement.Distribute (text_of (argument_at arguments 0)) (text_of (argument_at arguments 1)) o.count o.with))
+
+abbrev pub reference : List Argument → Reading Statement
+reference arguments = with_arguments no_option arguments tt then (λ u. give (statement.Reference (text_of (argument_at arguments 0))))
 
 abbrev pub small_number : Literal → Reading ℕ
 small_number v = provided (nat_lt (number_in v) (2 ^ 32)) (error.OutOfRange (pos (number_in v)) (pos 0) (pos 4294967295)) (give (number_in v))
@@ -377,7 +389,7 @@ small_number v = provided (nat_lt (number_in v) (2 ^ 32)) (error.OutOfRange (pos
 abbrev pub moving : List Argument → Reading Statement
 moving arguments =
     small_number (argument_at arguments 1) then (λ from. small_number (argument_at arguments 2) then (λ to.
-    give (statement.Move (number_in (argument_at arguments 0)) from to)))
+    with_arguments no_option arguments tt then (λ u. give (statement.Move (number_in (argument_at arguments 0)) from to))))
 
 -- the strategy: by the number of shards, or by the size of their rows
 abbrev pub strategy_of : Literal → Reading Bool
@@ -385,20 +397,16 @@ strategy_of v =
     if bytes_eq (text_of v) (codes "by_disk_size") then give true
     else (if bytes_eq (text_of v) (codes "by_shard_count") then give false else refuse (error.Unknown (place_of_literal v)))
 
-abbrev pub with_strategy : Bool → Argument → Reading Bool
-with_strategy by_size a = strategy_by by_size a.name a.value
-  where
-    strategy_by : Bool → Option Name → Literal → Reading Bool
-    strategy_by by_size None v = give by_size
-    strategy_by by_size (Some name) v = if bytes_eq name.text (codes "rebalance_strategy") then strategy_of v else refuse (error.Unknown name.at)
+abbrev pub rebalance_option : Bool → Name → Literal → Reading Bool
+rebalance_option by_size name v = if bytes_eq name.text (codes "rebalance_strategy") then strategy_of v else refuse (error.Unknown name.at)
 
 abbrev pub call : Name → List Argument → Reading Statement
 call function arguments =
     if bytes_eq function.text (codes "create_distributed_table") then distribution arguments
-    else (if bytes_eq function.text (codes "create_reference_table") then give (statement.Reference (text_of (argument_at arguments 0)))
+    else (if bytes_eq function.text (codes "create_reference_table") then reference arguments
     else (if bytes_eq function.text (codes "citus_move_shard_placement") then moving arguments
-    else (if bytes_eq function.text (codes "rebalance_table_shards") then (through with_strategy arguments false then (λ b. give (statement.Rebalance b)))
-    else (through with_strategy arguments false then (λ b. give (statement.RebalancePlan b))))))
+    else (if bytes_eq function.text (codes "rebalance_table_shards") then (with_arguments rebalance_option arguments false then (λ b. give (statement.Rebalance b)))
+    else (with_arguments rebalance_option arguments false then (λ b. give (statement.RebalancePlan b))))))
 
 -- ---- the whole
 

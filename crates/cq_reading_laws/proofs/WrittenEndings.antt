@@ -118,21 +118,27 @@ setting_plain space name v =
 distribution_plain : (arguments : List Argument) → Ends IsPlain (st.distribution arguments)
 distribution_plain arguments = then_ends IsPlain _ _ (λ o. given IsPlain _ tt)
 
+reference_plain : (arguments : List Argument) → Ends IsPlain (st.reference arguments)
+reference_plain arguments = then_ends IsPlain _ _ (λ u. given IsPlain _ tt)
+
 moving_plain : (arguments : List Argument) → Ends IsPlain (st.moving arguments)
 moving_plain arguments =
     let shard = st.number_in (st.argument_at arguments 0) in
     let moved : ℕ → ℕ → Statement = λ from to. statement.Move shard from to in
-    let last = λ (from : ℕ). st.small_number (st.argument_at arguments 2) then (λ (to : ℕ). give (moved from to)) in
+    let named = st.with_arguments st.no_option arguments tt in
+    let rest : ℕ → ℕ → Reading Statement = λ from to. named then (λ u. give (moved from to)) in
+    let last = λ (from : ℕ). st.small_number (st.argument_at arguments 2) then (λ (to : ℕ). rest from to) in
     then_ends IsPlain (st.small_number (st.argument_at arguments 1)) last
-    (λ from. then_ends IsPlain (st.small_number (st.argument_at arguments 2)) (λ to. give (moved from to)) (λ to. given IsPlain (moved from to) tt))
+    (λ from. then_ends IsPlain (st.small_number (st.argument_at arguments 2)) (rest from)
+    (λ to. then_ends IsPlain named (λ u. give (moved from to)) (λ u. given IsPlain (moved from to) tt)))
 
-rebalance_plain : (arguments : List Argument) (make : Bool → Statement) → ((b : Bool) → IsPlain (make b)) → Ends IsPlain (through st.with_strategy arguments false then (λ b. give (make b)))
+rebalance_plain : (arguments : List Argument) (make : Bool → Statement) → ((b : Bool) → IsPlain (make b)) → Ends IsPlain (st.with_arguments st.rebalance_option arguments false then (λ b. give (make b)))
 rebalance_plain arguments make h = then_ends IsPlain _ _ (λ b. given IsPlain _ (h b))
 
 call_plain : (function : Name) (arguments : List Argument) → Ends IsPlain (st.call function arguments)
 call_plain function arguments =
     if_ends IsPlain (bytes_eq function.text (codes "create_distributed_table")) _ _ (distribution_plain arguments)
-    (if_ends IsPlain (bytes_eq function.text (codes "create_reference_table")) _ _ (given IsPlain (statement.Reference (st.text_of (st.argument_at arguments 0))) tt)
+    (if_ends IsPlain (bytes_eq function.text (codes "create_reference_table")) _ _ (reference_plain arguments)
     (if_ends IsPlain (bytes_eq function.text (codes "citus_move_shard_placement")) _ _ (moving_plain arguments)
     (if_ends IsPlain (bytes_eq function.text (codes "rebalance_table_shards")) _ _ (rebalance_plain arguments statement.Rebalance (λ b. tt))
     (rebalance_plain arguments statement.RebalancePlan (λ b. tt)))))

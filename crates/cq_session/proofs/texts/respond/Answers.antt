@@ -8,7 +8,7 @@ use Rattle.cq_cluster.specs.Cluster.{run_of}
 use Rattle.cq_cluster.proofs.AnswerLaws.{other_is_accounted}
 use Rattle.cq_cluster.specs.Accounts.{Retires}
 use Rattle.cq_coordinator.proofs.Naming.{none_retired}
-use Rattle.cq_session.proofs.Naming.{unread_named, unread_names_none}
+use Rattle.cq_session.proofs.Naming.{unread_named, unread_names_none, unread_is_of_reading}
 use Rattle.cq_session.proofs.Copies.{computable_with, no_data_with, answered_with, accounted_with, retires_with, tagged_is, failed_is_tagged}
 use Rattle.cq_session.proofs.ReadingLaws.{bound_ok, bound_err}
 use Rattle.cq_session.specs.Responses.{tagged, is_copy, reading_with, IsTagged}
@@ -61,6 +61,7 @@ returns-in-Ok-clause-retires g c = subst (λ (a : Answer). Retires c.args.who a 
 
 pub returns-in-Err-clause-answered : goal.returns-in-Err-clause-answered
 returns-in-Err-clause-answered g c = λ initial entry are. (refusal_is_answered rules (run_of c.args.coordinator.now.cluster.nodes initial entry) (environment c.args.coordinator.now) c.args.who (journals c.args.coordinator.now) c.in-Err.fault).0
+    (unread_is_of_reading c.in-Err.fault c.args.text.now c.args.copied.now c.args.coordinator.now.cluster.catalog.tables c.in-Err.ensures.err)
 
 pub returns-in-Err-clause-reads : goal.returns-in-Err-clause-reads
 returns-in-Err-clause-reads g c =
