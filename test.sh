@@ -1,11 +1,20 @@
 #!/bin/sh
 # Passes the tests: the merge gate `rt ci`, and then the repository's own checks over the program that it leaves.
-# Usage: ./test.sh         all of it
-#        ./test.sh --own   the own checks alone
-#        ./test.sh --try   the scripts of tests/sql and the lists of tests/words alone, by a trial build with no proof, in about a minute
+# Usage: ./test.sh         all of it, in half an hour to an hour on four processors; one line shows how far the gate is
+#        ./test.sh --own   the own checks alone, in a minute or two
+#        ./test.sh --try   the scripts of tests/sql and the lists of tests/words alone, by a trial build with no proof, in two to four minutes
 cd "$(dirname "$0")" || exit 2
+case ${1-} in
+'' | --own | --try) ;;
+*)
+    sed -n 's/^# \(Usage: \|       \)/\1/p' test.sh
+    exit 2
+    ;;
+esac
 program=crates/citus_run/out/citus_run
+log=out/gate.log
 status=0
+begun=$(date +%s)
 work=$(mktemp -d)
 trap 'rm -rf "$work"' EXIT
 trap 'exit 1' INT TERM HUP
@@ -13,6 +22,14 @@ trap 'exit 1' INT TERM HUP
 fail() {
     echo "test.sh: $1"
     status=1
+}
+
+# Passes the gate. One line shows how far it is, and a file gets all that it writes.
+pass_gate() {
+    mkdir -p out
+    echo "rt ci: all that it writes is in $log"
+    { rt ci 2>&1 || echo $? >"$work/gate"; } | tee "$log" | tools/progress crates.txt
+    [ ! -e "$work/gate" ] || fail "the gate is not passed: $log says why"
 }
 
 # Runs a script of tests/sql over the program, with the words of NAME.args. The output must be tests/expected/NAME.out, and the exit
@@ -90,6 +107,60 @@ pass_lists() {
     [ "$failed" -eq 0 ] || status=1
 }
 
+# Runs the commands of a transcript, its lines that begin with `$ `, and prints each with what it writes: standard output, then standard error.
+# Where a mark is given, it stands before lines of standard error, and the status is told where it isn't 0. Words: the transcript, the folder
+# to run in, the mark.
+replay() {
+    while IFS= read -r line; do
+        case $line in '$ '*) ;; *) continue ;; esac
+        printf '%s\n' "$line"
+        (cd "$2" && COLUMNS=80 PATH=$2/bin:$PATH sh -c "${line#??}") </dev/null >"$work/replay.out" 2>"$work/replay.err"
+        found=$?
+        cat "$work/replay.out"
+        sed "s/^/$3/" "$work/replay.err"
+        [ -z "$3" ] || [ "$found" -eq 0 ] || echo "[status $found]"
+    done <"$1"
+}
+
+# Replays a transcript, which must come out as it is. Words: its name, the file, the folder to run in, the mark of standard error.
+pass_transcript() {
+    replay "$2" "$3" "$4" >"$work/replayed"
+    if diff -u "$2" "$work/replayed"; then
+        passed=$((passed + 1))
+    else
+        failed=$((failed + 1))
+        echo "$1 comes out otherwise"
+    fi
+}
+
+# Makes a folder in which run.sh stands over stubs of the program and of the toolchain. Words: the folder.
+make_stub() {
+    mkdir -p "$1/bin" "$1/crates/citus_run/out" "$1/crates/cq_low/src" "$1/examples"
+    cp tests/stub/program tests/stub/rt "$1/bin"
+    cp tests/stub/*.sql "$1"
+    mv "$1/tenants.sql" "$1/examples"
+    cp -R run.sh crates.txt tools "$1"
+    touch "$1/crates/cq_low/src/lib.rt"
+    cp tests/stub/program "$1/crates/citus_run/out/citus_run"
+    touch "$1/crates/citus_run/out/citus_run"
+}
+
+# Passes the calls of run.sh over the stubs, the transcripts of the tools, and what the documents show of the program.
+pass_transcripts() {
+    passed=0 failed=0
+    make_stub "$work/stub"
+    pass_transcript tests/calls tests/calls "$work/stub" '! '
+    for transcript in tools/tests/*.console; do
+        pass_transcript "$transcript" "$transcript" "$PWD" '! '
+    done
+    for document in README.md docs/*.md; do
+        sed -n '/^```console$/,/^```$/{/^```/d; p;}' "$document" >"$work/document"
+        [ ! -s "$work/document" ] || pass_transcript "$document" "$work/document" "$PWD" ''
+    done
+    echo "transcripts: $passed passed, $failed failed"
+    [ "$failed" -eq 0 ] || status=1
+}
+
 # The scripts, the lists and the most statements by the toolchain's trial build, which compares the output alone.
 try_scripts() {
     for script in tests/sql/*.sql; do
@@ -116,13 +187,16 @@ write_list() {
 }
 
 if [ "${1-}" = --try ]; then
+    echo 'test.sh: a trial build, two to four minutes'
     try_scripts
+    echo "test.sh: tried in $(($(date +%s) - begun)) s"
     exit "$status"
 fi
 
-if [ "${1-}" != --own ]; then
-    rt ci || status=1
-fi
+[ "${1-}" = --own ] || pass_gate
+
+# A session of nothing passes just where a proved program stands that no source is newer than.
+./run.sh --shell </dev/null 2>"$work/err" || { fail "the own checks want a proved program: $(cat "$work/err")"; exit 1; }
 
 [ "$(cat HANDLES)" = 'Handles allowed: Threads, Wait.' ] || fail 'HANDLES has another line'
 
@@ -132,9 +206,9 @@ for crate in $(sed -n 's/^\([a-z_]*\):.*/\1/p' crates.txt); do
 done
 
 # The main job.
-for example in tenants dashboard moves rebalance; do
-    ./run.sh "examples/$example.sql" >"$work/out" 2>"$work/err" || { cat "$work/err"; fail "run.sh: examples/$example.sql has another status than 0"; }
-    diff "examples/$example.out" "$work/out" || fail "run.sh: another output than examples/$example.out"
+for script in examples/*.sql; do
+    ./run.sh "$script" >"$work/out" 2>"$work/err" || { cat "$work/err"; fail "run.sh: $script has another status than 0"; }
+    diff "${script%.sql}.out" "$work/out" || fail "run.sh: another output than ${script%.sql}.out"
 done
 
 # A script of one byte too many is no file of tests/sql.
@@ -172,6 +246,7 @@ if [ -c /dev/full ]; then
     [ $? -eq 4 ] || fail 'a fault of writing is not answered by status 4'
 fi
 
+pass_transcripts
 pass_lists
 pass_scripts
 exit "$status"

@@ -12,6 +12,7 @@ lines'), (7, 70, 'bar|, backslash\ and ''quote'''), (8, 80, ' blanks '), (9, 90,
 -- A comma, a quote or a newline puts a field in quotes; bars and backslashes stand for themselves. NULL and the empty text look alike.
 SELECT k, v, s FROM t ORDER BY k;
 SELECT count(*), sum(v) AS total, k + 1 FROM t WHERE k = 2 GROUP BY k;
+SELECT k FROM t ORDER BY k LIMIT 1;
 
 -- A row of one empty field is two quotes, since a blank line would be no row.
 SELECT s FROM t WHERE k IN (1, 2, 3) ORDER BY k;

@@ -37,10 +37,11 @@ fn fails_of(alloc: Global, node: u32, failing: u32, calls: &[u64]) -> Result<Vec
     }
 }
 
-/// So many workers of a few stores; of each store of one node the listed calls fail.
+/// So many workers of so many stores; of each store of one node the listed calls fail.
 pub fn failing_workers(
     alloc: Global,
     count: u16,
+    stores: u32,
     failing: u32,
     calls: &[u64],
 ) -> Result<Vec<Worker<FaultStore>>, AllocError>
@@ -52,7 +53,7 @@ pub fn failing_workers(
         let fails = fails_of(alloc, node, failing, calls)?;
         Ok(FaultStore::new(alloc, node, fails))
     };
-    make_workers(alloc, u32::from(count), 8, &make)
+    make_workers(alloc, u32::from(count), stores, &make)
 }
 
 /// Runs a source's script over the workers. The journals are written at the end.

@@ -1,6 +1,7 @@
 -- The stores that are given to a move, until they are given back.
-use Rattle.std.proofs.Common.{◌≡◌, ◌∙◌, ◌⊎◌, inl, inr, ◌≤◌, ℕ, suc, IsTrue, List, [], ◌∷◌, ◌++◌, Result, Ok, Err, IfOk, IfErr, OnErr, refl, sym, ap, subst, arith}
+use Rattle.std.proofs.Common.{◌≡◌, ◌∙◌, ◌⊎◌, inl, inr, ◌≤◌, ℕ, suc, IsTrue, List, [], ◌∷◌, ◌++◌, length, Result, Ok, Err, IfOk, IfErr, OnErr, refl, sym, ap, subst, arith}
 use Rattle.std.specs.List.{AllByRecursion, AllZip, flat_map, Contains}
+use Rattle.cq_value.specs.declared.change.Change.{Change}
 use Rattle.cq_tree.specs.declared.journal.Entry.{Entry}
 use Rattle.cq_store.specs.Stores.{StoreState}
 use Rattle.cq_group.specs.declared.group.GroupError.{GroupError}
@@ -12,7 +13,7 @@ use Rattle.cq_group.specs.Calls.{GoesOn, Failed, Lifted, Blames, SomeZip}
 use Rattle.cq_group.specs.Incoming.{IsArriving, IsIncomingTable, Adopts, why_told}
 use Rattle.cq_group.proofs.Zips.{zip_refl, zip_trans, some_before}
 use Rattle.cq_group.proofs.Turns.{rests, rests_go_on, goes_on_more}
-use Rattle.cq_move.specs.Outcomes.{IsTried, Broke, EndsMove, shards_in}
+use Rattle.cq_move.specs.Outcomes.{IsTried, Broke, EndsMove, KeepShards, shards_in}
 use Rattle.cq_move.specs.Steps.{IsToldBy}
 
 tried : (old new : StoreState) → new.node ≡ old.node → new.steady ≡ old.steady → old.faults ≤ new.faults → (IsTrue old.steady → new.faults ≡ old.faults) → IsTried old new
@@ -115,6 +116,23 @@ module _ {X : Type 0} (state : X → StoreState) where
       AllZip (Lifted state Adopts) xs (flat_map (λ (t : IncomingTable X). t.stores.items) ts) → AllZip (Lifted state GoesOn) (flat_map (λ (t : IncomingTable X). t.stores.items) ts) zs →
       IsToldBy state why (flat_map (λ (t : IncomingTable X). t.stores.items) ts) zs → EndsMove state os to why xs zs
   ends_told why to entries os ts xs zs h a g k = subst (λ w. EndsMove state os to w xs zs) (sym k.told) (ends_by k.error to entries os ts xs zs h a g k.blames)
+
+  -- stores that came in keep the shards of the tables as they go on
+  table_keeps : (to : ℕ) (entries : List Entry) (o : Outline) (os : List Outline) (pending : List Change) (xs rest zs : List X) → length xs ≡ 1 → AllByRecursion (λ (x : X). IsArriving to entries o pending (state x)) xs →
+      ((ws : List X) → AllZip (Lifted state GoesOn) rest ws → KeepShards state os ws) → AllZip (Lifted state GoesOn) (xs ++ rest) zs → KeepShards state (o ∷ os) zs
+  table_keeps to entries o os pending [] rest zs one all more on = absurd (omega (arith, one))
+  table_keeps to entries o os pending (x ∷ y ∷ xs) rest zs one all more on = absurd (omega (arith, one))
+  table_keeps to entries o os pending (x ∷ []) rest [] one all more on = absurd on
+  table_keeps to entries o os pending (x ∷ []) rest (z ∷ zs) one all more on = (ap (λ (s : StoreState). s.shard) on.0.state ∙ all.0.of_shard, more zs on.1)
+
+  pub keep_shards : (to : ℕ) (entries : List Entry) (os : List Outline) (ts : List (IncomingTable X)) (zs : List X) → AllZip (IsIncomingTable state to entries) os ts →
+      AllZip (Lifted state GoesOn) (flat_map (λ (t : IncomingTable X). t.stores.items) ts) zs → KeepShards state os zs
+  keep_shards to entries [] [] [] h on = tt
+  keep_shards to entries [] [] (z ∷ zs) h on = absurd on
+  keep_shards to entries [] (t ∷ ts) zs h on = absurd h
+  keep_shards to entries (o ∷ os) [] zs h on = absurd h
+  keep_shards to entries (o ∷ os) (t ∷ ts) zs h on =
+      table_keeps to entries o os t.pending t.stores.items (flat_map (λ (u : IncomingTable X). u.stores.items) ts) zs h.0.one h.0.stores (λ ws. keep_shards to entries os ts ws h.1) on
 
   pub given_back : (xs ys zs : List X) → AllZip (Lifted state Adopts) xs ys → AllZip (Lifted state GoesOn) ys zs → AllZip (Lifted state IsTried) xs zs
   given_back xs ys zs h k = zip_trans (Lifted state Adopts) (Lifted state GoesOn) (Lifted state IsTried) (λ x y z. adopted_goes_on (state x) (state y) (state z)) xs ys zs h k

@@ -1,5 +1,6 @@
 -- What a move of a shard group comes to.
 use Rattle.std.specs.Prelude.{◌≡◌, ◌≤◌, ◌⊎◌, ℕ, ⊤, false, List, [], ◌∷◌, ◌++◌, map, Contains}
+use Rattle.std.specs.List.{AllZip}
 use Rattle.cq_tree.specs.declared.journal.Who.{Who}
 use Rattle.cq_tree.specs.declared.journal.Entry.{Entry}
 use Rattle.cq_tree.specs.declared.journal.EntryKind.{EntryKind}
@@ -20,6 +21,10 @@ entries_by who kinds = map (λ (kind : EntryKind). record { who = who; kind = ki
 -- the shard ids of a group's tables
 abbrev pub shards_in : List Outline → List ℕ
 shards_in os = map (λ (o : Outline). o.2) os
+
+-- each of these stores keeps the shard of a table, in the order of the tables
+abbrev pub KeepShards : {X : Type 0} → (X → StoreState) → List Outline → List X → Type 0
+KeepShards {X} state os stores = AllZip (λ (o : Outline) (x : X). (state x).shard ≡ o.2) os stores
 
 -- a store that was given to a move: it is on its node, as steady as it was, and its count of faults didn't fall
 abbrev pub IsTried : StoreState → StoreState → Type 0
@@ -57,6 +62,7 @@ pub record IsStopped {X : Type 0} (state : X → StoreState) (old new : GroupSta
   pub start : CanStart old to from
   pub entries : EntersStop who to (entries_of old) (entries_of new)
   pub why : EndsMove state (outlines old) to e.why given e.stores.items
+  pub shards : KeepShards state (outlines old) e.stores.items
 
 -- a move that didn't begin
 pub record IsRefused {X : Type 0} (state : X → StoreState) (old new : GroupState X) (to from : ℕ) (given : List X) (e : NotMoved X) : Type 0 where

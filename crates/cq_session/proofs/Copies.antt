@@ -38,6 +38,8 @@ use Rattle.cq_cluster.specs.declared.retired.Retired.{Retired}
 use Rattle.cq_bound_laws.specs.Laws.{HasColumns}
 use Rattle.cq_bound_laws.proofs.Statements.{copies_are_there}
 use Rattle.cq_bound_laws.proofs.Copies.{copies_fit, inserts_compute}
+use Rattle.cq_cluster.specs.declared.cluster.Cluster.{Cluster}
+use Rattle.cq_cluster.specs.Steady.{NamesNode, SparesSteady}
 use Rattle.cq_coordinator.specs.Coordination.{IsNoCopy, NeedsNoData}
 use Rattle.cq_session.specs.Responses.{fault_of_copy, insertion, insertion_into, with_data, is_copy, IsThere, tagged, IsTagged}
 use Rattle.cq_session.proofs.ReadingLaws.{computable_read}
@@ -287,3 +289,13 @@ retires_with who false given old new h = h
 retires_with who true (answer.Tag t) old new h = h
 retires_with who true (answer.Table names rows) old new h = h
 retires_with who true (answer.Failed f) old new h = h
+
+-- and so are the nodes
+node_tagged : (copied : Bool) (a : Answer) (node : ℕ) → NamesNode (tagged copied a) node → NamesNode a node
+node_tagged false a node h = h
+node_tagged true (answer.Tag t) node h = absurd h
+node_tagged true (answer.Table names rows) node h = h
+node_tagged true (answer.Failed f) node h = h
+
+pub spares_with : {X : Type 0} (state : X → StoreState) (copied : Bool) (given : Answer) (old new : Cluster X) → SparesSteady state given old new → SparesSteady state (tagged copied given) old new
+spares_with state copied given old new h = record { keeps = h.keeps; names = λ node was is. h.names node was (node_tagged copied given node is) }

@@ -10,6 +10,7 @@ ghost use Rattle.cq_history.specs.Standing as standing;
 ghost use Rattle.cq_store.specs.declared.worker.Worker.{Worker};
 ghost use Rattle.cq_cluster.specs.Cluster.{IsSound, KeepsStores, HasStores, run_of};
 ghost use Rattle.cq_cluster.specs.Accounts.{IsNext, AreAccounted, Retires};
+ghost use Rattle.cq_cluster.specs.Steady.{SparesSteady};
 ghost use Rattle.cq_coordinator.specs.Coordination.{environment, journals};
 ghost use Rattle.cq_statement.specs.Meanings.{Means};
 ghost use Rattle.cq_statement.specs.Reading.{reading_of};
@@ -80,6 +81,7 @@ pub fn respond<S: Store, G: Gate>(
     ensures stores { KeepsStores S.state coordinator.old.cluster coordinator.new.cluster }
     ensures accounted { (answers : List Answered) (a : Answered) → a.answer ≡ result.answer → IsNext who a answers coordinator.old.cluster.groups.items → AreAccounted S.state coordinator.old.cluster.catalog answers coordinator.old.cluster.groups.items → AreAccounted S.state coordinator.new.cluster.catalog (answers ++ a ∷ []) coordinator.new.cluster.groups.items }
     ensures retires { Retires who result.answer coordinator.old.cluster.retired.items coordinator.new.cluster.retired.items }
+    ensures steady { SparesSteady S.state result.answer coordinator.old.cluster coordinator.new.cluster }
 {
     match read_with_data(alloc, &coordinator.cluster.catalog, text, copied) {
         Ok(read) => {

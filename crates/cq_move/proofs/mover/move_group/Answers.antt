@@ -9,7 +9,7 @@ use Rattle.cq_group.proofs.Zips.{on_err}
 use Rattle.cq_group.proofs.WriteLaws.{goes_on_twice}
 use Rattle.cq_move.specs.Outcomes.{IsTried, IsStopped}
 use Rattle.cq_move.specs.Steps.{MayCatchUpAndStops, IsToldBy}
-use Rattle.cq_move.proofs.StoreLaws.{if_err, if_err_three, go_on_twice, given_back, given_same, ends_told}
+use Rattle.cq_move.proofs.StoreLaws.{if_err, if_err_three, go_on_twice, given_back, given_same, ends_told, keep_shards}
 use Rattle.cq_move.proofs.StepLaws.{moving_began, enters_stop}
 use Rattle.cq_move.proofs.mover.move_group.Goals as goal
 
@@ -45,6 +45,7 @@ returns-in-Ok-clause-stopped g c =
       start = c.in-Ok.ensures.start;
       entries = enters_stop c.args.who c.args.to (entries_of old) (entries_of mid) (entries_of new) c.in-Ok.ensures.entry p;
       why = ends_told state e.why c.args.to (entries_of mid) (outlines old) i.tables.items c.args.stores.items e.stores.items c.in-Ok.ensures.incoming.tables c.in-Ok.ensures.stores q w;
+      shards = keep_shards state c.args.to (entries_of mid) (outlines old) i.tables.items e.stores.items c.in-Ok.ensures.incoming.tables q;
     })
     c.finish.ensures.stopped c.finish.ensures.back c.finish.ensures.why
 

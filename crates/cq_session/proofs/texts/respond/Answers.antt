@@ -9,10 +9,12 @@ use Rattle.cq_cluster.proofs.AnswerLaws.{other_is_accounted}
 use Rattle.cq_cluster.specs.Accounts.{Retires}
 use Rattle.cq_coordinator.proofs.Naming.{none_retired}
 use Rattle.cq_session.proofs.Naming.{unread_named, unread_names_none, unread_is_of_reading}
-use Rattle.cq_session.proofs.Copies.{computable_with, no_data_with, answered_with, accounted_with, retires_with, tagged_is, failed_is_tagged}
+use Rattle.cq_session.proofs.Copies.{computable_with, no_data_with, answered_with, accounted_with, retires_with, spares_with, tagged_is, failed_is_tagged}
 use Rattle.cq_session.proofs.ReadingLaws.{bound_ok, bound_err}
 use Rattle.cq_session.specs.Responses.{tagged, is_copy, reading_with, IsTagged}
 use Rattle.cq_statement.specs.Reading.{reading_of}
+use Rattle.cq_cluster.specs.Steady.{SparesSteady}
+use Rattle.cq_cluster.proofs.SteadyLaws.{spares_none}
 use Rattle.cq_coordinator.specs.Coordination.{environment, journals}
 use Rattle.cq_session.proofs.texts.respond.Goals as goal
 
@@ -96,3 +98,13 @@ returns-in-Err-clause-means g c = c.read_with_data.ensures.means
 
 pub returns-in-Err-clause-sound : goal.returns-in-Err-clause-sound
 returns-in-Err-clause-sound g c = c.requires.sound
+
+pub returns-in-Ok-clause-steady : goal.returns-in-Ok-clause-steady
+returns-in-Ok-clause-steady g c =
+    let old = c.args.coordinator.now.cluster in
+    let new = c.answer-answer.new.self.cluster in
+    subst (λ (a : Answer). SparesSteady g.S.Store.state a old new) (sym c.tagged.ensures) (spares_with g.S.Store.state c.in-Ok.read.is_copy c.answer-answer.result old new c.answer-answer.ensures.steady)
+
+pub returns-in-Err-clause-steady : goal.returns-in-Err-clause-steady
+returns-in-Err-clause-steady g c =
+    spares_none g.S.Store.state c.args.coordinator.now.cluster c.in-Err.fault (unread_names_none c.in-Err.fault c.args.text.now c.args.copied.now c.args.coordinator.now.cluster.catalog.tables c.in-Err.ensures.err)

@@ -1,0 +1,17 @@
+pub mod Lone
+pub mod Standing
+pub mod Explaining
+pub mod Blocks
+pub mod SplitReading
+pub mod SplitStanding
+pub mod SplitServing
+pub mod Sifting
+pub mod Passing
+pub mod Composing
+pub mod Scoping
+pub mod Yielding
+pub mod Opening
+pub mod Touching
+pub mod Routed
+pub mod Refusing
+pub mod Reaching

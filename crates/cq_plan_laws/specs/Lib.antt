@@ -1,0 +1,9 @@
+pub mod Laws
+pub mod Blocks
+pub mod Splitting
+pub mod Composing
+pub mod Scoping
+pub mod Yielding
+pub mod Opening
+pub mod Touching
+pub mod Refusing

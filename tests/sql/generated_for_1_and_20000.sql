@@ -1,0 +1,2 @@
+-- The script is made from two numbers: 2,001 customers and 20,000 orders over 32 groups. No group is small enough for the rebalance to move,
+-- so the five greatest orders are listed twice alike.

@@ -1,0 +1,2 @@
+-- another
+SELECT 2 FROM b;

@@ -1,0 +1,2 @@
+-- prints half an answer
+-- status 99

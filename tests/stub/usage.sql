@@ -1,0 +1,2 @@
+-- prints FATAL usage
+-- status 1

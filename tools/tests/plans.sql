@@ -1,0 +1,11 @@
+SET citus.shard_count TO 4;
+CREATE TABLE t (k bigint PRIMARY KEY, v bigint);
+SELECT create_distributed_table('t', 'k');
+CREATE TABLE u (k bigint PRIMARY KEY, w bigint);
+SELECT create_distributed_table('u', 'k', colocate_with => 't');
+CREATE TABLE r (k bigint PRIMARY KEY);
+SELECT create_reference_table('r');
+EXPLAIN WITH a AS (SELECT s.v FROM (SELECT v, count(*) AS n FROM t GROUP BY v) s), b AS (SELECT w FROM u WHERE k = 1) SELECT a.v FROM a JOIN b ON a.v = b.w WHERE a.v IN (SELECT k FROM r);
+EXPLAIN SELECT k FROM t WHERE k = 1 AND k = 2;
+SET citus.enable_repartition_joins TO on;
+EXPLAIN SELECT t.k FROM t JOIN u ON t.v = u.w JOIN r ON t.v = r.k;

@@ -1,0 +1,3 @@
+SELECT 1 FROM t;
+\d t
+SELECT 2 FROM t;

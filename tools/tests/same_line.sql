@@ -1,0 +1,2 @@
+COPY t FROM STDIN; 1
+\.
