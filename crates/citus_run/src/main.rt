@@ -2,18 +2,18 @@
 //! stores are in memory, and writes the answers to standard output, in blocks. Its exit status is the number of the run's status.
 #![tactic(auto)]
 
-mod streams;
-
-ghost use Rattle.std.specs.Prelude.{IfOk};
+ghost use Rattle.std.specs.Prelude.{◌≡◌, [], ◌∷◌, map, drop, IfOk, MatchResult};
+ghost use Rattle.std.specs.String.{string_bytes};
+ghost use Rattle.std.specs.Vec.Iter.{into_iter_items};
 ghost use Rattle.cq_cluster.specs.Cluster.{IsWaiting};
 
-use cq_script::{ReadSource, WriteSink};
+use cq_script::{ReadSource, Sink, WriteSink};
 use cq_store::{BoxedStore, MemStore};
 use cq_top::{IdleGate, RunLog, Status, make_workers, run};
 use std::alloc::{AllocError, Global};
+use std::io::BufWriter;
 use std::process::ExitCode;
 use std::{env, io, mem};
-use streams::{AnswerWriter, Blocks, ScriptReader};
 
 /// The most nodes of a run.
 const NODES: u32 = 16;
@@ -21,14 +21,35 @@ const NODES: u32 = 16;
 /// The number of stores of each node.
 const STORES: u32 = 2048;
 
-/// The words after the program's name. Where they cannot be read they count as one empty word, which `run` refuses.
-fn words_of(alloc: Global, args: io::Result<env::Args>) -> Result<Vec<String>, AllocError> {
+/// How many bytes of answers are held back at most.
+const BLOCK: usize = 65536;
+
+/// The words behind the first, which is the program's name.
+fn words_behind(alloc: Global, args: env::Args) -> Result<Vec<String>, AllocError>
+    ensures { IfOk result (λ words. words.items ≡ drop 1 (into_iter_items args)) }
+{
+    let mut args = args;
+    let _name = args.next();
+    args.collect(alloc)
+}
+
+/// One empty word, which `run` refuses.
+fn empty_word(alloc: Global) -> Result<Vec<String>, AllocError>
+    ensures { IfOk result (λ words. map string_bytes words.items ≡ [] ∷ []) }
+{
     let mut words = Vec::new(alloc);
-    match args {
-        Ok(args) => words.extend(args.skip(1))?,
-        Err(_) => words.push(String::new(alloc))?,
-    }
+    words.push(String::new(alloc))?;
     Ok(words)
+}
+
+/// The words after the program's name. Where they cannot be read they count as one empty word.
+fn words_of(alloc: Global, args: io::Result<env::Args>) -> Result<Vec<String>, AllocError>
+    ensures { IfOk result (λ words. MatchResult args (λ given. words.items ≡ drop 1 (into_iter_items given)) (λ e. map string_bytes words.items ≡ [] ∷ [])) }
+{
+    match args {
+        Ok(args) => words_behind(alloc, args),
+        Err(_) => empty_word(alloc),
+    }
 }
 
 fn main(rt: HostRuntime) -> ExitCode {
@@ -43,14 +64,11 @@ fn main(rt: HostRuntime) -> ExitCode {
         return ExitCode::from(Status::Memory.number());
     };
     let mut log = RunLog::new(alloc);
-    let Ok(blocks) = Blocks::new(alloc, rt.stdout()) else {
+    let Ok(writer) = BufWriter::with_capacity(alloc, BLOCK, rt.stdout()) else {
         return ExitCode::from(Status::Memory.number());
     };
-    let mut source = ReadSource::new(ScriptReader {
-        reader: rt.stdin(),
-        blocks: &blocks,
-    });
-    let mut sink = WriteSink::new(AnswerWriter { blocks: &blocks });
+    let mut source = ReadSource::new(rt.stdin());
+    let mut sink = WriteSink::new(writer);
     let status = run(
         &rt,
         alloc,
@@ -61,12 +79,9 @@ fn main(rt: HostRuntime) -> ExitCode {
         &mut workers,
         &mut log,
     );
-    let written = blocks.flush();
+    let status = status.after_flush(sink.flush());
     // The rows and answers end with the process: to give each of them back before would take a tenth of the run.
     mem::forget(workers);
     mem::forget(log);
-    match written {
-        Ok(()) => ExitCode::from(status.number()),
-        Err(_) => ExitCode::from(Status::WriteFault.number()),
-    }
+    ExitCode::from(status.number())
 }

@@ -13,11 +13,12 @@ use Rattle.cq_script.specs.declared.cutter.Place.{Place}
 use Rattle.cq_script.specs.declared.cutter.Place.TheVariants.{Gap, GapDash, Text, Rest, Data, Directive}
 use Rattle.cq_script.specs.declared.cutter.Cutter.{Cutter}
 use Rattle.cq_script.specs.Scripts.{next, ends, is_copy, Cut, Stepped, goes, gives, in_text, keeps, step, one, cut, items_in, items, last_at, last}
+use Rattle.cq_script.specs.Runs.{number_behind}
 use Rattle.cq_script.specs.Written.{NoEnd, scan_behind, IsText, IsLine, whole_line, IsData, IsItem, written}
 use Rattle.cq_script.proofs.CuttingLaws.{behind, cut_append, cut_none, cut_some}
 
 -- two numbers that the test takes for one
-nat_same : (a b : ℕ) → (a == b) ≡ true → a ≡ b
+pub nat_same : (a b : ℕ) → (a == b) ≡ true → a ≡ b
 nat_same a b e = grind (arith, nat_tests)
 
 abbrev pub at : Place → ℕ → List ℕ → List ℕ → Cutter
@@ -27,11 +28,11 @@ at place line text copied = record { at = place; line = line; text = text; copie
 abbrev pub Ends : Cutter → List ℕ → List Item → Cutter → Type 0
 Ends c bytes given new = cut c bytes ≡ record { items = given; begun = new }
 
-then_ends : (c mid new : Cutter) (xs ys : List ℕ) (given more : List Item) → Ends c xs given mid → Ends mid ys more new → Ends c (xs ++ ys) (given ++ more) new
+pub then_ends : (c mid new : Cutter) (xs ys : List ℕ) (given more : List Item) → Ends c xs given mid → Ends mid ys more new → Ends c (xs ++ ys) (given ++ more) new
 then_ends c mid new xs ys given more h k = cut_append c xs ys ∙ ap (λ (v : Cut). behind v.items (cut v.begun ys)) h ∙ ap (behind given) k
 
 -- a byte that ends none
-then_one : (c mid new : Cutter) (b : ℕ) (bs : List ℕ) (given : List Item) → (None, mid) ≡ step c b → Ends mid bs given new → Ends c (b ∷ bs) given new
+pub then_one : (c mid new : Cutter) (b : ℕ) (bs : List ℕ) (given : List Item) → (None, mid) ≡ step c b → Ends mid bs given new → Ends c (b ∷ bs) given new
 then_one c mid new b bs given is k = cut_none c mid b bs is ∙ k
 
 -- ---- a statement's text
@@ -39,11 +40,7 @@ then_one c mid new b bs given is k = cut_none c mid b bs is ∙ k
 abbrev pub line_of : ℕ → ℕ → ℕ
 line_of n b = if b == 10 then counted n else n
 
-abbrev pub lines_behind : ℕ → List ℕ → ℕ
-lines_behind n [] = n
-lines_behind n (b ∷ bs) = lines_behind (line_of n b) bs
-
-text_byte : (scan : Scan) (n b : ℕ) (text copied : List ℕ) → ends scan b ≡ false → (None, at (Text (next scan b)) (line_of n b) (text ++ b ∷ []) copied) ≡ step (at (Text scan) n text copied) b
+pub text_byte : (scan : Scan) (n b : ℕ) (text copied : List ℕ) → ends scan b ≡ false → (None, at (Text (next scan b)) (line_of n b) (text ++ b ∷ []) copied) ≡ step (at (Text scan) n text copied) b
 unfolding step
 text_byte scan n b text copied none =
     let c = at (Text scan) (line_of n b) text copied in
@@ -51,22 +48,22 @@ text_byte scan n b text copied none =
     let going : Stepped = (None, at (Text (next scan b)) (line_of n b) (text ++ b ∷ []) copied) in
     ap (λ (t : Bool). cond t ended going) (sym none)
 
-pub text_ends : (scan : Scan) (n : ℕ) (text copied bs : List ℕ) → NoEnd scan bs → Ends (at (Text scan) n text copied) bs [] (at (Text (scan_behind scan bs)) (lines_behind n bs) (text ++ bs) copied)
+pub text_ends : (scan : Scan) (n : ℕ) (text copied bs : List ℕ) → NoEnd scan bs → Ends (at (Text scan) n text copied) bs [] (at (Text (scan_behind scan bs)) (number_behind n bs) (text ++ bs) copied)
 text_ends scan n text copied [] h = ap (λ (t : List ℕ). let v : Cut = record { items = []; begun = at (Text scan) n t copied } in v) (sym (append-nil text))
 text_ends scan n text copied (b ∷ bs) h =
     then_one (at (Text scan) n text copied) _ _ b bs [] (text_byte scan n b text copied h.0)
-    (text_ends (next scan b) (line_of n b) (text ++ b ∷ []) copied bs h.1 ∙ ap (λ (t : List ℕ). let v : Cut = record { items = []; begun = at (Text (scan_behind (next scan b) bs)) (lines_behind (line_of n b) bs) t copied } in v) (append_assoc text (b ∷ []) bs))
+    (text_ends (next scan b) (line_of n b) (text ++ b ∷ []) copied bs h.1 ∙ ap (λ (t : List ℕ). let v : Cut = record { items = []; begun = at (Text (scan_behind (next scan b) bs)) (number_behind (line_of n b) bs) t copied } in v) (append_assoc text (b ∷ []) bs))
 
 -- the first byte
-or_right : (s t : Bool) → (s || t) ≡ false → t ≡ false
+pub or_right : (s t : Bool) → (s || t) ≡ false → t ≡ false
 or_right true t h = absurd (let e : true ≡ false = h in cc)
 or_right false t h = h
 
-or_left : (s t : Bool) → (s || t) ≡ false → s ≡ false
+pub or_left : (s t : Bool) → (s || t) ≡ false → s ≡ false
 or_left true t h = absurd (let e : true ≡ false = h in cc)
 or_left false t h = refl
 
-no_newline : (b : ℕ) → (is_blank b || b == 59) ≡ false → (b == 10) ≡ false
+pub no_newline : (b : ℕ) → (is_blank b || b == 59) ≡ false → (b == 10) ≡ false
 no_newline b h = or_right (b == 32 || b == 9 || b == 13) (b == 10) (or_left (is_blank b) (b == 59) h)
 
 gap_byte : (n b : ℕ) → (is_blank b || b == 59) ≡ false → (b == 45) ≡ false → (b == 92) ≡ false → ends Code b ≡ false
@@ -84,14 +81,14 @@ gap_byte n b blank dash slash none =
 -- a whole text, up to its semicolon
 begin_ends : (n : ℕ) (text : List ℕ) → IsText text → (m : ℕ) × Ends (at (Gap true) n [] []) text [] (at (Text (scan_behind Code text)) m text [])
 begin_ends n [] h = absurd h.begins
-begin_ends n (b ∷ bs) h = (lines_behind (line_of n b) bs, then_one (at (Gap true) n [] []) _ _ b bs [] (gap_byte n b h.begins.0 h.begins.1 h.begins.2 h.inside.0) (text_ends (next Code b) (line_of n b) (b ∷ []) [] bs h.inside.1))
+begin_ends n (b ∷ bs) h = (number_behind (line_of n b) bs, then_one (at (Gap true) n [] []) _ _ b bs [] (gap_byte n b h.begins.0 h.begins.1 h.begins.2 h.inside.0) (text_ends (next Code b) (line_of n b) (b ∷ []) [] bs h.inside.1))
 
 -- ---- the data of a COPY
 
-keeps_at : (held : List ℕ) (place : Place) (n b : ℕ) (text copied : List ℕ) → (b == 10) ≡ false → (None, at (Data Within) n text (copied ++ held ++ b ∷ [])) ≡ keeps held (at place (line_of n b) text copied) b
+pub keeps_at : (held : List ℕ) (place : Place) (n b : ℕ) (text copied : List ℕ) → (b == 10) ≡ false → (None, at (Data Within) n text (copied ++ held ++ b ∷ [])) ≡ keeps held (at place (line_of n b) text copied) b
 keeps_at held place n b text copied e = ap (λ (t : Bool). let v : Stepped = (None, at (Data (cond t Start Within)) (cond t (counted n) n) text (copied ++ held ++ b ∷ [])) in v) (sym e)
 
-abbrev Started : ℕ → List ℕ → List ℕ → Cut
+abbrev pub Started : ℕ → List ℕ → List ℕ → Cut
 Started n text copied = record { items = []; begun = at (Data Start) (counted n) text copied }
 
 -- bytes that were held back, a byte, and the rest of its line
@@ -135,7 +132,7 @@ slash_ends n text copied (b ∷ bs) h other = by_dot (b == 46) refl
         subst (λ (d : ℕ). Ends (at (Data Slash) n text copied) (d ∷ bs ++ 10 ∷ []) [] (at (Data Start) (counted n) text (copied ++ (92 ∷ d ∷ bs ++ 10 ∷ [])))) (sym is)
         (then_one (at (Data Slash) n text copied) (at (Data End) n text copied) _ 46 (bs ++ 10 ∷ []) [] refl (end_ends n text copied bs h.1 (λ none. other (ap (λ d. d ∷ bs) is ∙ ap (λ v. 46 ∷ v) none))))
 
-line_ends : (n : ℕ) (text copied line : List ℕ) → IsLine line → Ends (at (Data Start) n text copied) (whole_line line) [] (at (Data Start) (counted n) text (copied ++ whole_line line))
+pub line_ends : (n : ℕ) (text copied line : List ℕ) → IsLine line → Ends (at (Data Start) n text copied) (whole_line line) [] (at (Data Start) (counted n) text (copied ++ whole_line line))
 unfolding step
 line_ends n text copied [] h = ap (Started n text) (append_assoc copied [] (10 ∷ []))
 line_ends n text copied (b ∷ bs) h = by_slash (b == 92) refl
@@ -181,7 +178,7 @@ copy_ends scan n text end copy =
     cut_none c (at Rest n text []) 59 (10 ∷ [])
     (ap (λ (t : Bool). cond t (goes Rest c) (gives (Gap false) c)) (sym copy) ∙ ap (λ (t : Bool). cond t whole (goes (Text (next scan 59)) (record c { text = text ++ 59 ∷ [] }))) (sym end))
 
-last_line_ends : (n : ℕ) (text copied : List ℕ) → Ends (at (Data Start) n text copied) (codes "\\.\n") (record { text = text; copied = copied } ∷ []) (at (Gap true) (counted n) [] [])
+pub last_line_ends : (n : ℕ) (text copied : List ℕ) → Ends (at (Data Start) n text copied) (codes "\\.\n") (record { text = text; copied = copied } ∷ []) (at (Gap true) (counted n) [] [])
 unfolding step
 last_line_ends n text copied = refl
 

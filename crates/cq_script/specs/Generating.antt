@@ -1,5 +1,5 @@
 -- The script that is made from two numbers: the one with which its draws begin, and how many orders it has.
-use Rattle.std.specs.Prelude.{ℕ, zero, suc, ◌+◌, ◌*◌, ◌/◌, ◌%◌, ◌^◌, List, [], ◌++◌, codes, decimal}
+use Rattle.std.specs.Prelude.{◌≡◌, ℕ, zero, suc, ◌+◌, ◌*◌, ◌/◌, ◌%◌, ◌^◌, List, [], ◌++◌, codes, decimal}
 
 -- a linear congruential generator: its next state, and what a state draws below m
 abbrev pub next : ℕ → ℕ
@@ -72,3 +72,7 @@ copies number rows = customer_copy number (customer_count rows) ++ order_copy (c
 
 unfoldable pub generated : ℕ → ℕ → List ℕ
 generated number rows = tables ++ copies number rows ++ queries
+
+-- the bytes are that script, for readers who needn't look into it
+pub data IsGenerated (number rows : ℕ) (bytes : List ℕ) : Type 0 where
+  made : bytes ≡ generated number rows → IsGenerated number rows bytes

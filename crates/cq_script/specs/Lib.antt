@@ -1,4 +1,5 @@
 pub mod Generating
+pub mod Pieces
 pub mod Runs
 pub mod Schedules
 pub mod Scripts

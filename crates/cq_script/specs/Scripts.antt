@@ -1,5 +1,4 @@
--- How a script's bytes are cut into items: a statement, which goes on to a semicolon outside quotes and comments, and the data
--- behind a COPY, which go on to a line that is \. alone.
+-- How a script's bytes are cut into items, one byte after the other: what a script is stands in `Pieces`.
 use Rattle.std.specs.Prelude.{◌≡◌, ◌<◌, ◌&&◌, ◌||◌, ◌==◌, ℕ, Bool, true, false, not, Option, Some, None, List, [], ◌∷◌, ◌++◌, length, take, drop, map, bytes_eq, codes, if◌then◌else◌}
 use Rattle.std.specs.Char.{to_ascii_lowercase}
 use Rattle.cq_token.specs.Bytes.{is_blank, is_in_name}

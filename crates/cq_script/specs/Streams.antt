@@ -49,6 +49,13 @@ pub record Wrote (old new : SinkState) (bytes : List ℕ) : Type 0 where
   pub steady : new.steady ≡ old.steady
   pub calm : IsTrue old.steady → new.faults ≡ old.faults
 
+-- no byte was written
+pub record Kept (old new : SinkState) : Type 0 where
+  pub written : new.written ≡ old.written
+  pub counts : old.faults ≤ new.faults
+  pub steady : new.steady ≡ old.steady
+  pub calm : IsTrue old.steady → new.faults ≡ old.faults
+
 -- some of the bytes at the front were written, and not all
 abbrev pub WrotePart : SinkState → SinkState → List ℕ → Type 0
 WrotePart old new bytes = (n : ℕ) × (n < length bytes) × Wrote old new (take n bytes)

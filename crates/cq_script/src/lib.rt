@@ -18,6 +18,7 @@ mod source;
 mod standard;
 mod words;
 
+pub use cq_answer::{Answer, Fault, Tag};
 pub use cutter::{Bytes, Cutter, Item, Line, Place, Step};
 pub use fatal::{Fatal, MOST_BYTES, MOST_STATEMENTS};
 pub use generator::{Generator, make_script};
