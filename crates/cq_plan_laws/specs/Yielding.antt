@@ -76,7 +76,7 @@ BlocksServe = (c : Contents) (widths : ℕ → ℕ) (held : Held) (rs : Results)
     ServesBy c held rs FastPath parting kind (task ∷ []) q touches × ServesBy c held rs Router parting kind (task ∷ []) q touches × ServesBy c held rs Coordinator parting kind (task ∷ []) q touches)
     × ((task : Task) (tasks : List Task) → IsPushedBlock c widths held rs kind (task ∷ tasks) q → ServesBy c held rs Pushdown parting kind (task ∷ tasks) q touches)
 
--- ---- T3.2
+-- ---- what a statement's plan yields
 
 -- a statement, as the binder and the refusals leave it, over captures
 pub record IsPlanned (c : Contents) (widths : ℕ → ℕ) (q : Query) (held : Held) : Type 0 where
