@@ -4,6 +4,7 @@
 mod binder;
 mod queries;
 mod rows;
+mod widths;
 mod writes;
 
 pub use binder::bind;
