@@ -8,3 +8,4 @@ mod widths;
 mod writes;
 
 pub use binder::bind;
+pub use cq_reading::BindError;
