@@ -35,6 +35,7 @@ fn value_of(alloc: Global, e: &Expr) -> Result<Value, NoMemory>
 {
     match bits_of(e, &[], 0) {
         Some(_) => {
+            // for the proof: within its width an expression is computed safely.
             width_laws();
             let row = Row::from_values(Values::new(alloc));
             eval(alloc, e, &row, &Lookups::new(alloc))

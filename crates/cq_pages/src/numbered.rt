@@ -121,6 +121,7 @@ impl Numbered {
     pub fn ids_ascend(&self)
         ensures { IsAscending self.now.pairs self.now.next }
     {
+        // for the proof: the check looks into a table only where one of its fields is read.
         let _ = &self.next;
     }
 
