@@ -1,6 +1,6 @@
 -- Pages in order of ids: where an id stands, and what a changed page makes of all pairs.
 use Rattle.std.proofs.Common.{◌≡◌, ◌≢◌, inl, inr, ℕ, zero, suc, ◌+◌, ◌<◌, ◌≤◌, Bool, true, false, cond, not, nat_eq, ◌||◌, List, [], ◌∷◌, ◌++◌, map, filter, length, take, drop, get_or, set, remove, refl, sym, ap, ◌∙◌, ⊎_elim, arith, subst, zero-le, eq-eqb, ne_eqb, ne_of_lt, le_refl, le_of_lt, eq-or-lt_of_le, append_assoc, append-nil, add-one, drop-cons, ◌-◌}
-use Rattle.std.specs.List.{AllByRecursion, list_any}
+use Rattle.std.specs.List.{AllByRecursion, list_any, flat_map}
 use Rattle.std.specs.List.Sorted.{IsNonDecreasingBy}
 use Rattle.std.proofs.lemmas.List.{get_or_default, length-append, get_or_append_left, get_or-append-add, map-append}
 use Rattle.std.proofs.lemmas.List.Elements.{filter-append}

@@ -1,5 +1,5 @@
 -- The rows of a table in pages, in order of ids.
-use Rattle.std.specs.Prelude.{◌≡◌, ◌<◌, ◌≤◌, ◌+◌, ℕ, Bool, List, ◌++◌, filter, length, take, drop, nat_eq, slice_index_or}
+use Rattle.std.specs.Prelude.{◌≡◌, ◌<◌, ◌≤◌, ◌+◌, ℕ, Bool, List, [], ◌∷◌, ◌++◌, filter, length, take, drop, nat_eq, slice_index_or}
 use Rattle.std.specs.List.{AllByRecursion, flat_map}
 use Rattle.cq_value.specs.declared.value.Value.{Value}
 use Rattle.cq_value.specs.Changes.{has_id}

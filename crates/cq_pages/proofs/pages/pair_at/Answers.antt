@@ -1,5 +1,6 @@
-use Rattle.std.proofs.Common.{◌∙◌, ◌+◌, length, drop, get_or, ap, arith}
+use Rattle.std.proofs.Common.{◌≡◌, ◌∙◌, ◌+◌, ◌++◌, length, drop, get_or, sym, ap, arith}
 use Rattle.std.proofs.lemmas.List.{length-append}
+use Rattle.cq_value.specs.Tables.{Pair}
 use Rattle.cq_pages.specs.Pages.{pairs_of}
 use Rattle.cq_pages.proofs.PageLaws.{pages_dropped, pair_here, pair_behind}
 use Rattle.cq_pages.proofs.pages.pair_at.Goals as goal

@@ -1,4 +1,5 @@
-use Rattle.std.proofs.Common.{◌≡◌, ◌++◌, map, take}
+use Rattle.std.proofs.Common.{◌≡◌, ◌++◌, map, take, drop}
+use Rattle.cq_pages.specs.Pages.{pairs_of}
 use Rattle.cq_pages.specs.Shared.{row_lent, rows_of_parts}
 use Rattle.cq_pages.proofs.shared.lend_parts.Given as goal
 

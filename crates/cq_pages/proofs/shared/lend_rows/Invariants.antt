@@ -1,5 +1,6 @@
-use Rattle.std.proofs.Common.{◌≡◌, ◌++◌, map, take}
-use Rattle.cq_pages.specs.Shared.{row_lent}
+use Rattle.std.proofs.Common.{◌≡◌, ◌++◌, map, take, drop}
+use Rattle.cq_pages.specs.Pages.{pairs_of}
+use Rattle.cq_pages.specs.Shared.{row_lent, rows_of_parts}
 use Rattle.cq_pages.proofs.shared.lend_rows.Given as goal
 
 abbrev pub invariant-loop-row : goal.invariant-loop-row

@@ -1,4 +1,4 @@
-use Rattle.std.proofs.Common.{◌≡◌, true, arith}
+use Rattle.std.proofs.Common.{ℕ, ◌<◌, ◌≤◌, ◌≡◌, true, arith}
 use Rattle.cq_value.proofs.TableLaws.{ascending_more, ascending_filter}
 use Rattle.cq_pages.specs.Pages.{pairs_of, has}
 use Rattle.cq_pages.proofs.PageLaws.{ascending_length, ascending_with_new, one_less, one_more, same_length}
