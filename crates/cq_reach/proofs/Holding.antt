@@ -82,12 +82,12 @@ module _ {X : Type 0} (state : X → StoreState) where
   staged_one p g h (Ok (staged.Ready reply)) lacks s err blame entries kept on = record { held = record { kept = kept; entries = entries; on = on }; ready = s.1; quiet = λ r. absurd (made_or reply s.0 r) }
   staged_one p g h (Ok (staged.Refused reply)) lacks s err blame entries kept on = record { held = record { kept = kept; entries = entries; on = on }; ready = s.1; quiet = λ r. s.2 }
   staged_one p g h (Ok staged.NoIds) lacks s err blame entries kept on = (record { held = record { kept = kept; entries = entries; on = on }; quiet = s }, lacks refl)
-  staged_one p g h (Err (group.Worker node shard before after)) lacks s err blame entries kept on = (record { held = record { kept = kept; entries = entries; on = on }; quiet = err }, blame)
+  staged_one p g h (Err (group.Worker failure)) lacks s err blame entries kept on = (record { held = record { kept = kept; entries = entries; on = on }; quiet = err }, blame)
   staged_one p g h (Err group.Memory) lacks s err blame entries kept on = record { held = record { kept = kept; entries = entries; on = on }; quiet = err }
 
   -- nothing is staged where a part stopped the write
   pub stops_dropped : (p : Part) (why : Stop) (g h : GroupState X) → StopsAt state p why g h → IsDropped state g h
   stops_dropped p (stop.Refused s) g h a = a.1.dropped
   stops_dropped p (stop.Failed Ids) g h a = a.0
-  stops_dropped p (stop.Failed (Worker node shard before after)) g h a = a.0
+  stops_dropped p (stop.Failed (Worker failure)) g h a = a.0
   stops_dropped p (stop.Failed Memory) g h a = a

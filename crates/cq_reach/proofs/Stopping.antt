@@ -143,7 +143,7 @@ module _ {X : Type 0} (state : X → StoreState) where
       (λ g h a. (part, subst (λ (v : Reply). Refuses state p.op v g h) (sym its) (record { dropped = record { held = a.held; quiet = a.quiet refusal }; refusal = refusal; ready = a.ready }))) p.group old mid t in
       (put.0, subst (λ (v : List (GroupState X)). TurnsOne p.group (StopsAt state p (stop.Refused q)) old v) (sym put.3) one)
   next_after p reply s ready more old mid new (Err (stop.Failed Ids)) is t put = absurd put
-  next_after p reply s ready more old mid new (Err (stop.Failed (Worker node shard before after))) is t put = absurd put
+  next_after p reply s ready more old mid new (Err (stop.Failed (Worker failure))) is t put = absurd put
   next_after p reply s ready more old mid new (Err (stop.Failed Memory)) is t put =
       let dropped : TurnsOne p.group (IsDropped state) mid new = subst (λ (v : ReadyPart). TurnsOne v.part.group (IsDropped state) mid new) is put.1 in
       (put.0, one_twice (IsReplied state p.op reply) (IsDropped state) (IsDropped state) (λ g m h a d. dropped_more state g m h a.held d) p.group old mid new t dropped)
@@ -244,7 +244,7 @@ module _ {X : Type 0} (state : X → StoreState) where
             subst (λ (q : Part). IsStopped (parts_of ready ++ p ∷ rest) old q × InBoth old new q.group (Refuses state q.op s.reply)) same
             (stopping, record { before = b.before; after = b.after; was = b.was; is = b.is; holds = b.holds.1 })
         by_cases (stop.Failed Ids) b = (p, stopping, record { group = b.before; there = b.was; holds = b.holds.1 })
-        by_cases (stop.Failed (Worker node shard before after)) b = (p, stopping, record { was = b.before; is = b.after; there = b.was; here = b.is; failed = b.holds.1 })
+        by_cases (stop.Failed (Worker failure)) b = (p, stopping, record { was = b.before; is = b.after; there = b.was; here = b.is; failed = b.holds.1 })
         by_cases (stop.Failed Memory) b = tt
 
   -- a write that stopped, by what the loop knows

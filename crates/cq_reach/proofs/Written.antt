@@ -4,6 +4,7 @@ use Rattle.std.specs.Prelude.{nat_eq}
 use Rattle.std.specs.List.{AllByRecursion, sum_by}
 use Rattle.std.proofs.lemmas.Bool.Decides.{eqb_tells}
 use Rattle.cq_value.proofs.Lists.{append_nil, got}
+use Rattle.cq_tree.specs.declared.failure.StoreFailure.{StoreFailure}
 use Rattle.cq_tree.specs.declared.journal.Who.{Who}
 use Rattle.cq_tree.specs.declared.journal.Entry.{Entry}
 use Rattle.cq_tree.specs.declared.journal.EntryKind.{EntryKind}
@@ -154,15 +155,15 @@ module _ {X : Type 0} (state : X → StoreState) (who : Who) (parts : List Part)
   lacking : AllStaged state parts old mid (Err (stop.Failed Ids)) → IsWritten state who parts old mid (Err Ids)
   lacking a = record { part = a.1.0; stopped = a.1.1; lacks = a.1.2; same = restored_journals state old mid a.0 }
 
-  failing : (node shard before after : ℕ) → AllStaged state parts old mid (Err (stop.Failed (Worker node shard before after))) → IsWritten state who parts old mid (Err (Worker node shard before after))
-  failing node shard before after a = record { part = a.1.0; stopped = a.1.1; failed = a.1.2; same = restored_journals state old mid a.0 }
+  failing : (failure : StoreFailure) → AllStaged state parts old mid (Err (stop.Failed (Worker failure))) → IsWritten state who parts old mid (Err (Worker failure))
+  failing failure a = record { part = a.1.0; stopped = a.1.1; failed = a.1.2; same = restored_journals state old mid a.0 }
 
   no_memory : AllStaged state parts old mid (Err (stop.Failed Memory)) → IsWritten state who parts old mid (Err Memory)
   no_memory a = restored_journals state old mid a.0
 
   pub unwritten : (error : WriteError) → AllStaged state parts old mid (Err (stop.Failed error)) → IsWritten state who parts old mid (Err error)
   unwritten Ids a = lacking a
-  unwritten (Worker node shard before after) a = failing node shard before after a
+  unwritten (Worker failure) a = failing failure a
   unwritten Memory a = no_memory a
 
   pub unwritten_go_on : (why : Stop) → AllStaged state parts old mid (Err why) → GoOn state old mid

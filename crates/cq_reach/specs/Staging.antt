@@ -116,14 +116,14 @@ abbrev pub outcome_by : Result Staged GroupError → Result Reply WriteError
 outcome_by (Ok (staged.Ready reply)) = Ok reply
 outcome_by (Ok (staged.Refused reply)) = Ok reply
 outcome_by (Ok staged.NoIds) = Err Ids
-outcome_by (Err (group.Worker node shard before after)) = Err (Worker node shard before after)
+outcome_by (Err (group.Worker failure)) = Err (Worker failure)
 outcome_by (Err group.Memory) = Err Memory
 
 -- what the part's group is where the part stops the write
 abbrev pub StopsAt : {X : Type 0} → (X → StoreState) → Part → Stop → GroupState X → GroupState X → Type 0
 StopsAt state p (stop.Refused s) g h = (s.part ≡ p) × Refuses state p.op s.reply g h
 StopsAt state p (stop.Failed Ids) g h = IsDropped state g h × LacksIds g p.op
-StopsAt state p (stop.Failed (Worker node shard before after)) g h = IsDropped state g h × SomeZip (Lifted state (Failed node shard before after)) (stores_of g) (stores_of h)
+StopsAt state p (stop.Failed (Worker failure)) g h = IsDropped state g h × SomeZip (Lifted state (Failed failure)) (stores_of g) (stores_of h)
 StopsAt state p (stop.Failed Memory) g h = IsDropped state g h
 
 abbrev pub StagesOne : {X : Type 0} → (X → StoreState) → Part → Result Reply WriteError → GroupState X → GroupState X → Type 0
@@ -138,7 +138,7 @@ abbrev pub IsPut : {X : Type 0} → (X → StoreState) → ReadyPart → List Re
 IsPut state s ready more old new (Ok x) = IsMade s.reply × (more ≡ ready ++ s ∷ []) × (new ≡ old)
 IsPut state s ready more old new (Err (stop.Refused r)) = (more ≡ ready) × (r ≡ s) × IsRefusal s.reply × (new ≡ old)
 IsPut state s ready more old new (Err (stop.Failed Ids)) = ⊥
-IsPut state s ready more old new (Err (stop.Failed (Worker node shard before after))) = ⊥
+IsPut state s ready more old new (Err (stop.Failed (Worker failure))) = ⊥
 IsPut state s ready more old new (Err (stop.Failed Memory)) = (more ≡ ready) × TurnsOne s.part.group (IsDropped state) old new
 
 -- these are staged
@@ -165,7 +165,7 @@ pub record AreRestored {X : Type 0} (state : X → StoreState) (old new : List (
 abbrev pub StopsBy : {X : Type 0} → (X → StoreState) → List Part → List (GroupState X) → List (GroupState X) → Stop → Type 0
 StopsBy {X} state parts old new (stop.Refused s) = IsStopped parts old s.part × InBoth old new s.part.group (Refuses state s.part.op s.reply)
 StopsBy {X} state parts old new (stop.Failed Ids) = (p : Part) × IsStopped parts old p × InGroup old p (λ (g : GroupState X). LacksIds g p.op)
-StopsBy {X} state parts old new (stop.Failed (Worker node shard before after)) = (p : Part) × IsStopped parts old p × HasFailedAt state p.group node shard before after old new
+StopsBy {X} state parts old new (stop.Failed (Worker failure)) = (p : Part) × IsStopped parts old p × HasFailedAt state p.group failure old new
 StopsBy {X} state parts old new (stop.Failed Memory) = ⊤
 
 -- all parts are staged, or none

@@ -1,6 +1,7 @@
 -- What a write does to several shard groups.
 use Rattle.std.specs.Prelude.{◌≡◌, ◌+◌, ◌≤◌, ◌<◌, ⊤, ℕ, List, [], ◌∷◌, ◌++◌, length, Some, slice_get, Result, Ok, Err}
 use Rattle.std.specs.List.{AllByRecursion, sum_by}
+use Rattle.cq_tree.specs.declared.failure.StoreFailure.{StoreFailure}
 use Rattle.cq_tree.specs.declared.journal.Who.{Who}
 use Rattle.cq_tree.specs.declared.journal.EntryKind.TheVariants as entry
 use Rattle.cq_tree.specs.declared.write.Reply.{Reply}
@@ -88,10 +89,10 @@ pub record IsLacking {X : Type 0} (parts : List Part) (old new : List (GroupStat
   pub same : journals_of new ≡ journals_of old
 
 -- no part has an entry, since a store of the group of one failed, after those before it could be made
-pub record IsFailing {X : Type 0} (state : X → StoreState) (parts : List Part) (node shard before after : ℕ) (old new : List (GroupState X)) : Type 0 where
+pub record IsFailing {X : Type 0} (state : X → StoreState) (parts : List Part) (failure : StoreFailure) (old new : List (GroupState X)) : Type 0 where
   pub part : Part
   pub stopped : IsStopped parts old part
-  pub failed : HasFailedAt state part.group node shard before after old new
+  pub failed : HasFailedAt state part.group failure old new
   pub same : journals_of new ≡ journals_of old
 
 -- what a write over these parts came to
@@ -100,5 +101,5 @@ IsWritten state who parts old new (Ok (Count n)) = AreMade who parts old new n
 IsWritten state who parts old new (Ok Duplicate) = IsRefused who parts old new Duplicate
 IsWritten state who parts old new (Ok OutOfRange) = IsRefused who parts old new OutOfRange
 IsWritten state who parts old new (Err Ids) = IsLacking parts old new
-IsWritten state who parts old new (Err (Worker node shard before after)) = IsFailing state parts node shard before after old new
+IsWritten state who parts old new (Err (Worker failure)) = IsFailing state parts failure old new
 IsWritten state who parts old new (Err Memory) = journals_of new ≡ journals_of old

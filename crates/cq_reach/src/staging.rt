@@ -35,19 +35,7 @@ fn outcome_of(staged: Result<Staged, GroupError>) -> Result<Reply, WriteError>
     match staged {
         Ok(Staged::Ready(reply) | Staged::Refused(reply)) => Ok(reply),
         Ok(Staged::NoIds) => Err(WriteError::Ids),
-        Err(
-            GroupError::Worker {
-                node,
-                shard,
-                before,
-                after,
-            },
-        ) => Err(WriteError::Worker {
-            node,
-            shard,
-            before,
-            after,
-        }),
+        Err(GroupError::Worker(failure)) => Err(WriteError::Worker(failure)),
         Err(GroupError::Memory) => Err(WriteError::Memory),
     }
 }
