@@ -19,8 +19,10 @@ use Rattle.cq_group.specs.declared.group.GroupState.{GroupState}
 use Rattle.cq_group.specs.Groups.{entries_of, shapes}
 use Rattle.cq_router.specs.declared.insertion.Part.{Part}
 use Rattle.cq_reach.specs.declared.staging.ReadyPart.{ReadyPart}
+use Rattle.cq_reach.specs.Seen.{seen_of, all_seen}
 use Rattle.cq_reach.specs.Writes.{reply_over, HasIds, Replies, AscendFrom}
 use Rattle.cq_reach.specs.Staging.{InBoth, Stages, place_of, count_of, count_in}
+use Rattle.cq_reach.proofs.Seeing.{seen_at}
 use Rattle.cq_reach.proofs.Holding.{ready_over}
 use Rattle.cq_reach.proofs.Stopping.{parts_of}
 
@@ -33,7 +35,7 @@ filter_short p (x ∷ xs) =
     elim (p x) as (λ b. length (cond b (x ∷ filter p xs) (filter p xs)) ≤ length (x ∷ xs)) [ true ↦ omega (arith, rest) | false ↦ omega (arith, rest) ]
 
 -- a write changes no more rows than there are ids
-pub count_low : {X : Type 0} (g : GroupState X) (op : ShardOp) → HasIds g op → count_of (reply_over g op) ≤ 4294967296
+pub count_low : {X : Type 0} (g : GroupState X) (op : ShardOp) → HasIds (seen_of g) op → count_of (reply_over (seen_of g) op) ≤ 4294967296
 count_low g (Insert table rows) ids =
     let t = replay table (shapes g table) (entries_of g) in
     elim (repeats (shapes g table).key (rows_of t) rows) as (λ b. count_of (cond b Duplicate (Count (length rows))) ≤ 4294967296) [ true ↦ omega arith | false ↦ omega (arith, ids) ]
@@ -58,7 +60,7 @@ count_low g (Remove table filter_) ids =
 -- the reply of a part over the groups
 abbrev pub reply_by : {X : Type 0} → Option (GroupState X) → ShardOp → Reply
 reply_by None op = Duplicate
-reply_by (Some g) op = reply_over g op
+reply_by (Some g) op = reply_over (seen_of g) op
 
 abbrev pub counts : {X : Type 0} → List (GroupState X) → Part → ℕ
 counts groups p = count_of (reply_by (slice_get groups p.group) p.op)
@@ -79,12 +81,12 @@ module _ {X : Type 0} (state : X → StoreState) (old mid : List (GroupState X))
   reply_is s b = counted s.reply b.holds.made ∙ ap Count (sym (count_is s b))
 
   pub each_replied : (ready : List ReadyPart) → AllByRecursion (λ (s : ReadyPart). InBoth old mid (place_of s) (Stages state s.part.op s.reply)) ready →
-      AllByRecursion (λ (p : Part). Replies old p (Count (counts old p))) (parts_of ready)
+      AllByRecursion (λ (p : Part). Replies (all_seen old) p (Count (counts old p))) (parts_of ready)
   each_replied [] each = tt
   each_replied (s ∷ ready) each =
       let b = each.0 in
       let over = ready_over state b.before b.after s.part.op s.reply b.holds.held b.holds.ready in
-      (record { group = b.before; there = b.was; holds = (over.0 ∙ reply_is s b, over.1) }, each_replied ready each.1)
+      (record { group = seen_of b.before; there = seen_at old s.part.group b.before b.was; holds = (over.0 ∙ reply_is s b, over.1) }, each_replied ready each.1)
 
   pub sum_is : (ready : List ReadyPart) → AllByRecursion (λ (s : ReadyPart). InBoth old mid (place_of s) (Stages state s.part.op s.reply)) ready → sum_by count_in ready ≡ sum_by (counts old) (parts_of ready)
   sum_is [] each = refl
@@ -100,7 +102,7 @@ module _ {X : Type 0} (state : X → StoreState) (old mid : List (GroupState X))
   sum_low low (s ∷ ready) within h each =
       let b = each.0 in
       let over = ready_over state b.before b.after s.part.op s.reply b.holds.held b.holds.ready in
-      let few : count_of (reply_over b.before s.part.op) ≤ 4294967296 = count_low b.before s.part.op over.1 in
+      let few : count_of (reply_over (seen_of b.before) s.part.op) ≤ 4294967296 = count_low b.before s.part.op over.1 in
       let one : count_in s ≤ 4294967296 = subst (λ (r : Reply). count_of r ≤ 4294967296) over.0 few in
       let there = got_below old s.part.group b.before b.was in
       let rest = sum_low (s.part.group + 1) ready (omega (arith, there)) h.1 each.1 in

@@ -13,11 +13,11 @@ use Rattle.cq_tree.specs.declared.write.Reply.{Reply}
 use Rattle.cq_tree.specs.declared.write.Reply.TheVariants.{Count}
 use Rattle.cq_tree.specs.declared.write.ShardOp.{ShardOp}
 use Rattle.cq_journal.specs.Records.{Journal}
-use Rattle.cq_history.specs.Journals.{Kinds, with_entries}
+use Rattle.cq_history.specs.Journals.{Kinds, none, with_entries}
 use Rattle.cq_history.specs.Deeds.{Grows}
 use Rattle.cq_history.proofs.Lists.{got_below}
 use Rattle.cq_history.proofs.Entries.{index_beyond}
-use Rattle.cq_history.proofs.Script.{with_none}
+use Rattle.cq_history.proofs.Script.{with_none, grows_none}
 use Rattle.cq_store.specs.Stores.{StoreState}
 use Rattle.cq_group.specs.declared.group.GroupState.{GroupState}
 use Rattle.cq_group.specs.Groups.{IsSameGroup, entries_of, journal_of}
@@ -25,7 +25,9 @@ use Rattle.cq_group.specs.Resting.{IsResting, AreResting, GoOn, journals_of}
 use Rattle.cq_group.specs.Calls.{GroupGoesOn}
 use Rattle.cq_router.specs.declared.insertion.Part.{Part}
 use Rattle.cq_reach.specs.declared.staging.ReadyPart.{ReadyPart}
-use Rattle.cq_reach.specs.Writes.{entered}
+use Rattle.cq_reach.specs.Seen.{all_seen, journals_in}
+use Rattle.cq_reach.specs.Writes.{entered, Enters as Makes}
+use Rattle.cq_reach.proofs.Seeing.{journals_seen}
 use Rattle.cq_reach.specs.Staging.{InBoth, IsApart, AreApart, Turned, Enters, place_of, AreRestored}
 use Rattle.cq_reach.proofs.Growth.{rest_more}
 use Rattle.cq_reach.proofs.Turning.{turned_at}
@@ -155,3 +157,13 @@ module _ {X : Type 0} (state : X → StoreState) where
             subst (λ (v : GroupState X). GroupGoesOn state g v × IsResting state v) (sym b.1) (goes_on_same state g, resting i g gs)
       ];
     }
+
+-- ---- as they are known
+
+module _ {X : Type 0} (who : Who) where
+  pub enters_seen : (kinds : Kinds) (old new : List (GroupState X)) → Grows who kinds (journals_of old) (journals_of new) → Makes who kinds (all_seen old) (all_seen new)
+  enters_seen kinds old new g = subst (λ js. Grows who kinds js (journals_in (all_seen new))) (sym (journals_seen old)) (subst (λ js. Grows who kinds (journals_of old) js) (sym (journals_seen new)) g)
+
+  -- no entry was made
+  pub enters_same : (old new : List (GroupState X)) → journals_of new ≡ journals_of old → Makes who none (all_seen old) (all_seen new)
+  enters_same old new e = enters_seen none old new (subst (λ js. Grows who none (journals_of old) js) (sym e) (grows_none who (journals_of old)))

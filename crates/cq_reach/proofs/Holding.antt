@@ -24,6 +24,7 @@ use Rattle.cq_router.specs.declared.insertion.Part.{Part}
 use Rattle.cq_reach.specs.declared.error.WriteError.TheVariants.{Ids, Worker, Memory}
 use Rattle.cq_reach.specs.declared.staging.Stop.{Stop}
 use Rattle.cq_reach.specs.declared.staging.Stop.TheVariants as stop
+use Rattle.cq_reach.specs.Seen.{seen_of}
 use Rattle.cq_reach.specs.Writes.{reply_over, HasIds}
 use Rattle.cq_reach.specs.Staging.{IsHeld, IsDropped, Stages, StopsAt, StagesOne, outcome_by}
 use Rattle.cq_reach.proofs.Growth.{rest_still}
@@ -59,7 +60,7 @@ module _ {X : Type 0} (state : X → StoreState) where
   shapes_same : (g h : GroupState X) (table : ℕ) → IsSameGroup g h → shapes h table ≡ shapes g table
   shapes_same g h table p = ap (λ os. or_no_shape (shape_at os table)) p.tables
 
-  pub reply_held : (g h : GroupState X) (op : ShardOp) → IsHeld state g h → reply_over h op ≡ reply_over g op
+  pub reply_held : (g h : GroupState X) (op : ShardOp) → IsHeld state g h → reply_over (seen_of h) op ≡ reply_over (seen_of g) op
   reply_held g h op a =
       ap (λ (v : Shape). reply_of op (replay (table_of op) v (entries_of h)) v) (shapes_same g h (table_of op) a.on.same)
       ∙ ap (λ (v : List Entry). reply_of op (replay (table_of op) (shapes g (table_of op)) v) (shapes g (table_of op))) a.entries
@@ -70,10 +71,10 @@ module _ {X : Type 0} (state : X → StoreState) where
       ∙ ap (λ (v : List Entry). (replay table (shapes g table) v).next) a.entries
 
   -- what a staged write is replied over the group as it was, and its ids
-  pub ready_over : (g h : GroupState X) (op : ShardOp) (reply : Reply) → IsHeld state g h → IsReady state h op reply → (reply_over g op ≡ reply) × HasIds g op
+  pub ready_over : (g h : GroupState X) (op : ShardOp) (reply : Reply) → IsHeld state g h → IsReady state h op reply → (reply_over (seen_of g) op ≡ reply) × HasIds (seen_of g) op
   ready_over g h op reply a r = (sym (reply_held g h op a) ∙ sym r.replied, subst (λ n. n + length (inserts op) ≤ most_ids) (next_held g h (table_of op) a) r.ids)
 
-  pub made_over : (g h : GroupState X) (op : ShardOp) (reply : Reply) → Stages state op reply g h → IsMade (reply_over g op) × HasIds g op
+  pub made_over : (g h : GroupState X) (op : ShardOp) (reply : Reply) → Stages state op reply g h → IsMade (reply_over (seen_of g) op) × HasIds (seen_of g) op
   made_over g h op reply s = let r = ready_over g h op reply s.held s.ready in (subst IsMade (sym r.0) s.made, r.1)
 
   -- what staging a part came to

@@ -15,8 +15,10 @@ use Rattle.cq_reach.specs.declared.error.WriteError.TheVariants.{Ids, Worker, Me
 use Rattle.cq_reach.specs.declared.staging.ReadyPart.{ReadyPart}
 use Rattle.cq_reach.specs.declared.staging.Stop.{Stop}
 use Rattle.cq_reach.specs.declared.staging.Stop.TheVariants as stop
-use Rattle.cq_reach.specs.Writes.{InGroup, CanTake, IsReadyIn, AscendFrom, IsStopped}
-use Rattle.cq_reach.specs.Staging.{InBoth, TurnsOne, IsApart, AreApart, Turned, IsHeld, IsDropped, Stages, Refuses, CanStage, place_of, IsReplied, StopsAt, IsPut, AreStaged, AreDropped, IsNext, AreRestored, StopsBy, AllStaged}
+use Rattle.cq_reach.specs.Seen.{seen_of, all_seen}
+use Rattle.cq_reach.specs.Writes.{InGroup, IsReadyIn, AscendFrom, IsStopped}
+use Rattle.cq_reach.specs.Staging.{Takes, InBoth, TurnsOne, IsApart, AreApart, Turned, IsHeld, IsDropped, Stages, Refuses, CanStage, place_of, IsReplied, StopsAt, IsPut, AreStaged, AreDropped, IsNext, AreRestored, StopsBy, AllStaged}
+use Rattle.cq_reach.proofs.Seeing.{seen_at}
 use Rattle.cq_reach.proofs.Turning.{apart_last, one_at, one_twice, one_weaker, turned_at, turned_more}
 use Rattle.cq_reach.proofs.Holding.{held_same, held_more, dropped_more, made_over, stops_dropped}
 
@@ -149,10 +151,10 @@ module _ {X : Type 0} (state : X → StoreState) where
       (put.0, one_twice (IsReplied state p.op reply) (IsDropped state) (IsDropped state) (λ g m h a d. dropped_more state g m h a.held d) p.group old mid new t dropped)
 
   -- the next part's group is as it was
-  pub can_stage : (old mid : List (GroupState X)) (ready : List ReadyPart) (p : Part) (rest : List Part) → AreResting state old → AllByRecursion (CanTake old) (parts_of ready ++ p ∷ rest) →
+  pub can_stage : (old mid : List (GroupState X)) (ready : List ReadyPart) (p : Part) (rest : List Part) → AreResting state old → AllByRecursion (Takes old) (parts_of ready ++ p ∷ rest) →
       AscendFrom 0 (parts_of ready ++ p ∷ rest) → AreStaged state ready old mid → CanStage state mid p
   can_stage old mid ready p rest resting takes ascend t =
-      let take = all_middle (CanTake old) (parts_of ready) p rest takes in
+      let take = all_middle (Takes old) (parts_of ready) p rest takes in
       record {
         group = take.group;
         there = t.others p.group (ascend_apart 0 ready p rest ascend) ∙ take.there;
@@ -182,11 +184,11 @@ module _ {X : Type 0} (state : X → StoreState) where
   staged_ready old mid [] each = tt
   staged_ready old mid (s ∷ ready) each = let b = each.0 in (record { group = b.after; there = b.is; holds = (b.holds.held.kept, b.holds.ready) }, staged_ready old mid ready each.1)
 
-  ready_before : (old mid : List (GroupState X)) (ready : List ReadyPart) → AllByRecursion (λ (s : ReadyPart). InBoth old mid (place_of s) (Stages state s.part.op s.reply)) ready → AllByRecursion (IsReadyIn old) (parts_of ready)
+  ready_before : (old mid : List (GroupState X)) (ready : List ReadyPart) → AllByRecursion (λ (s : ReadyPart). InBoth old mid (place_of s) (Stages state s.part.op s.reply)) ready → AllByRecursion (IsReadyIn (all_seen old)) (parts_of ready)
   ready_before old mid [] each = tt
   ready_before old mid (s ∷ ready) each =
       let b = each.0 in
-      (record { group = b.before; there = b.was; holds = made_over state b.before b.after s.part.op s.reply b.holds }, ready_before old mid ready each.1)
+      (record { group = seen_of b.before; there = seen_at old s.part.group b.before b.was; holds = made_over state b.before b.after s.part.op s.reply b.holds }, ready_before old mid ready each.1)
 
   -- ---- where a part stops
 
@@ -235,13 +237,13 @@ module _ {X : Type 0} (state : X → StoreState) where
     pub stops_by : StopsBy state (parts_of ready ++ p ∷ rest) old new why
     stops_by = by_cases why over
       where
-        stopping : IsStopped (parts_of ready ++ p ∷ rest) old p
+        stopping : IsStopped (parts_of ready ++ p ∷ rest) (all_seen old) p
         stopping = record { front = parts_of ready; back = rest; all = refl; ready = ready_before old mid ready t.each }
 
         by_cases : (w : Stop) → InBoth old new p.group (StopsAt state p w) → StopsBy state (parts_of ready ++ p ∷ rest) old new w
         by_cases (stop.Refused s) b =
             let same : p ≡ s.part = sym b.holds.0 in
-            subst (λ (q : Part). IsStopped (parts_of ready ++ p ∷ rest) old q × InBoth old new q.group (Refuses state q.op s.reply)) same
+            subst (λ (q : Part). IsStopped (parts_of ready ++ p ∷ rest) (all_seen old) q × InBoth old new q.group (Refuses state q.op s.reply)) same
             (stopping, record { before = b.before; after = b.after; was = b.was; is = b.is; holds = b.holds.1 })
         by_cases (stop.Failed Ids) b = (p, stopping, record { group = b.before; there = b.was; holds = b.holds.1 })
         by_cases (stop.Failed (Worker failure)) b = (p, stopping, record { was = b.before; is = b.after; there = b.was; here = b.is; failed = b.holds.1 })

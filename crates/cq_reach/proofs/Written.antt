@@ -13,14 +13,14 @@ use Rattle.cq_tree.specs.declared.write.Reply.{Reply}
 use Rattle.cq_tree.specs.declared.write.Reply.TheVariants.{Count, Duplicate, OutOfRange}
 use Rattle.cq_tree.specs.declared.write.ShardOp.{ShardOp}
 use Rattle.cq_journal.specs.Replies.{IsRefusal}
-use Rattle.cq_history.specs.Journals.{Kinds, in_each, with_entries}
+use Rattle.cq_history.specs.Journals.{Kinds, none, in_each, with_entries}
 use Rattle.cq_history.proofs.Lists.{got_below}
 use Rattle.cq_history.proofs.Script.{with_none}
 use Rattle.cq_store.specs.Stores.{StoreState}
 use Rattle.cq_group.specs.declared.group.GroupState.{GroupState}
 use Rattle.cq_group.specs.Groups.{entries_of, journal_of}
 use Rattle.cq_group.specs.Calls.{GroupGoesOn}
-use Rattle.cq_group.specs.Resting.{IsResting, AreResting, GoOn}
+use Rattle.cq_group.specs.Resting.{IsResting, AreResting, GoOn, HasFailed}
 use Rattle.cq_group.proofs.WriteLaws.{goes_on_twice}
 use Rattle.cq_router.specs.declared.insertion.Part.{Part}
 use Rattle.cq_reach.specs.declared.staging.ReadyPart.{ReadyPart}
@@ -28,13 +28,16 @@ use Rattle.cq_reach.specs.declared.staging.Stop.{Stop}
 use Rattle.cq_reach.specs.declared.staging.Stop.TheVariants as stop
 use Rattle.cq_reach.specs.declared.error.WriteError.{WriteError}
 use Rattle.cq_reach.specs.declared.error.WriteError.TheVariants.{Ids, Worker, Memory}
-use Rattle.cq_reach.specs.Writes.{AscendFrom, AreMade, IsRefused, IsWritten}
-use Rattle.cq_reach.specs.Staging.{InBoth, TurnsOne, AreApart, Turned, Stages, Enters, place_of, count_in, AreStaged, AreEntered, AllStaged}
+use Rattle.cq_reach.specs.Seen.{seen_of, all_seen}
+use Rattle.cq_reach.specs.Writes.{AscendFrom, Enters as Makes, AreMade, IsRefused, IsWritten, IfLost}
+use Rattle.cq_reach.specs.Staging.{InBoth, TurnsOne, AreApart, Turned, Stages, Enters, place_of, count_in, AreStaged, AreEntered, AreRestored, AllStaged}
 use Rattle.cq_reach.proofs.Turning.{both_twice, one_at}
 use Rattle.cq_reach.proofs.Holding.{rests_again, ready_over}
+use Rattle.cq_reach.proofs.Seeing.{seen_at}
+use Rattle.cq_reach.proofs.Failing.{fails_in}
 use Rattle.cq_reach.proofs.Stopping.{parts_of, ascend_each}
 use Rattle.cq_reach.proofs.Counting.{counts, reply_is, each_replied, sum_is, sum_low}
-use Rattle.cq_reach.proofs.Entering.{Counted, all_grow, all_go_on, grows_by, journal_same, journal_more, rests_entered, restored_journals, restored_on}
+use Rattle.cq_reach.proofs.Entering.{enters_seen, enters_same, Counted, all_grow, all_go_on, grows_by, journal_same, journal_more, rests_entered, restored_journals, restored_on}
 
 -- in order, each in a group of its own
 pub ready_apart : (parts : List Part) (ready : List ReadyPart) → parts ≡ parts_of ready → AscendFrom 0 parts → AscendFrom 0 (parts_of ready)
@@ -74,12 +77,12 @@ module _ {X : Type 0} (state : X → StoreState) (who : Who) (parts : List Part)
     counted_all : AreEntered state who ready mid new → Turned place_of (Counted state who (counts old) old new) ready old new
     counted_all en = record { count = en.count ∙ t.count; each = counted_each ready t.each en.each; others = λ i h. en.others i h ∙ t.others i h }
 
-    pub all_made : AreEntered state who ready mid new → (n : ℕ) → n ≡ sum_by count_in ready → IsWritten state who parts old new (Ok (Count n))
-    all_made en n is = subst (λ (ps : List Part). AreMade who ps old new n) (sym e) (record {
+    pub all_made : AreEntered state who ready mid new → (n : ℕ) → n ≡ sum_by count_in ready → IsWritten who parts (all_seen old) (all_seen new) (Ok (Count n))
+    all_made en n is = subst (λ (ps : List Part). AreMade who ps (all_seen old) (all_seen new) n) (sym e) (record {
       counts = counts old;
       sum = is ∙ sum_is state old mid ready t.each;
       replied = each_replied state old mid ready t.each;
-      grows = all_grow state who (counts old) old new ready (apart_all ready (ready_apart parts ready e ascend)) (counted_all en);
+      enters = enters_seen who _ old new (all_grow state who (counts old) old new ready (apart_all ready (ready_apart parts ready e ascend)) (counted_all en));
     })
 
     pub made_go_on : AreEntered state who ready mid new → GoOn state old new
@@ -120,19 +123,19 @@ module _ {X : Type 0} (state : X → StoreState) (who : Who) (parts : List Part)
         let low = got_below old s.part.group a.1.1.before a.1.1.was in
         elim (eqb_tells i s.part.group) [ inl y ↦ absurd (let e = y.1 in omega (arith, low, far, e)) | inr z ↦ rw z.0 refl ]
 
-    refused : IsRefused who parts old new s.reply
+    refused : IsRefused who parts (all_seen old) (all_seen new) s.reply
     refused = record {
       part = s.part;
       stopped = a.1.0;
-      replied = let b = a.1.1 in record { group = b.before; there = b.was; holds = ready_over state b.before b.after s.part.op s.reply b.holds.dropped.held b.holds.ready };
-      grows = grows_by who kinds old new (en.count ∙ a.0.count)
-          (λ i g h gs hs. let low = got_below old i g gs in let m = got mid i (let c = a.0.count in omega (arith, low, c)) in enters_at i g m.0 h gs m.1 hs) beyond;
+      replied = let b = a.1.1 in record { group = seen_of b.before; there = seen_at old s.part.group b.before b.was; holds = ready_over state b.before b.after s.part.op s.reply b.holds.dropped.held b.holds.ready };
+      enters = enters_seen who kinds old new (grows_by who kinds old new (en.count ∙ a.0.count)
+          (λ i g h gs hs. let low = got_below old i g gs in let m = got mid i (let c = a.0.count in omega (arith, low, c)) in enters_at i g m.0 h gs m.1 hs) beyond);
     }
 
-    pub refused_written : IsWritten state who parts old new (Ok s.reply)
+    pub refused_written : IsWritten who parts (all_seen old) (all_seen new) (Ok s.reply)
     refused_written = by_cases s.reply a.1.1.holds.refusal refused
       where
-        by_cases : (r : Reply) → IsRefusal r → IsRefused who parts old new r → IsWritten state who parts old new (Ok r)
+        by_cases : (r : Reply) → IsRefusal r → IsRefused who parts (all_seen old) (all_seen new) r → IsWritten who parts (all_seen old) (all_seen new) (Ok r)
         by_cases (Count n) b h = absurd b
         by_cases Duplicate b h = h
         by_cases OutOfRange b h = h
@@ -152,19 +155,37 @@ module _ {X : Type 0} (state : X → StoreState) (who : Who) (parts : List Part)
 
   -- ---- no part has an entry
 
-  lacking : AllStaged state parts old mid (Err (stop.Failed Ids)) → IsWritten state who parts old mid (Err Ids)
-  lacking a = record { part = a.1.0; stopped = a.1.1; lacks = a.1.2; same = restored_journals state old mid a.0 }
+  unmade : AreRestored state old mid → Makes who none (all_seen old) (all_seen mid)
+  unmade r = enters_same who old mid (restored_journals state old mid r)
 
-  failing : (failure : StoreFailure) → AllStaged state parts old mid (Err (stop.Failed (Worker failure))) → IsWritten state who parts old mid (Err (Worker failure))
-  failing failure a = record { part = a.1.0; stopped = a.1.1; failed = a.1.2; same = restored_journals state old mid a.0 }
+  lacking : AllStaged state parts old mid (Err (stop.Failed Ids)) → IsWritten who parts (all_seen old) (all_seen mid) (Err Ids)
+  lacking a =
+      let its = a.1.2 in
+      record { part = a.1.0; stopped = a.1.1; so = record { group = seen_of its.group; there = seen_at old a.1.0.group its.group its.there; holds = its.holds }; enters = unmade a.0 }
 
-  no_memory : AllStaged state parts old mid (Err (stop.Failed Memory)) → IsWritten state who parts old mid (Err Memory)
-  no_memory a = restored_journals state old mid a.0
+  failing : (failure : StoreFailure) → AllStaged state parts old mid (Err (stop.Failed (Worker failure))) → IsWritten who parts (all_seen old) (all_seen mid) (Err (Worker failure))
+  failing failure a =
+      let its = a.1.2 in
+      record {
+        part = a.1.0;
+        stopped = a.1.1;
+        so = record { group = seen_of its.was; there = seen_at old a.1.0.group its.was its.there; holds = fails_in state its.was its.is failure (resting a.1.0.group its.was its.there) its.failed };
+        enters = unmade a.0;
+      }
 
-  pub unwritten : (error : WriteError) → AllStaged state parts old mid (Err (stop.Failed error)) → IsWritten state who parts old mid (Err error)
+  no_memory : AllStaged state parts old mid (Err (stop.Failed Memory)) → IsWritten who parts (all_seen old) (all_seen mid) (Err Memory)
+  no_memory a = unmade a.0
+
+  pub unwritten : (error : WriteError) → AllStaged state parts old mid (Err (stop.Failed error)) → IsWritten who parts (all_seen old) (all_seen mid) (Err error)
   unwritten Ids a = lacking a
   unwritten (Worker failure) a = failing failure a
   unwritten Memory a = no_memory a
+
+  -- the store that an error names failed
+  pub unwritten_lost : (error : WriteError) → AllStaged state parts old mid (Err (stop.Failed error)) → IfLost (λ f. HasFailed state f old mid) error
+  unwritten_lost Ids a = tt
+  unwritten_lost (Worker failure) a = (a.1.0.group, a.1.2)
+  unwritten_lost Memory a = tt
 
   pub unwritten_go_on : (why : Stop) → AllStaged state parts old mid (Err why) → GoOn state old mid
   unwritten_go_on why a = restored_on state old mid resting a.0

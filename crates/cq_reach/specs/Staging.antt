@@ -23,6 +23,7 @@ use Rattle.cq_reach.specs.declared.error.WriteError.TheVariants.{Ids, Worker, Me
 use Rattle.cq_reach.specs.declared.staging.ReadyPart.{ReadyPart}
 use Rattle.cq_reach.specs.declared.staging.Stop.{Stop}
 use Rattle.cq_reach.specs.declared.staging.Stop.TheVariants as stop
+use Rattle.cq_reach.specs.Seen.{seen_of, all_seen}
 use Rattle.cq_reach.specs.Writes.{InGroup, LacksIds, IsStopped}
 
 -- ---- lists of groups before and after
@@ -94,6 +95,10 @@ pub record Enters {X : Type 0} (state : X → StoreState) (who : Who) (op : Shar
   pub quiet : IsQuiet state h
   pub on : GroupGoesOn state g h
 
+-- the group of a part has its table, and can compute it
+abbrev pub Takes : {X : Type 0} → List (GroupState X) → Part → Type 0
+Takes {X} groups p = InGroup groups p (λ (g : GroupState X). HasTable g (table_of p.op) × CanCompute g p.op)
+
 -- a part can be staged in its group
 abbrev pub CanStage : {X : Type 0} → (X → StoreState) → List (GroupState X) → Part → Type 0
 CanStage {X} state groups p = InGroup groups p (λ (g : GroupState X). IsResting state g × HasTable g (table_of p.op) × CanCompute g p.op)
@@ -122,7 +127,7 @@ outcome_by (Err group.Memory) = Err Memory
 -- what the part's group is where the part stops the write
 abbrev pub StopsAt : {X : Type 0} → (X → StoreState) → Part → Stop → GroupState X → GroupState X → Type 0
 StopsAt state p (stop.Refused s) g h = (s.part ≡ p) × Refuses state p.op s.reply g h
-StopsAt state p (stop.Failed Ids) g h = IsDropped state g h × LacksIds g p.op
+StopsAt state p (stop.Failed Ids) g h = IsDropped state g h × LacksIds (seen_of g) p.op
 StopsAt state p (stop.Failed (Worker failure)) g h = IsDropped state g h × SomeZip (Lifted state (Failed failure)) (stores_of g) (stores_of h)
 StopsAt state p (stop.Failed Memory) g h = IsDropped state g h
 
@@ -163,9 +168,9 @@ pub record AreRestored {X : Type 0} (state : X → StoreState) (old new : List (
 
 -- why a part stopped a write, after those before it could be made
 abbrev pub StopsBy : {X : Type 0} → (X → StoreState) → List Part → List (GroupState X) → List (GroupState X) → Stop → Type 0
-StopsBy {X} state parts old new (stop.Refused s) = IsStopped parts old s.part × InBoth old new s.part.group (Refuses state s.part.op s.reply)
-StopsBy {X} state parts old new (stop.Failed Ids) = (p : Part) × IsStopped parts old p × InGroup old p (λ (g : GroupState X). LacksIds g p.op)
-StopsBy {X} state parts old new (stop.Failed (Worker failure)) = (p : Part) × IsStopped parts old p × HasFailedAt state p.group failure old new
+StopsBy {X} state parts old new (stop.Refused s) = IsStopped parts (all_seen old) s.part × InBoth old new s.part.group (Refuses state s.part.op s.reply)
+StopsBy {X} state parts old new (stop.Failed Ids) = (p : Part) × IsStopped parts (all_seen old) p × InGroup old p (λ (g : GroupState X). LacksIds (seen_of g) p.op)
+StopsBy {X} state parts old new (stop.Failed (Worker failure)) = (p : Part) × IsStopped parts (all_seen old) p × HasFailedAt state p.group failure old new
 StopsBy {X} state parts old new (stop.Failed Memory) = ⊤
 
 -- all parts are staged, or none

@@ -3,8 +3,8 @@ ghost use Rattle.std.specs.List.{AllByRecursion};
 ghost use Rattle.cq_journal.specs.Replies.{IsMade};
 ghost use Rattle.cq_group.specs.Groups.{IsKept};
 ghost use Rattle.cq_group.specs.Resting.{AreResting};
-ghost use Rattle.cq_reach.specs.Writes.{InGroup, CanTake, AscendFrom};
-ghost use Rattle.cq_reach.specs.Staging.{AreApart, TurnsOne, IsDropped, CanStage, place_of, outcome_by, IsStagedIn, IsPut, AreDropped, IsNext, AllStaged};
+ghost use Rattle.cq_reach.specs.Writes.{InGroup, AscendFrom};
+ghost use Rattle.cq_reach.specs.Staging.{Takes, AreApart, TurnsOne, IsDropped, CanStage, place_of, outcome_by, IsStagedIn, IsPut, AreDropped, IsNext, AllStaged};
 
 use crate::error::WriteError;
 use cq_group::{GroupError, GroupState, Staged};
@@ -140,7 +140,7 @@ pub fn stage_parts<S: Store>(
 ) -> Result<Items<ReadyPart>, Stop>
     requires resting { AreResting S.state groups.old.items }
     requires ascending { AscendFrom 0 parts }
-    requires takes { AllByRecursion (CanTake groups.old.items) parts }
+    requires takes { AllByRecursion (Takes groups.old.items) parts }
     ensures { AllStaged S.state parts groups.old.items groups.new.items result }
 {
     let mut ready = Items::new(alloc);

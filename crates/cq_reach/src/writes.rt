@@ -1,9 +1,10 @@
-ghost use Rattle.std.specs.Prelude.{◌≡◌, ◌<◌, ◌^◌, length};
+ghost use Rattle.std.specs.Prelude.{◌≡◌, ◌<◌, ◌^◌, length, IfErr};
 ghost use Rattle.std.specs.List.{AllByRecursion, sum_by};
 ghost use Rattle.cq_group.specs.Groups.{IsKept, IsReady};
-ghost use Rattle.cq_group.specs.Resting.{AreResting, GoOn};
-ghost use Rattle.cq_reach.specs.Writes.{InGroup, CanTake, AscendFrom, IsWritten};
-ghost use Rattle.cq_reach.specs.Staging.{AreApart, TurnsOne, Enters, AreEntered, place_of, count_in, count_of as count_by};
+ghost use Rattle.cq_group.specs.Resting.{AreResting, GoOn, HasFailed};
+ghost use Rattle.cq_reach.specs.Seen.{all_seen};
+ghost use Rattle.cq_reach.specs.Writes.{InGroup, AscendFrom, IsWritten, IfLost};
+ghost use Rattle.cq_reach.specs.Staging.{Takes, AreApart, TurnsOne, Enters, AreEntered, place_of, count_in, count_of as count_by};
 
 use crate::error::WriteError;
 use crate::staging::{ReadyPart, Stop, stage_parts};
@@ -64,8 +65,9 @@ pub fn write_groups<S: Store>(
     requires resting { AreResting S.state groups.old.items }
     requires few { length groups.old.items < 2 ^ 32 }
     requires ascending { AscendFrom 0 parts }
-    requires takes { AllByRecursion (CanTake groups.old.items) parts }
-    ensures written { IsWritten S.state who parts groups.old.items groups.new.items result }
+    requires takes { AllByRecursion (Takes groups.old.items) parts }
+    ensures written { IsWritten who parts (all_seen groups.old.items) (all_seen groups.new.items) result }
+    ensures failed { IfErr result (IfLost (λ f. HasFailed S.state f groups.old.items groups.new.items)) }
     ensures goes_on { GoOn S.state groups.old.items groups.new.items }
 {
     match stage_parts(alloc, groups, parts) {

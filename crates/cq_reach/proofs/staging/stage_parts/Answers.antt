@@ -4,8 +4,8 @@ use Rattle.std.specs.Vec.Iter.{into_iter_items}
 use Rattle.cq_router.specs.declared.insertion.Part.{Part}
 use Rattle.cq_group.specs.Groups.{IsKept}
 use Rattle.cq_reach.specs.declared.staging.ReadyPart.{ReadyPart}
-use Rattle.cq_reach.specs.Writes.{InGroup, CanTake, AscendFrom}
-use Rattle.cq_reach.specs.Staging.{AreApart, StopsAt, place_of}
+use Rattle.cq_reach.specs.Writes.{InGroup, AscendFrom}
+use Rattle.cq_reach.specs.Staging.{Takes, AreApart, StopsAt, place_of}
 use Rattle.cq_reach.proofs.Stopping.{parts_of, ascend_apart, ascend_each, can_stage, staged_more, staged_keep, all_stop, rest_now}
 use Rattle.cq_reach.proofs.staging.stage_parts.Goals as goal
 
@@ -19,7 +19,7 @@ stage_next-requires g c =
     let rest : List Part = into_iter_items c.next.new.self in
     let all : c.args.parts ≡ parts_of at.ready ++ p ∷ rest = rest_now c.args.parts (parts_of at.ready) p (into_iter_items at.part-iterator) rest (sym gives ∙ at.invariant.all) steps in
     let up : AscendFrom 0 (parts_of at.ready ++ p ∷ rest) = subst (λ (v : List Part). AscendFrom 0 v) all c.requires.ascending in
-    can_stage state c.args.groups.now.items at.groups.items at.ready p rest c.requires.resting (subst (λ (v : List Part). AllByRecursion (CanTake c.args.groups.now.items) v) all c.requires.takes) up at.invariant.staged
+    can_stage state c.args.groups.now.items at.groups.items at.ready p rest c.requires.resting (subst (λ (v : List Part). AllByRecursion (Takes c.args.groups.now.items) v) all c.requires.takes) up at.invariant.staged
 
 pub discard_parts-requires-clause-kept : goal.discard_parts-requires-clause-kept
 discard_parts-requires-clause-kept g c =

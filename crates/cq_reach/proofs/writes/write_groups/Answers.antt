@@ -2,7 +2,7 @@ use Rattle.std.proofs.Common.{subst, Err}
 use Rattle.cq_reach.specs.declared.staging.Stop.{Stop}
 use Rattle.cq_reach.specs.Staging.{AllStaged}
 use Rattle.cq_reach.proofs.Stopping.{staged_ready}
-use Rattle.cq_reach.proofs.Written.{ready_apart, apart_all, sum_fits, all_made, made_go_on, refused_written, refused_go_on, unwritten, unwritten_go_on}
+use Rattle.cq_reach.proofs.Written.{ready_apart, apart_all, sum_fits, all_made, made_go_on, refused_written, refused_go_on, unwritten, unwritten_lost, unwritten_go_on}
 use Rattle.cq_reach.proofs.writes.write_groups.Goals as goal
 
 pub commit_parts-requires-clause-ready : goal.commit_parts-requires-clause-ready
@@ -46,3 +46,8 @@ returns-in-Err-Failed-clause-written g c =
 
 pub returns-in-Err-Failed-clause-goes_on : goal.returns-in-Err-Failed-clause-goes_on
 returns-in-Err-Failed-clause-goes_on g c = unwritten_go_on g.S.Store.state c.args.who c.args.parts c.args.groups.now.items c.stage_parts.new.groups.items c.stage_parts.new.groups.items c.requires.resting _ c.in-Err-Failed.ensures
+
+pub returns-in-Err-Failed-clause-failed : goal.returns-in-Err-Failed-clause-failed
+returns-in-Err-Failed-clause-failed g c =
+    let a = subst (λ (why : Stop). AllStaged g.S.Store.state c.args.parts c.args.groups.now.items c.stage_parts.new.groups.items (Err why)) c.in-Err-Failed.field-0-is c.in-Err-Failed.ensures in
+    unwritten_lost g.S.Store.state c.args.who c.args.parts c.args.groups.now.items c.stage_parts.new.groups.items c.stage_parts.new.groups.items c.requires.resting c.in-Err-Failed.error a
