@@ -9,4 +9,3 @@ mod writes;
 
 pub use error::WriteError;
 pub use groups::Groups;
-pub use writes::write_groups;
