@@ -7,4 +7,4 @@ pub mod Stopping
 pub mod Counting
 pub mod Entering
 pub mod Written
-pub mod Alone
+pub mod Visiting

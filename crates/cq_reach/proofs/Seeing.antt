@@ -1,5 +1,6 @@
 -- Groups that are held alone, as they are known.
 use Rattle.std.proofs.Common.{◌≡◌, ◌≢◌, ℕ, zero, suc, ◌<◌, List, [], ◌∷◌, length, refl, sym, ap, ◌∙◌, arith, Some, slice_get}
+use Rattle.std.specs.Prelude.{slice_index_or}
 use Rattle.std.proofs.Math.ListN.{set}
 use Rattle.cq_tree.specs.declared.journal.Entry.{Entry}
 use Rattle.cq_tree.specs.declared.journal.EntryKind.{EntryKind}
@@ -41,3 +42,16 @@ module _ {X : Type 0} where
   pub journals_seen : (groups : List (GroupState X)) → journals_in (all_seen groups) ≡ journals_of groups
   journals_seen [] = refl
   journals_seen (g ∷ groups) = ap (λ js. (seen_of g).journal ∷ js) (journals_seen groups)
+
+-- the journal of a group
+pub journal_seen : (groups : List Seen) (k : ℕ) (s : Seen) (d : Journal) → slice_get groups k ≡ Some s → slice_index_or (journals_in groups) k d ≡ s.journal
+journal_seen [] k s d e = cc
+journal_seen (t ∷ groups) zero s d e = ap (λ (v : Seen). v.journal) (one t s e)
+  where
+    one : (a b : Seen) → Some a ≡ Some b → a ≡ b
+    one a b e = cc
+journal_seen (t ∷ groups) (suc k) s d e = journal_seen groups k s d e
+
+pub journals_long : (groups : List Seen) → length (journals_in groups) ≡ length groups
+journals_long [] = refl
+journals_long (s ∷ groups) = ap suc (journals_long groups)
