@@ -1,7 +1,7 @@
 -- Groups as one visit after another found them.
-use Rattle.std.proofs.Common.{◌≡◌, ◌≢◌, ◌⊎◌, inl, inr, ℕ, ◌<◌, ◌≤◌, Bool, true, false, List, [], ◌∷◌, ◌++◌, length, map, refl, sym, ap, ◌∙◌, subst, arith, Some, None, Option, slice_get}
+use Rattle.std.proofs.Common.{◌≡◌, ◌≢◌, ◌⊎◌, inl, inr, ℕ, zero, suc, ◌<◌, ◌≤◌, Bool, true, false, List, [], ◌∷◌, ◌++◌, length, map, refl, sym, ap, ◌∙◌, subst, arith, Some, None, Option, slice_get}
 use Rattle.std.specs.List.{AllByRecursion}
-use Rattle.std.specs.Prelude.{if◌then◌else◌}
+use Rattle.std.specs.Prelude.{if◌then◌else◌, slice_index_or}
 use Rattle.std.proofs.Math.ListN.{set}
 use Rattle.std.proofs.lemmas.List.{length-set}
 use Rattle.std.proofs.lemmas.Bool.Decides.{eqb_tells}
@@ -13,9 +13,10 @@ use Rattle.cq_tree.specs.declared.journal.EntryKind.TheVariants.{Read}
 use Rattle.cq_tree.specs.declared.journal.Who.{Who}
 use Rattle.cq_journal.specs.Records.{Journal}
 use Rattle.cq_planning.specs.Touched.{among}
-use Rattle.cq_history.specs.Journals.{Kinds, journal_in, in_each, with_entries}
+use Rattle.cq_history.specs.Journals.{Kinds, none, journal_in, in_each, with_entries}
 use Rattle.cq_history.specs.Deeds.{Grows}
 use Rattle.cq_history.proofs.Entries.{index_beyond}
+use Rattle.cq_history.proofs.Script.{with_none}
 use Rattle.cq_reach.specs.Seen.{Seen, journals_in, with_kinds}
 use Rattle.cq_reach.specs.Outlook.{Outlook, IsGrown, Meets, MayFind, Visit}
 use Rattle.cq_reach.specs.Writes.{Enters}
@@ -94,17 +95,20 @@ module _ (who : Who) (old mid new : Outlook) (gs : List ℕ) (found : List Seen)
     may = so.finds k s apart m.may;
   }
 
-  module _ (kinds : List EntryKind) (v : Visit who k kinds mid new s) (read : List ℕ) (here : in_each read (λ h. Read) k ≡ kinds) (others : (g : ℕ) → g ≢ k → in_each read (λ h. Read) g ≡ in_each gs (λ h. Read) g) where
-    low : k < length found
-    low = let c = so.may.count in let d = so.count in let l = got_below mid.known k v.met.was v.met.there in omega (arith, c, d, l)
+  low : Meets mid k s → k < length found
+  low m = let c = so.may.count in let d = so.count in let l = got_below mid.known k m.was m.there in omega (arith, c, d, l)
 
+  pub found_at : Meets mid k s → slice_get (set found k s) k ≡ Some s
+  found_at m = set_there found k s (low m)
+
+  module _ (kinds : List EntryKind) (v : Visit who k kinds mid new s) (read : List ℕ) (here : in_each read (λ h. Read) k ≡ kinds) (others : (g : ℕ) → g ≢ k → in_each read (λ h. Read) g ≡ in_each gs (λ h. Read) g) where
     pub next_found : SoFar who old new (gs ++ k ∷ []) read (set found k s)
     next_found = record {
       may = found_with old found k s so.may (meets_first v.met);
       count = v.count ∙ so.count;
       enters = λ g t at. elim (eqb_tells g k) [
         | inl y ↦
-            let same : s ≡ t = one_item s t (sym (set_there found k s low) ∙ sym (ap (slice_get (set found k s)) y.1) ∙ at) in
+            let same : s ≡ t = one_item s t (sym (set_there found k s (low v.met)) ∙ sym (ap (slice_get (set found k s)) y.1) ∙ at) in
             ap (slice_get new.known) y.1 ∙ v.is ∙ (λ i. Some (with_kinds who (sym here i) (same i))) ∙ ap (λ n. Some (with_kinds who (in_each read (λ h. Read) n) t)) (sym y.1)
         | inr z ↦
             v.others g z.1 ∙ so.enters g t (sym (set_beside found k g s z.1) ∙ at) ∙ ap (λ (ks : List EntryKind). Some (with_kinds who ks t)) (sym (others g z.1))
@@ -114,9 +118,6 @@ module _ (who : Who) (old mid new : Outlook) (gs : List ℕ) (found : List Seen)
       finds = λ g t n f. let b = among_last g k gs n in so.finds g t b.0 (v.finds g t b.1 f);
       comes = λ e c. so.comes e (v.comes e c);
     }
-
-    pub found_at : slice_get (set found k s) k ≡ Some s
-    found_at = set_there found k s low
 
   -- it was read
   pub next_read : Visit who k (Read ∷ []) mid new s → SoFar who old new (gs ++ k ∷ []) (gs ++ k ∷ []) (set found k s)
@@ -164,3 +165,25 @@ reads_grow who old now visited read found so within = entries_grow who (in_each 
     none : (g : ℕ) → length found ≤ g → (b : Bool) → among g read ≡ b → in_each read (λ h. Read) g ≡ []
     none g m true e = absurd (let l = within g e in let c = so.may.count in omega (arith, l, c, m))
     none g m false e = rw e refl
+
+lists_same : {A : Type 0} (xs ys : List A) → length ys ≡ length xs → ((g : ℕ) → g < length xs → slice_get ys g ≡ slice_get xs g) → ys ≡ xs
+lists_same [] [] n e = refl
+lists_same [] (y ∷ ys) n e = absurd (omega (arith, n))
+lists_same (x ∷ xs) [] n e = absurd (omega (arith, n))
+lists_same (x ∷ xs) (y ∷ ys) n e =
+    let first : y ≡ x = one_item y x (e 0 (omega arith)) in
+    let rest = lists_same xs ys (omega (arith, n)) (λ g l. e (suc g) (omega (arith, l))) in
+    λ i. first i ∷ rest i
+
+at_index : {A : Type 0} (xs : List A) (g : ℕ) (d : A) → g < length xs → slice_get xs g ≡ Some (slice_index_or xs g d)
+at_index [] g d l = absurd (omega (arith, l))
+at_index (x ∷ xs) zero d l = refl
+at_index (x ∷ xs) (suc g) d l = at_index xs g d (omega (arith, l))
+
+-- where nothing was entered the journals are as they were
+pub none_entered : (who : Who) (found new : List Seen) → length new ≡ length found → Enters who none found new → journals_in new ≡ journals_in found
+none_entered who found new count e =
+    let a = journals_long found in
+    let b = journals_long new in
+    lists_same (journals_in found) (journals_in new) (b ∙ count ∙ sym a)
+    (λ g l. at_index (journals_in new) g _ (omega (arith, a, b, count, l)) ∙ ap Some (e.kept g l ∙ with_none who (journal_in (journals_in found) g)) ∙ sym (at_index (journals_in found) g _ l))

@@ -83,7 +83,7 @@ module _ {V : Type 0} (ready : V → ℕ → Type 0) (outlook : V → Who → Ou
         read_more tables put t e =
             let s = t.found in
             let so = next_read who (outlook old who) (outlook mid who) (outlook new who) (groups_in (take n looks)) r.found r.so next.0 s apart t.visit in
-            let here = found_at who (outlook old who) (outlook mid who) (outlook new who) (groups_in (take n looks)) r.found r.so next.0 s apart (Read ∷ []) t.visit in
+            let here = found_at who (outlook old who) (outlook mid who) (outlook new who) (groups_in (take n looks)) r.found r.so next.0 s apart t.visit.met in
             let still_so = captured_still who (outlook old who) (outlook mid who) (outlook new who) (groups_in (take n looks)) r.found r.so next.0 s apart (take n looks) apart in
             let found = set r.found next.0 s in
             let all_so : captured_by found (take (n + 1) looks) ≡ captured_by r.found (take n looks) ++ map (captured s) next.1 =
@@ -104,7 +104,7 @@ module _ {V : Type 0} (ready : V → ℕ → Type 0) (outlook : V → Who → Ou
             let s = t.found in
             let found = set r.found next.0 s in
             let so = next_failed who (outlook old who) (outlook mid who) (outlook new who) (groups_in (take n looks)) r.found r.so next.0 s apart t.visit in
-            let here : slice_get found next.0 ≡ Some s = found_at who (outlook old who) (outlook mid who) (outlook new who) (groups_in (take n looks)) r.found r.so next.0 s apart [] t.visit in
+            let here : slice_get found next.0 ≡ Some s = found_at who (outlook old who) (outlook mid who) (outlook new who) (groups_in (take n looks)) r.found r.so next.0 s apart t.visit.met in
             let grow = reads_grow who (outlook old who) (outlook new who) _ (groups_in (take n looks)) found so (within_front n) in
             (found, so.may, by e found here grow t.so)
           where
