@@ -84,6 +84,7 @@ pub trait Groups {
         requires ascending { AscendFrom 0 parts }
         requires takes { AllByRecursion (CanTake (outlook self.old who)) parts }
         ensures ready { ready self.new who.session }
+        ensures count { length (outlook self.new who).known ≡ length (outlook self.old who).known }
         ensures written { (found : List Seen) × MayFind (outlook self.old who) found × IsWritten who parts found (outlook self.new who).known result }
         ensures failed { IfErr result (IfLost (λ f. (group : ℕ) × failed self.old self.new who group f)) }
         ensures goes_on { goes_on self.old self.new };
