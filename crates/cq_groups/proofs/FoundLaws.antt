@@ -166,7 +166,7 @@ reads_grow who old now visited read found so within = entries_grow who (in_each 
     none g m true e = absurd (let l = within g e in let c = so.may.count in omega (arith, l, c, m))
     none g m false e = rw e refl
 
-lists_same : {A : Type 0} (xs ys : List A) → length ys ≡ length xs → ((g : ℕ) → g < length xs → slice_get ys g ≡ slice_get xs g) → ys ≡ xs
+pub lists_same : {A : Type 0} (xs ys : List A) → length ys ≡ length xs → ((g : ℕ) → g < length xs → slice_get ys g ≡ slice_get xs g) → ys ≡ xs
 lists_same [] [] n e = refl
 lists_same [] (y ∷ ys) n e = absurd (omega (arith, n))
 lists_same (x ∷ xs) [] n e = absurd (omega (arith, n))

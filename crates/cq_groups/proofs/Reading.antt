@@ -1,5 +1,5 @@
 -- Reads of several groups, one after another.
-use Rattle.std.proofs.Common.{◌≡◌, inl, inr, ℕ, ◌+◌, ◌<◌, true, false, List, [], ◌∷◌, ◌++◌, length, map, take, refl, sym, ap, ◌∙◌, subst, arith, Some, slice_get, get_or, Ok, Err}
+use Rattle.std.proofs.Common.{◌≡◌, inl, inr, ℕ, ◌+◌, ◌<◌, true, false, List, [], ◌∷◌, ◌++◌, length, map, take, refl, sym, ap, ◌∙◌, subst, arith, Some, slice_get, get_or, Result, Ok, Err}
 use Rattle.std.specs.List.{AllByRecursion}
 use Rattle.std.proofs.Math.ListN.{set}
 use Rattle.std.proofs.lemmas.Bool.Decides.{eqb_tells}
@@ -27,12 +27,19 @@ use Rattle.cq_groups.specs.Served.{IsKept}
 use Rattle.cq_groups.proofs.FoundLaws.{SoFar, nothing_found, meets_first, next_found, next_read, next_failed, found_at, captured_still, reads_grow}
 use Rattle.cq_groups.proofs.ReadLaws.{apart_from, among_front, among_at, front_below}
 
+-- what reads gave
+abbrev made : Tables → Result Tables GroupError
+made seen = Ok seen
+
+abbrev stopped_by : GroupError → Result Tables GroupError
+stopped_by e = Err e
+
 -- the group of a read is there
-all_within : {near : ℕ} (o : Outlook) (looks : List Look) → AllByRecursion (MayLook near o) looks → (g : ℕ) → among g (groups_in looks) ≡ true → g < length o.known
-all_within o [] all g m = cc
-all_within o (l ∷ looks) all g m = elim (eqb_tells g l.0) [
+all_within : (near : ℕ) (o : Outlook) (looks : List Look) → AllByRecursion (MayLook near o) looks → (g : ℕ) → among g (groups_in looks) ≡ true → g < length o.known
+all_within near o [] all g m = cc
+all_within near o (l ∷ looks) all g m = elim (eqb_tells g l.0) [
   | inl y ↦ subst (λ n. n < length o.known) (sym y.1) all.0.within
-  | inr z ↦ (let rest : among g (groups_in looks) ≡ true = rw z.0 at m in all_within o looks all.1 g rest)
+  | inr z ↦ (let rest : among g (groups_in looks) ≡ true = rw z.0 at m in all_within near o looks all.1 g rest)
 ]
 
 module _ {V : Type 0} (ready : V → ℕ → Type 0) (outlook : V → Who → Outlook) (goes_on : V → V → Type 0) (failed : V → V → Who → ℕ → StoreFailure → Type 0) (wants : Wants) (who : Who) (old : V) where
@@ -42,17 +49,17 @@ module _ {V : Type 0} (ready : V → ℕ → Type 0) (outlook : V → Who → Ou
     pub so : SoFar who (outlook old who) (outlook now who) (groups_in looks) (groups_in looks) found
     pub tables : seen ≡ narrow wants (captured_by found looks)
     pub steps : Chain goes_on old now
-    pub ready : ready now who.session
+    pub usable : ready now who.session
 
   pub none_read : ready old who.session → (looks : List Look) (seen : Tables) → seen ≡ [] → ReadSoFar (take 0 looks) seen old
-  none_read r looks seen e = record { found = (outlook old who).known; so = nothing_found who (outlook old who); tables = e; steps = still; ready = r }
+  none_read r looks seen e = record { found = (outlook old who).known; so = nothing_found who (outlook old who); tables = e; steps = still; usable = r }
 
   module _ (near : ℕ) (looks : List Look) (all : AllByRecursion (MayLook near (outlook old who)) looks) (asc : IsAscendingFrom 0 (groups_in looks)) where
     within_front : (n g : ℕ) → among g (groups_in (take n looks)) ≡ true → g < length (outlook old who).known
-    within_front n g m = all_within (outlook old who) looks all g (among_front looks n g m)
+    within_front n g m = all_within near (outlook old who) looks all g (among_front looks n g m)
 
     kept : (looks_so : List Look) (seen : Tables) (now : V) → ReadSoFar looks_so seen now → (names : StoreFailure → Type 0) → ((f : StoreFailure) → names f → ⊥) → IsKept ready outlook goes_on failed who names old now
-    kept looks_so seen now r names none = record { still = r.ready; count = r.so.count; steps = r.steps; blamed = λ f n. absurd (none f n) }
+    kept looks_so seen now r names none = record { still = r.usable; count = r.so.count; steps = r.steps; blamed = λ f n. absurd (none f n) }
 
     module _ (n : ℕ) (d : Look) (within : n < length looks) (seen : Tables) (mid : V) (r : ReadSoFar (take n looks) seen mid) where
       abbrev next : Look
@@ -68,7 +75,7 @@ module _ {V : Type 0} (ready : V → ℕ → Type 0) (outlook : V → Who → Ou
       groups_front = ap groups_in front ∙ map-append (λ (l : Look). l.0) (take n looks) (next ∷ [])
 
       its_look : MayLook near (outlook old who) next
-      its_look = all_get (MayLook near (outlook old who)) looks n next all within refl
+      its_look = all_get (MayLook near (outlook old who)) looks n d all within
 
       -- the next look can be made
       pub next_within : next.0 < length (outlook mid who).known
@@ -94,7 +101,7 @@ module _ {V : Type 0} (ready : V → ℕ → Type 0) (outlook : V → Who → Ou
               so = subst (λ gs. SoFar who (outlook old who) (outlook new who) gs gs found) (sym groups_front) so;
               tables = e ∙ (λ i. r.tables i ++ t.so i) ∙ sym (narrow_append wants (captured_by r.found (take n looks)) (map (captured s) next.1)) ∙ sym (ap (narrow wants) all_so);
               steps = more r.steps step;
-              ready = rests;
+              usable = rests;
             }
 
         -- it failed
@@ -120,7 +127,7 @@ module _ {V : Type 0} (ready : V → ℕ → Type 0) (outlook : V → Who → Ou
               grows = subst (λ gs. AreRead who gs found (outlook new who).known) (sym (front_below 0 looks n d asc within)) grow;
             }
 
-        pub stops_kept : (e : GroupError) → length (outlook new who).known ≡ length (outlook mid who).known → IfFailed (failed mid new who next.0) e → IsKept ready outlook goes_on failed who (λ f. Err e ≡ Err (group.Worker f)) old new
+        pub stops_kept : (e : GroupError) → length (outlook new who).known ≡ length (outlook mid who).known → IfFailed (failed mid new who next.0) e → IsKept ready outlook goes_on failed who (λ f. stopped_by e ≡ stopped_by (group.Worker f)) old new
         stops_kept e count blame = record { still = rests; count = count ∙ r.so.count; steps = more r.steps step; blamed = λ f is. by e blame f (let same : e ≡ group.Worker f = cc in same) }
           where
             by : (e : GroupError) → IfFailed (failed mid new who next.0) e → (f : StoreFailure) → e ≡ group.Worker f → FailsLast goes_on (λ x y. failed x y who) f old new
@@ -135,7 +142,7 @@ module _ {V : Type 0} (ready : V → ℕ → Type 0) (outlook : V → Who → Ou
       record { some = groups_in (take n looks); among = among_front looks n; grows = reads_grow who (outlook old who) (outlook now who) _ (groups_in (take n looks)) r.found r.so (within_front n) },
     )
 
-    pub short_kept : (n : ℕ) (seen : Tables) (now : V) → ReadSoFar (take n looks) seen now → IsKept ready outlook goes_on failed who (λ f. Err group.Memory ≡ Err (group.Worker f)) old now
+    pub short_kept : (n : ℕ) (seen : Tables) (now : V) → ReadSoFar (take n looks) seen now → IsKept ready outlook goes_on failed who (λ f. stopped_by group.Memory ≡ stopped_by (group.Worker f)) old now
     short_kept n seen now r = kept (take n looks) seen now r _ (λ f e. cc)
 
     -- all were made
@@ -143,9 +150,11 @@ module _ {V : Type 0} (ready : V → ℕ → Type 0) (outlook : V → Who → Ou
     all_read n seen now e r = (
       r.found,
       r.so.may,
-      subst (λ ls. AreRead who (groups_in ls) r.found (outlook now who).known) e (reads_grow who (outlook old who) (outlook now who) _ (groups_in (take n looks)) r.found r.so (within_front n)),
-      r.tables ∙ ap (λ ls. narrow wants (captured_by r.found ls)) e,
+      (
+        subst (λ ls. AreRead who (groups_in ls) r.found (outlook now who).known) e (reads_grow who (outlook old who) (outlook now who) _ (groups_in (take n looks)) r.found r.so (within_front n)),
+        r.tables ∙ ap (λ ls. narrow wants (captured_by r.found ls)) e,
+      ),
     )
 
-    pub all_kept : (n : ℕ) (seen : Tables) (now : V) → ReadSoFar (take n looks) seen now → IsKept ready outlook goes_on failed who (λ f. Ok seen ≡ Err (group.Worker f)) old now
+    pub all_kept : (n : ℕ) (seen : Tables) (now : V) → ReadSoFar (take n looks) seen now → IsKept ready outlook goes_on failed who (λ f. made seen ≡ stopped_by (group.Worker f)) old now
     all_kept n seen now r = kept (take n looks) seen now r _ (λ f e. cc)

@@ -1,5 +1,5 @@
 -- Reads of a group that is held alone.
-use Rattle.std.proofs.Common.{◌≡◌, ◌≢◌, inl, inr, ℕ, ◌<◌, ◌≤◌, List, [], ◌∷◌, ◌++◌, length, map, filter, refl, sym, ap, ◌∙◌, subst, arith, Some, slice_get, Result, Ok, Err, IfOk, IfErr, OnOk, OnErr}
+use Rattle.std.proofs.Common.{◌≡◌, ◌≢◌, inl, inr, ℕ, ◌<◌, ◌≤◌, List, [], ◌∷◌, ◌++◌, length, map, filter, refl, sym, ap, ◌∙◌, subst, arith, Some, slice_get, get_or, Result, Ok, Err, IfOk, IfErr, OnOk, OnErr}
 use Rattle.std.proofs.Math.ListN.{set}
 use Rattle.std.proofs.lemmas.List.{length-set}
 use Rattle.std.proofs.lemmas.Bool.Decides.{eqb_tells}
@@ -27,11 +27,18 @@ use Rattle.cq_reach.specs.Seen.{Seen, seen_of, all_seen, with_kinds, HasTable, I
 use Rattle.cq_reach.specs.Outlook.{Outlook, Meets, Visit, Tells}
 use Rattle.cq_reach.specs.Alone.{outlook_alone}
 use Rattle.cq_reach.specs.Reads.{CanRead, read_kinds, TellsError, TellsTables, TellsRows, FailsRead, IfFailed}
-use Rattle.cq_reach.proofs.Growth.{got_below, set_there, rest_still, rest_more, go_on_set}
+use Rattle.cq_reach.proofs.Growth.{got_at, got_below, set_there, rest_still, rest_more, go_on_set}
 use Rattle.cq_reach.proofs.Seeing.{seen_at, seen_long, seen_beside}
 use Rattle.cq_reach.proofs.Failing.{fails_in}
 
 module _ {X : Type 0} where
+  -- the group that a call takes
+  pub within_alone : (groups : List (GroupState X)) (k : ℕ) → k < length (all_seen groups) → k < length groups
+  within_alone groups k low = omega (arith, low, seen_long groups)
+
+  pub at_alone : (groups : List (GroupState X)) (k : ℕ) (g : GroupState X) → k < length (all_seen groups) → g ≡ get_or groups k g → slice_get groups k ≡ Some g
+  at_alone groups k g low is = got_at groups k g (within_alone groups k low) is
+
   -- a group may be found as it is
   pub meets_alone : (groups : List (GroupState X)) (k : ℕ) (g : GroupState X) → slice_get groups k ≡ Some g → Meets (outlook_alone groups) k (seen_of g)
   meets_alone groups k g at = record {

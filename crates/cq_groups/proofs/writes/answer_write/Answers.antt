@@ -1,10 +1,11 @@
-use Rattle.std.proofs.Common.{refl, sym, ◌∙◌, subst}
+use Rattle.std.proofs.Common.{refl, sym, ◌∙◌, subst, Err}
 use Rattle.cq_answer.specs.declared.answer.Answer.{Answer}
 use Rattle.cq_tree.specs.declared.failure.StoreFailure.{StoreFailure}
 use Rattle.cq_tree.specs.declared.statement.Statement.TheVariants as statement
 use Rattle.cq_history.specs.Refusals.{rules}
 use Rattle.cq_history.proofs.Answering.{write_lacks_memory}
 use Rattle.cq_reach.specs.Seen.{journals_in}
+use Rattle.cq_reach.specs.declared.error.WriteError.TheVariants.{Memory}
 use Rattle.cq_reach.specs.Outlook.{still, more}
 use Rattle.cq_groups.specs.Looking.{environment_at}
 use Rattle.cq_groups.specs.Served.{IsAnsweredBy}
@@ -37,6 +38,12 @@ returns-clause-answered g c = λ p may.
     subst (λ (a : Answer). IsAnsweredBy c.args.catalog.now c.args.nodes p c.args.who (statement.Write c.args.op.now) a o.known n.known) (sym c.answer_of.ensures) (λ run settings retired workers runs.
     write_behind p c.args.who o.comes may (journals_in o.known) (journals_in w.0) (journals_in n.known) (found_come o w.0 w.1) rules run (environment_at c.args.catalog.now settings retired) c.args.op.now _
     (write_is_answered run (environment_at c.args.catalog.now settings retired) c.args.who c.args.op.now w.0 n.known runs c.requires.keyed c.requires.writable (c.requires.whole w.0 w.1).shaped workers (c.write.ensures.count ∙ sym w.1.count) c.write.result c.in-Ok.divided c.in-Ok.ensures w.2))
+
+pub returns-in_default-clause-form : goal.returns-in_default-clause-form
+returns-in_default-clause-form g c = (Err Memory, refl)
+
+pub returns-clause-form : goal.returns-clause-form
+returns-clause-form g c = (c.write.result, c.answer_of.ensures)
 
 pub returns-clause-kept : goal.returns-clause-kept
 returns-clause-kept g c = record {
