@@ -1,5 +1,5 @@
--- Reads of a group that is held alone.
-use Rattle.std.proofs.Common.{◌≡◌, ◌≢◌, inl, inr, ℕ, ◌<◌, ◌≤◌, List, [], ◌∷◌, ◌++◌, length, map, filter, refl, sym, ap, ◌∙◌, subst, arith, Some, slice_get, get_or, Result, Ok, Err, IfOk, IfErr, OnOk, OnErr}
+-- Calls on groups that are held alone.
+use Rattle.std.proofs.Common.{◌≡◌, ◌≢◌, inl, inr, ℕ, ◌^◌, ◌<◌, ◌≤◌, List, [], ◌∷◌, ◌++◌, length, map, filter, refl, sym, ap, ◌∙◌, subst, arith, Some, slice_get, get_or, Result, Ok, Err, IfOk, IfErr, OnOk, OnErr}
 use Rattle.std.proofs.Math.ListN.{set}
 use Rattle.std.proofs.lemmas.List.{length-set}
 use Rattle.std.proofs.lemmas.Bool.Decides.{eqb_tells}
@@ -24,10 +24,14 @@ use Rattle.cq_group.specs.Groups.{IsKept, IsQuiet, IsSameGroup, entries_of, shap
 use Rattle.cq_group.specs.Calls.{captured, GroupGoesOn, Blames, IsOn, node_read as node_of_read}
 use Rattle.cq_group.specs.Resting.{IsResting, AreResting, GoOn, HasFailedAt}
 use Rattle.cq_reach.specs.Seen.{Seen, seen_of, all_seen, with_kinds, HasTable, IsNear}
-use Rattle.cq_reach.specs.Outlook.{Outlook, Meets, Visit, Tells}
+use Rattle.cq_reach.specs.Outlook.{Outlook, Meets, MayFind, Visit, Tells}
+use Rattle.cq_reach.specs.Writes.{CanTake}
+use Rattle.cq_reach.specs.Staging.{Takes}
+use Rattle.cq_router.specs.declared.insertion.Part.{Part}
+use Rattle.std.specs.List.{AllByRecursion}
 use Rattle.cq_reach.specs.Alone.{outlook_alone}
 use Rattle.cq_reach.specs.Reads.{CanRead, read_kinds, TellsError, TellsTables, TellsRows, FailsRead, IfFailed}
-use Rattle.cq_reach.proofs.Growth.{got_at, got_below, set_there, rest_still, rest_more, go_on_set}
+use Rattle.cq_reach.proofs.Growth.{got, got_at, got_below, set_there, rest_still, rest_more, go_on_set}
 use Rattle.cq_reach.proofs.Seeing.{seen_at, seen_long, seen_beside}
 use Rattle.cq_reach.proofs.Failing.{fails_in}
 
@@ -111,3 +115,21 @@ module _ {X : Type 0} (state : X → StoreState) (groups : List (GroupState X)) 
   failed_alone (Ok v) blame = tt
   failed_alone (Err group.Memory) blame = tt
   failed_alone (Err (group.Worker f)) blame = record { was = g; is = h; there = at; here = set_there groups k h (got_below groups k g at); failed = blame }
+
+-- ---- writes
+
+module _ {X : Type 0} (groups : List (GroupState X)) where
+  pub few_alone : length (all_seen groups) < 2 ^ 32 → length groups < 2 ^ 32
+  few_alone few = omega (arith, few, seen_long groups)
+
+  pub as_many_alone : (new : List (GroupState X)) → length new ≡ length groups → length (all_seen new) ≡ length (all_seen groups)
+  as_many_alone new count = seen_long new ∙ count ∙ sym (seen_long groups)
+
+  pub known_alone : MayFind (outlook_alone groups) (all_seen groups)
+  known_alone = record { count = refl; each = λ g s e. inl e }
+
+  pub takes_alone : (parts : List Part) → AllByRecursion (CanTake (outlook_alone groups)) parts → AllByRecursion (Takes groups) parts
+  takes_alone [] all = tt
+  takes_alone (p ∷ parts) all =
+      let g = got groups p.group (within_alone groups p.group all.0.within) in
+      (record { group = g.0; there = g.1; holds = all.0.takes (seen_of g.0) (meets_alone groups p.group g.0 g.1) }, takes_alone parts all.1)
