@@ -4,6 +4,8 @@
 mod binder;
 mod queries;
 mod rows;
+mod widths;
 mod writes;
 
 pub use binder::bind;
+pub use cq_reading::BindError;

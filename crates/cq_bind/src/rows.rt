@@ -11,6 +11,7 @@ ghost use Rattle.cq_reading.specs.Expressions.{reads};
 ghost use Rattle.cq_reading.specs.Walk.{part_of};
 ghost use Rattle.cq_reading.specs.Statements as reading;
 
+use crate::widths::bits_of;
 use crate::writes::write_scope;
 use cq_bind_calls::{Step, through_of};
 use cq_bind_looks::place;
@@ -26,7 +27,6 @@ use cq_queries::{Lookups, eval};
 use cq_reading::{BindError, Bound, Found, Scope, World};
 use cq_tree::{Expr, ShardOp, Statement};
 use cq_value::{Items, NoMemory, Positions, Row, Rows, Value, Values};
-use cq_widths::bits_of;
 use std::alloc::Global;
 
 /// The value of an expression without columns. What the walk lets through has its width, so the only error is want of memory.
@@ -35,6 +35,7 @@ fn value_of(alloc: Global, e: &Expr) -> Result<Value, NoMemory>
 {
     match bits_of(e, &[], 0) {
         Some(_) => {
+            // for the proof: within its width an expression is computed safely.
             width_laws();
             let row = Row::from_values(Values::new(alloc));
             eval(alloc, e, &row, &Lookups::new(alloc))

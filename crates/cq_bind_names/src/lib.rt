@@ -3,7 +3,6 @@
 #![tactic(auto)]
 
 mod blocks;
-mod memory;
 mod orders;
 mod relations;
 mod same;

@@ -6,12 +6,11 @@ ghost use Rattle.cq_reading.specs.Selects.{same_as, with_key as ordered_with, wi
 ghost use Rattle.cq_reading.specs.Widths.{expr_of as expr_in};
 ghost use Rattle.cq_bind_names.specs.Keys.{all_one};
 
-use crate::memory::small;
 use crate::same::{expr_of, same_bounds};
 use cq_reading::{BindError, Bound, Ordered, Shown};
 use cq_same::same_expr;
 use cq_tree::{Expr, Key};
-use cq_value::{Items, NoMemory, Text};
+use cq_value::{Items, NoMemory, Text, small};
 
 /// One more key, of the item at a place.
 fn with_key(mut order: Ordered, item: u32, descending: bool) -> Result<Ordered, NoMemory>

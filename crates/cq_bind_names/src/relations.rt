@@ -1,10 +1,9 @@
 ghost use Rattle.std.specs.Prelude.{◌≡◌, ◌<◌, Some, ◌++◌, ◌∷◌, [], map, length, position, slice_get, nat_lt, true, bytes_eq, IfOk, IfSome, IfErr, OnOk, option_copied};
 ghost use Rattle.cq_tree.specs.declared.query.FromTree.{Sub, Cross, Inner, Left};
-ghost use Rattle.cq_catalog.specs.Contents.{is_local as is_local_place};
 ghost use Rattle.cq_reading.specs.declared.error.BindError.TheVariants as error;
 ghost use Rattle.cq_reading.specs.declared.error.Limited.TheVariants as limited;
 ghost use Rattle.cq_reading.specs.Outcomes.{Judges};
-ghost use Rattle.cq_reading.specs.Widths.{kind_type, kind_width};
+ghost use Rattle.cq_reading.specs.Widths.{kind_width};
 ghost use Rattle.cq_reading.specs.Scopes.{column_source, table_sources as sources_of_table, output_source, output_sources as sources_of_outputs};
 ghost use Rattle.cq_reading.specs.Relations.{is_named as has_name, under as under_name, common_by, common_under, table_by, table_under, relation_by, table_relation as relation_of, subquery_relation as relation_of_block, both as both_of, no_relations as none};
 ghost use Rattle.cq_reading.specs.Steps.{give};
@@ -13,29 +12,19 @@ ghost use Rattle.cq_bind_names.specs.Checks.{Checks};
 ghost use Rattle.cq_bind_names.specs.Worlds.{world_of};
 ghost use Rattle.cq_bind_names.specs.Joining.{pair_of, joined_pair};
 
-use crate::memory::{both, small};
-use cq_catalog::{Place, TableInfo};
+use cq_catalog::TableInfo;
 use cq_grammar::Name;
 use cq_reading::{
     BindError, Block, Common, Limited, Output, Relations, Source, Sources, Type, World,
 };
 use cq_tree::{Cond, FromTree, Query};
-use cq_value::{Boxed, Column, Items, Kind, Names, NoMemory, Text};
+use cq_value::{Boxed, Column, Items, Kind, Names, NoMemory, Text, both, small};
 use std::alloc::Global;
 
 fn is_named(name: &Text, names: &[Text]) -> bool
     ensures { result ≡ has_name name.now names.now }
 {
     names.iter().any(|other| other.as_str() == name.as_str())
-}
-
-fn type_of(kind: Kind) -> Type
-    ensures { result ≡ kind_type kind }
-{
-    match kind {
-        Kind::Bigint | Kind::Integer => Type::Number,
-        Kind::Text => Type::Text,
-    }
 }
 
 fn width_of(kind: Kind) -> u32
@@ -56,7 +45,7 @@ fn source_of_column(alloc: Global, relation: &Text, column: &Column) -> Result<S
     Ok(Source {
         relation,
         name,
-        kind: type_of(column.kind),
+        kind: Type::from(column.kind),
         width: width_of(column.kind),
     })
 }
@@ -151,12 +140,6 @@ fn common_relation(
     )
 }
 
-fn is_local(place: Place) -> bool
-    ensures { result ≡ is_local_place place }
-{
-    matches!(place, Place::Local)
-}
-
 /// The table of a number, under a name.
 fn numbered_relation(
     alloc: Global,
@@ -168,7 +151,7 @@ fn numbered_relation(
 ) -> Result<Relations, BindError>
     ensures { Judges (table_under name.now alias.now names.now number (Some table.now)) result }
 {
-    if is_local(table.place) {
+    if table.place.is_local() {
         return Err(BindError::LocalTable { at: name.at });
     }
     let count = small(table.columns.len())?;

@@ -4,10 +4,9 @@ ghost use Rattle.cq_value.specs.declared.schema.Column as schema;
 ghost use Rattle.cq_reading.specs.Outcomes.{Judges};
 ghost use Rattle.cq_reading.specs.Statements.{column_of as column_in, with_column as with_column_in, columns_from as columns_in, columns_of as columns_listed, count_from};
 
-use crate::memory::small;
 use cq_grammar::Name;
 use cq_reading::BindError;
-use cq_value::{Column, NoMemory, Positions, Text};
+use cq_value::{Column, NoMemory, Positions, Text, small};
 use std::alloc::Global;
 
 fn column_place(columns: &[Column], name: &Text) -> Option<usize>

@@ -4,7 +4,6 @@
 
 mod calls;
 mod columns;
-mod memory;
 mod rows;
 mod settings;
 mod tables;

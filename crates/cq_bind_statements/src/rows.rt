@@ -7,12 +7,11 @@ ghost use Rattle.cq_bind_statements.specs.Checks.{Checks};
 ghost use Rattle.cq_bind_statements.specs.Keeping.{Keeps};
 
 use crate::columns::is_among;
-use crate::memory::small;
 use crate::writes::{is_key_column, refused_value};
 use cq_catalog::TableInfo;
 use cq_grammar::RowValues;
 use cq_reading::BindError;
-use cq_value::{NoMemory, Value, Values};
+use cq_value::{NoMemory, Value, Values, small};
 use std::alloc::Global;
 
 /// Whether a row has a value for each of these columns. `Err`: 17 where it has more or fewer.

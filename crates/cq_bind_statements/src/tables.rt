@@ -7,12 +7,11 @@ ghost use Rattle.cq_reading.specs.Steps.{through};
 ghost use Rattle.cq_reading.specs.Statements.{kind_named as kind_of_name, created_column as column_created, has_column as is_among_columns, with_created as with_created_in, primary_from, key_of as key_in, creation as creation_in};
 
 use crate::columns::columns_from;
-use crate::memory::small;
 use cq_catalog::Catalog;
 use cq_grammar::{ColumnDef, Name, TypeName};
 use cq_reading::{BindError, Limited};
 use cq_tree::Statement;
-use cq_value::{Column, Columns, Items, Kind, NoMemory, Positions, Text};
+use cq_value::{Column, Columns, Items, Kind, NoMemory, Positions, Text, small};
 use std::alloc::Global;
 
 fn kind_named(name: TypeName) -> Kind

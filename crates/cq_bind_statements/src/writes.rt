@@ -3,7 +3,7 @@ ghost use Rattle.std.specs.List.{list_any};
 ghost use Rattle.cq_catalog.specs.Contents.{is_local as is_local_place};
 ghost use Rattle.cq_reading.specs.Outcomes.{Judges};
 ghost use Rattle.cq_reading.specs.Statements.{target_of as target_in, is_csv as csv_in, is_header as header_in, columns_of as columns_listed, copying as copied, is_distribution as is_distribution_of, is_key_column as is_key_column_of, is_of_kind as is_of_kind_in, kind_at as kind_in, may_store as may_be_stored, stored as stored_in, fits_column as fits_kind_of, is_null as is_null_value};
-ghost use Rattle.cq_reading.specs.Widths.{kind_type, common, is_some};
+ghost use Rattle.cq_reading.specs.Widths.{common, is_some};
 ghost use Rattle.cq_tree.specs.declared.statement.Statement.TheVariants.{Copy};
 ghost use Rattle.cq_bind_statements.specs.Targets.{Targets, RefusesValue};
 
@@ -129,15 +129,6 @@ fn is_of_kind(kind: Kind, v: &Value) -> bool
     }
 }
 
-fn type_of(kind: Kind) -> Type
-    ensures { result ≡ kind_type kind }
-{
-    match kind {
-        Kind::Bigint | Kind::Integer => Type::Number,
-        Kind::Text => Type::Text,
-    }
-}
-
 fn has_type(kind: Type, of: Type) -> bool
     ensures { result ≡ is_some (common kind of) }
 {
@@ -152,7 +143,7 @@ pub fn fits_column(kind: Kind, b: &Bound) -> bool
     ensures { result ≡ fits_kind_of kind b.now }
 {
     match b {
-        Bound::Value(_, of, _) => has_type(type_of(kind), *of),
+        Bound::Value(_, of, _) => has_type(Type::from(kind), *of),
         Bound::Truth(_) => false,
     }
 }

@@ -1,5 +1,5 @@
 ghost use Rattle.std.specs.Prelude.{◌≡◌, ◌<◌, length, true, None, Some, slice_get, IfOk, OnOk, IfErr, IfSome};
-ghost use Rattle.cq_catalog.specs.Contents.{number_of, is_local as is_local_place};
+ghost use Rattle.cq_catalog.specs.Contents.{number_of};
 ghost use Rattle.cq_catalog.specs.Distribution.{column_named, column_refusal, lacks as lacks_column, local_refusal, decision_of, distribution_refusal};
 ghost use Rattle.cq_catalog.specs.Refusals.{IsCause};
 ghost use Rattle.cq_catalog.specs.Whole.{CanOpen, IsLocalAt, IsTable};
@@ -7,15 +7,9 @@ ghost use Rattle.cq_catalog.specs.Whole.{CanOpen, IsLocalAt, IsTable};
 use crate::catalog::Catalog;
 use crate::decision::Decision;
 use crate::error::CatalogError;
-use crate::info::{Place, TableInfo};
+use crate::info::TableInfo;
 use crate::named::is_same;
 use cq_value::{Column, Text, With};
-
-fn is_local(place: Place) -> bool
-    ensures { result ≡ is_local_place place }
-{
-    matches!(place, Place::Local)
-}
 
 fn column_place(columns: &[Column], name: &Text) -> Option<usize>
     ensures place { result ≡ column_named columns.now name.now }
@@ -48,7 +42,7 @@ impl Catalog {
             return Err(CatalogError::UnknownTable { name });
         };
         let info = self.info(number);
-        if !is_local(info.place) {
+        if !info.place.is_local() {
             let name = name.copy(self.tables.allocator())?;
             return Err(CatalogError::AlreadyDistributed { name });
         }

@@ -1,3 +1,6 @@
+ghost use Rattle.std.specs.Prelude.{◌≡◌};
+ghost use Rattle.cq_catalog.specs.Contents.{is_local as is_local_place};
+
 use cq_value::{Columns, Items, Kind, Positions, Text};
 
 /// Where a table's rows stand.
@@ -17,6 +20,15 @@ pub enum Place {
         group: u32,
         shard: u64,
     },
+}
+
+impl Place {
+    /// Whether the rows stand on the coordinator.
+    pub fn is_local(self) -> bool
+        ensures { result ≡ is_local_place self }
+    {
+        matches!(self, Place::Local)
+    }
 }
 
 /// A table: its name, its columns, the places of its primary key columns, and where its rows stand.

@@ -15,6 +15,7 @@ mod info;
 mod named;
 
 pub use catalog::Catalog;
+pub use cq_value::{Column, Columns, Kind, With};
 pub use decision::{Decision, Target};
 pub use error::{CatalogError, Limited};
 pub use info::{Colocation, Ends, Opened, Place, TableInfo};

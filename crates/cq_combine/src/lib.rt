@@ -2,7 +2,6 @@
 #![tactic(auto)]
 
 mod gathering;
-mod memory;
 mod queries;
 mod tasks;
 

@@ -3,11 +3,10 @@ ghost use Rattle.cq_tree.specs.declared.query.Query.{out-Query};
 ghost use Rattle.cq_task_laws.specs.Merging.{combining as combining_of, all_combining as all_combining_of, merging_rows as merging_rows_of, merging_groups as merging_groups_of};
 ghost use Rattle.cq_task_laws.specs.Counting.{counting as counting_of};
 
-use crate::memory::{both, small};
 use crate::tasks::{columns, width_of_groups};
 use cq_copies::CopyTree;
 use cq_tree::{Agg, Aggs, Cond, Expr, Exprs, FromTree, Keys, Queries, Query};
-use cq_value::{Items, Names, NoMemory};
+use cq_value::{Items, Names, NoMemory, both, small};
 use std::alloc::Global;
 
 /// The aggregate that combines the partial values of an aggregate, which stand in a column.

@@ -3,10 +3,9 @@ ghost use Rattle.cq_tree.specs.declared.query.Query.{out-Query};
 ghost use Rattle.cq_tree.specs.declared.query.Agg.TheVariants as agg;
 ghost use Rattle.cq_task_laws.specs.Partial.{columns_from, group_columns, with_all_items as all_items_of, with_counted_groups as counted_groups_of, partial as partial_of};
 
-use crate::memory::{both, small};
 use cq_copies::CopyTree;
 use cq_tree::{Agg, Aggs, Combine, Cond, Expr, Exprs, Keys, Query};
-use cq_value::{Names, NoMemory};
+use cq_value::{Names, NoMemory, both, small};
 use std::alloc::Global;
 
 /// The first so many columns.

@@ -1,7 +1,7 @@
 ghost use Rattle.std.specs.Prelude.{◌≡◌, Ok, IfOk};
 
 use cq_tree::{Agg, Arm, Arms, Cond, Expr, Exprs, FromTree, Queries, Query, Set, ShardOp};
-use cq_value::{Boxed, Items, NoMemory};
+use cq_value::{Boxed, Items, NoMemory, both};
 use std::alloc::Global;
 
 /// A tree of which equal trees are made.
@@ -18,18 +18,6 @@ impl<T: CopyTree> CopyTree for Items<T> {
             copies.put(tree.copy(alloc)?)?;
         }
         Ok(copies)
-    }
-}
-
-fn both<A: Drop, B: Drop>(
-    a: Result<A, NoMemory>,
-    b: Result<B, NoMemory>,
-) -> Result<(A, B), NoMemory>
-    ensures { IfOk result (λ p. (a ≡ Ok p.0) × (b ≡ Ok p.1)) }
-{
-    match (a, b) {
-        (Ok(x), Ok(y)) => Ok((x, y)),
-        _ => Err(NoMemory),
     }
 }
 

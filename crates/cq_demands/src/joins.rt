@@ -4,7 +4,7 @@ ghost use Rattle.cq_demands.specs.JoinDemands.{is_plain as is_plain_by_rule, lea
 
 use crate::wanted::{Wanted, put_demands};
 use cq_tree::{Cond, Expr, FromTree, Op};
-use cq_value::{Items, NoMemory};
+use cq_value::{Items, NoMemory, plus};
 use std::alloc::Global;
 
 /// A table of a FROM: its number, the number of its first column, how many columns it has, and whether it is on the right side of
@@ -32,16 +32,6 @@ pub fn is_plain(from: &FromTree) -> bool
         FromTree::Inner(a, b, _) => is_plain(a.get()) && is_plain(b.get()),
         FromTree::Left(a, b, _) => is_plain(a.get()) && is_plain(b.get()),
         FromTree::Sub(_) | FromTree::Result(..) => false,
-    }
-}
-
-/// A sum of numbers of columns. One past 2^64 is of a FROM that no memory holds.
-fn plus(a: u64, b: u64) -> Result<u64, NoMemory>
-    ensures { IfOk result (λ n. n ≡ a + b) }
-{
-    match a.checked_add(b) {
-        Some(n) => Ok(n),
-        None => Err(NoMemory),
     }
 }
 

@@ -7,6 +7,6 @@ mod key;
 mod update;
 mod write;
 
-pub use cq_queries::{Tables, eval, run_query, test};
+pub use cq_queries::{Lookups, Tables, eval, lookups_of, run_query, test};
 pub use key::repeats;
 pub use write::{Effect, insertion_among, removal_among, update_among};

@@ -186,7 +186,7 @@ fn joined_in(alloc: Global, catalog: &Catalog, q: &Query) -> Result<Joined, NoMe
     let labels = labels_in(alloc, &q.from, &q.filter)?;
     let width = count_columns(&q.from)?;
     let components = components_of(alloc, labels.as_slice(), relations.as_slice(), width)?;
-    // Each co-location group of a table, and so of a relation, is the catalogue's.
+    // for the proof: each co-location group of a table, and so of a relation, is the catalogue's.
     let _whole = catalog.tables();
     join_of(alloc, catalog, labels.as_slice(), components)
 }

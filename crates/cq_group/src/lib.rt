@@ -18,6 +18,7 @@ mod stores;
 mod table;
 mod write;
 
+pub use cq_journal::Journal;
 pub use gate::{Gate, IdleGate, Point};
 pub use group::{Capture, Closed, GroupError, GroupState, GroupTable, Staged, Tables};
 pub use incoming::{Incoming, IncomingTable};

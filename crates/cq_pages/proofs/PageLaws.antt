@@ -1,8 +1,8 @@
 -- Pages in order of ids: where an id stands, and what a changed page makes of all pairs.
-use Rattle.std.proofs.Common.{◌≡◌, ◌≢◌, inl, inr, ℕ, zero, suc, ◌+◌, ◌<◌, ◌≤◌, Bool, true, false, cond, not, nat_eq, ◌||◌, List, [], ◌∷◌, ◌++◌, map, filter, length, take, drop, get_or, set, remove, refl, sym, ap, ◌∙◌, ⊎_elim, arith, subst, zero-le, eq-eqb, ne_eqb, ne_of_lt, le_refl, le_of_lt, eq-or-lt_of_le, append_assoc, append-nil}
+use Rattle.std.proofs.Common.{◌≡◌, ◌≢◌, inl, inr, ℕ, zero, suc, ◌+◌, ◌<◌, ◌≤◌, Bool, true, false, cond, not, nat_eq, ◌||◌, List, [], ◌∷◌, ◌++◌, map, filter, length, take, drop, get_or, set, remove, refl, sym, ap, ◌∙◌, ⊎_elim, arith, subst, zero-le, eq-eqb, ne_eqb, ne_of_lt, le_refl, le_of_lt, eq-or-lt_of_le, append_assoc, append-nil, add-one, drop-cons, ◌-◌}
 use Rattle.std.specs.List.{AllByRecursion, list_any, flat_map}
 use Rattle.std.specs.List.Sorted.{IsNonDecreasingBy}
-use Rattle.std.proofs.lemmas.List.{get_or_default, map-append}
+use Rattle.std.proofs.lemmas.List.{get_or_default, length-append, get_or_append_left, get_or-append-add, map-append}
 use Rattle.std.proofs.lemmas.List.Elements.{filter-append}
 use Rattle.std.proofs.lemmas.List.Folds.{list_any-append}
 use Rattle.std.proofs.lemmas.Grind.{flat_map-append}
@@ -12,7 +12,7 @@ use Rattle.std.proofs.lemmas.Bool.{eqb-true}
 use Rattle.cq_value.proofs.Truths.{two_ways}
 use Rattle.cq_value.proofs.Lists.{all_append, all_left, all_right}
 use Rattle.cq_value.proofs.TableLaws.{put_at, removed_at}
-use Rattle.cq_pages.specs.Pages.{pairs_of, IsPage, Ascends, AreLaid, Stands, Splits, named, has, with_new, without}
+use Rattle.cq_pages.specs.Pages.{pairs_of, IsPage, Ascends, AreLaid, Stands, Splits, named, has, with_new, without, StandsAt}
 
 -- ---- parts of pairs that ascend
 
@@ -376,3 +376,22 @@ same_length (p ∷ ps) id row = let rest = same_length ps id row in omega (arith
 -- an id's row among all pages
 pub named_page : (pages : List (List Pair)) (id k : ℕ) (d : List Pair) → Stands pages id k → k < length pages → named id (pairs_of pages) ≡ named id (get_or pages k d)
 named_page pages id k d s l = ap (λ ps. named id ps) (page_at pages k d l) ∙ named_between (pairs_of (take k pages)) (get_or pages k d) (pairs_of (drop (k + 1) pages)) id s.below s.above
+
+-- ---- the pair at a place
+
+pub pages_dropped : (pages : List (List Pair)) (k : ℕ) (item page : List Pair) → k < length pages → item ≡ get_or pages k item → page ≡ item → pairs_of (drop k pages) ≡ page ++ pairs_of (drop (k + 1) pages)
+pages_dropped pages k item page low is same =
+    let d : drop k pages ≡ item ∷ drop (k + 1) pages = rw (add-one, drop-cons pages k item) (ap (λ w. w ∷ drop (suc k) pages) (sym is)) in
+    ap pairs_of d ∙ ap (λ w. w ++ pairs_of (drop (k + 1) pages)) (sym same)
+
+pub pair_here : (all page rest : List Pair) (place left : ℕ) (p : Pair) → ((d : Pair) → get_or all place d ≡ get_or (page ++ rest) left d) → length all + left ≡ place + length (page ++ rest) → left < length page → p ≡ get_or page left p →
+    StandsAt all place p
+pair_here all page rest place left p same long low is = (
+  (let l = length-append page rest in omega (arith, long, low, l)),
+  λ d. same d ∙ get_or_append_left page rest d left low ∙ get_or_default page left d p low ∙ sym is,
+)
+
+pub pair_behind : (all page rest : List Pair) (place left : ℕ) → ((d : Pair) → get_or all place d ≡ get_or (page ++ rest) left d) → length page ≤ left → (d : Pair) → get_or all place d ≡ get_or rest (left - length page) d
+pair_behind all page rest place left same high d =
+    let l : left ≡ length page + (left - length page) = omega (arith, high) in
+    same d ∙ ap (λ n. get_or (page ++ rest) n d) l ∙ get_or-append-add page rest (left - length page) d

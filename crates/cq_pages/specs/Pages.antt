@@ -55,3 +55,7 @@ pub record EndsWith (pairs : List Pair) (id : ℕ) (rest : List Pair) : Type 0 w
   pub before : List Pair
   pub whole : pairs ≡ before ++ rest
   pub below : AllByRecursion (λ p. p.0 < id) before
+
+-- this pair stands at a place, from 0
+abbrev pub StandsAt : List Pair → ℕ → Pair → Type 0
+StandsAt pairs place p = (place < length pairs) × ((d : Pair) → slice_index_or pairs place d ≡ p)

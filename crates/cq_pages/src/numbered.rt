@@ -1,7 +1,8 @@
-ghost use Rattle.std.specs.Prelude.{◌≡◌, ◌≤◌, [], ◌∷◌, length, MatchOption, IfOk, OnOk, OnErr};
+ghost use Rattle.std.specs.Prelude.{◌≡◌, ◌<◌, ◌≤◌, [], ◌∷◌, length, slice_index_or, MatchOption, IfOk, OnOk, OnErr};
+ghost use Rattle.cq_value.specs.declared.change.Change.TheVariants as kind;
 ghost use Rattle.cq_value.specs.Changes.{FitsOne, Fit, changed, applied};
-ghost use Rattle.cq_value.specs.Tables.{IsAscending, empty_table};
-ghost use Rattle.cq_pages.specs.Pages.{pairs_of, named, EndsWith};
+ghost use Rattle.cq_value.specs.Tables.{Pair, IsAscending, empty_table};
+ghost use Rattle.cq_pages.specs.Pages.{pairs_of, named, EndsWith, StandsAt};
 
 use crate::page::Page;
 use crate::pages;
@@ -52,6 +53,11 @@ impl Numbered {
         self.next
     }
 
+    /// Where its memory comes from.
+    pub fn allocator(&self) -> Global {
+        self.alloc
+    }
+
     /// How many rows there are.
     pub fn len(&self) -> u64
         ensures { result ≡ length self.now.pairs }
@@ -80,10 +86,42 @@ impl Numbered {
         pages::find(&self.pages, id)
     }
 
+    /// The row at a place, from 0, with its id.
+    fn pair(&self, place: u64) -> &(u64, Row)
+        requires { place < length self.now.pairs }
+        ensures { StandsAt self.now.pairs place result.now }
+    {
+        match pages::pair_at(&self.pages, place as usize) {
+            Some(pair) => pair,
+            None => unreachable!(),
+        }
+    }
+
+    /// The id of the row at a place, from 0.
+    ///
+    /// Conditions: there are more rows than that.
+    pub fn id(&self, place: u64) -> u64
+        requires { place < length self.now.pairs }
+        ensures { (d : Pair) → (slice_index_or self.now.pairs place d).0 ≡ result }
+    {
+        self.pair(place).0
+    }
+
+    /// The row at a place, from 0.
+    ///
+    /// Conditions: there are more rows than that.
+    pub fn row(&self, place: u64) -> &Row
+        requires { place < length self.now.pairs }
+        ensures { (d : Pair) → (slice_index_or self.now.pairs place d).1 ≡ result.now }
+    {
+        &self.pair(place).1
+    }
+
     /// What the ids promise: they ascend, and are below the next id. Does nothing.
     pub fn ids_ascend(&self)
         ensures { IsAscending self.now.pairs self.now.next }
     {
+        // for the proof: the check looks into a table only where one of its fields is read.
         let _ = &self.next;
     }
 
@@ -131,6 +169,39 @@ impl Numbered {
                 Ok(())
             }
         }
+    }
+
+    /// Puts a row last, under an id.
+    ///
+    /// Conditions: the id isn't below the next id, and is below the last u64. Errors: want of memory.
+    pub fn add(&mut self, id: u64, row: Row) -> Result<(), NoMemory>
+        requires { FitsOne self.old (kind.Add id row) }
+        ensures ok { OnOk result (self.new ≡ changed self.old (kind.Add id row)) }
+        ensures err { OnErr result (self.new ≡ self.old) }
+    {
+        self.apply(Change::Add(id, row))
+    }
+
+    /// Puts another row under an id.
+    ///
+    /// Conditions: the id is there. Errors: want of memory.
+    pub fn put(&mut self, id: u64, row: Row) -> Result<(), NoMemory>
+        requires { FitsOne self.old (kind.Put id row) }
+        ensures ok { OnOk result (self.new ≡ changed self.old (kind.Put id row)) }
+        ensures err { OnErr result (self.new ≡ self.old) }
+    {
+        self.apply(Change::Put(id, row))
+    }
+
+    /// Takes the row of an id out.
+    ///
+    /// Conditions: the id is there. Errors: want of memory.
+    pub fn remove(&mut self, id: u64) -> Result<(), NoMemory>
+        requires { FitsOne self.old (kind.Drop id) }
+        ensures ok { OnOk result (self.new ≡ changed self.old (kind.Drop id)) }
+        ensures err { OnErr result (self.new ≡ self.old) }
+    {
+        self.apply(Change::Drop(id))
     }
 
     /// Applies changes in order.

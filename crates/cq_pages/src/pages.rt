@@ -1,6 +1,6 @@
 ghost use Rattle.std.specs.Prelude.{◌≡◌, ◌<◌, ◌≤◌, [], ◌∷◌, ◌++◌, true, length, slice_index_or, MatchOption, IfOk, OnOk, OnErr};
 ghost use Rattle.std.specs.List.{AllByRecursion};
-ghost use Rattle.cq_pages.specs.Pages.{pairs_of, IsPage, AreLaid, Ascends, Stands, Splits, EndsWith, named, has, with_new, without};
+ghost use Rattle.cq_pages.specs.Pages.{pairs_of, IsPage, AreLaid, Ascends, Stands, StandsAt, Splits, EndsWith, named, has, with_new, without};
 
 use crate::page::Page;
 use cq_value::{NoMemory, Row};
@@ -58,6 +58,21 @@ pub(crate) fn find(pages: &[Page], id: u64) -> Option<&(u64, Row)>
         return None;
     }
     find_in(pages[place].pairs(), id)
+}
+
+/// The row at a place of all rows, from 0, with its id.
+pub(crate) fn pair_at(pages: &[Page], place: usize) -> Option<&(u64, Row)>
+    ensures { MatchOption result (length (pairs_of pages.now) ≤ place) (λ p. StandsAt (pairs_of pages.now) place p.now) }
+{
+    let mut left = place;
+    for page in pages {
+        let pairs = page.pairs();
+        if left < pairs.len() {
+            return Some(&pairs[left]);
+        }
+        left -= pairs.len();
+    }
+    None
 }
 
 /// The pages from the one on that an id stands in, if it is there.

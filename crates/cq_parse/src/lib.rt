@@ -7,5 +7,6 @@ mod error;
 mod statement;
 mod verdict;
 
+pub use cq_grammar::Ast;
 pub use error::ParseError;
 pub use verdict::parse;

@@ -25,7 +25,8 @@ mod ties;
 mod wanted;
 
 pub use expression::{eval, test};
-pub use members::{Listed, Lookups};
+pub use members::{Listed, Lookups, lookups_of};
 pub use query::{cut_by, finish, run_query, run_wanted};
 pub use tables::Tables;
+pub use ties::have_width;
 pub use wanted::{Top, Wanted, top_count};

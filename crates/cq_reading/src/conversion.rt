@@ -1,5 +1,21 @@
+use crate::bound::Type;
 use crate::error::{BindError, Limited};
 use cq_answer::{Fault, What};
+use cq_value::Kind;
+
+impl From<Kind> for Type {
+    ghost use Rattle.std.specs.Prelude.{◌≡◌};
+    ghost use Rattle.cq_reading.specs.Widths.{kind_type};
+
+    ghost from_gives = { λ k t. t ≡ kind_type k };
+
+    fn from(kind: Kind) -> Type {
+        match kind {
+            Kind::Bigint | Kind::Integer => Type::Number,
+            Kind::Text => Type::Text,
+        }
+    }
+}
 
 impl From<Limited> for What {
     ghost use Rattle.std.specs.Prelude.{◌≡◌};

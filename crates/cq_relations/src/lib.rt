@@ -13,6 +13,7 @@ pub use components::{
     partners, plain, staying, stays,
 };
 pub use outputs::{is_output_of_class, keeps_class};
-pub use places::{distribution_at, place_of, plus};
+pub use cq_value::plus;
+pub use places::{distribution_at, place_of};
 pub use relation::{Distribution, OuterJoin, Pushable, Relation};
 pub use walk::{count_columns, distribution_by, outer_join, pushable, put_relations};

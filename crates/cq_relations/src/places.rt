@@ -1,11 +1,11 @@
-ghost use Rattle.std.specs.Prelude.{◌≡◌, ◌+◌, IfOk};
+ghost use Rattle.std.specs.Prelude.{◌≡◌, IfOk};
 ghost use Rattle.cq_catalog.specs.Placement.{place_at};
 ghost use Rattle.cq_catalog.specs.Whole.{IsWhole};
 ghost use Rattle.cq_planning.specs.Relations.{distribution_at as distribution_by_place};
 
 use crate::relation::Distribution;
 use cq_catalog::{Catalog, Place};
-use cq_value::NoMemory;
+use cq_value::{NoMemory, plus};
 
 /// Where the rows of the table of this number stand. A table that isn't there is as a local one.
 pub fn place_of(catalog: &Catalog, table: u32) -> Place
@@ -16,16 +16,6 @@ pub fn place_of(catalog: &Catalog, table: u32) -> Place
         catalog.info(table).place
     } else {
         Place::Local
-    }
-}
-
-/// A sum of numbers of columns. One past 2^64 is of a FROM that no memory holds.
-pub fn plus(a: u64, b: u64) -> Result<u64, NoMemory>
-    ensures { IfOk result (λ n. n ≡ a + b) }
-{
-    match a.checked_add(b) {
-        Some(n) => Ok(n),
-        None => Err(NoMemory),
     }
 }
 

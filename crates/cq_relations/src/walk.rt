@@ -9,12 +9,12 @@ ghost use Rattle.cq_shape.specs.Labels.{label};
 
 use crate::components::{Block, colocated, plain, staying};
 use crate::outputs::{Heads, pushable_over};
-use crate::places::{distribution_at, place_of, plus};
+use crate::places::{distribution_at, place_of};
 use crate::relation::{Distribution, OuterJoin, Pushable, Relation};
 use cq_catalog::Catalog;
 use cq_shape::{labels_in, put_equalities};
 use cq_tree::{Cond, Expr, FromTree, Query};
-use cq_value::{Items, NoMemory};
+use cq_value::{Items, NoMemory, plus};
 use std::alloc::Global;
 
 /// How many columns a FROM has.

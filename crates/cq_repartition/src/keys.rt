@@ -7,11 +7,11 @@ ghost use Rattle.cq_repartition_laws.specs.Keys.{is_number, place_of as place_by
 ghost use Rattle.cq_repartition.specs.Parted.{keys_if_parted};
 
 use cq_demands::{Leaf, is_plain, leaves_of};
-use cq_relations::{is_one_class, plus};
+use cq_relations::is_one_class;
 use cq_repart::{Key, Keys};
 use cq_shape::{equalities_in, labels_of};
 use cq_tree::Query;
-use cq_value::NoMemory;
+use cq_value::{NoMemory, plus};
 use std::alloc::Global;
 
 /// The first column of a table of a FROM that is of a class, as the table counts. On the right side of a LEFT JOIN it has none.

@@ -6,7 +6,7 @@ ghost use Rattle.cq_planning.specs.ValueSets.{values_said as said_by_rule, sets_
 use crate::ascending::ascending;
 use crate::conjuncts::{column_of, literal_of};
 use cq_tree::{Cond, Expr, FromTree, Op};
-use cq_value::{Items, NoMemory, Value, Values};
+use cq_value::{Items, NoMemory, Value, Values, both};
 use std::alloc::Global;
 
 /// A column, and values that are said of it.
@@ -61,18 +61,6 @@ fn halves(first: Option<Said>, second: Option<Said>) -> Result<Option<Said>, NoM
             None => Ok(None),
         },
         None => Ok(None),
-    }
-}
-
-fn both<A: Drop, B: Drop>(
-    a: Result<A, NoMemory>,
-    b: Result<B, NoMemory>,
-) -> Result<(A, B), NoMemory>
-    ensures { IfOk result (λ p. (a ≡ Ok p.0) × (b ≡ Ok p.1)) }
-{
-    match (a, b) {
-        (Ok(x), Ok(y)) => Ok((x, y)),
-        _ => Err(NoMemory),
     }
 }
 

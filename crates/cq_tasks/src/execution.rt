@@ -1,4 +1,4 @@
-ghost use Rattle.std.specs.Prelude.{◌≡◌, ◌≤◌, ◌⊎◌, List, ◌++◌, map, length, take, drop, true, false, IfOk, OnOk, IfErr, MatchResult};
+ghost use Rattle.std.specs.Prelude.{◌≡◌, ◌≤◌, ◌⊎◌, List, ◌++◌, map, length, take, drop, true, false, IfOk, OnOk, IfErr};
 ghost use Rattle.std.specs.List.{list_any, AllByRecursion};
 ghost use Rattle.cq_tree.specs.declared.query.Query.{out-Query};
 ghost use Rattle.cq_tree.specs.declared.plan.Combine.TheVariants as kinds;
@@ -23,15 +23,6 @@ use std::mem;
 
 /// What each task reads of its own.
 pub type Parts = Items<Tables>;
-
-fn memory<T: Drop>(r: Result<T, NoMemory>) -> Result<T, QueryError>
-    ensures { MatchResult result (λ x. r ≡ Ok x) (λ e. e ≡ QueryError.Memory) }
-{
-    match r {
-        Ok(x) => Ok(x),
-        Err(_) => Err(QueryError::Memory),
-    }
-}
 
 /// Puts more tables behind those that are there.
 fn join(tables: &mut Tables, more: Tables) -> Result<(), NoMemory>
@@ -77,9 +68,9 @@ fn run_task(
     ensures err { IfErr result (λ e. e ≡ QueryError.Rows → is_large task.now (beside.old ++ own.old) results.now ≡ true) }
 {
     let count = beside.len();
-    memory(join(beside, mem::replace(own, Tables::new(alloc))))?;
+    join(beside, mem::replace(own, Tables::new(alloc)))?;
     let rows = run_wanted(alloc, hash, task, want, beside, results)?;
-    *own = memory(split_off(alloc, beside, count))?;
+    *own = split_off(alloc, beside, count)?;
     Ok(rows)
 }
 
@@ -102,8 +93,8 @@ fn run_tasks(
     for part in mem::replace(parts, Parts::new(alloc)).into_vec() {
         let mut own = part;
         let rows = run_task(alloc, hash, task, Wanted::All, beside, &mut own, results)?;
-        memory(all.put(rows))?;
-        memory(parts.put(own))?;
+        all.put(rows)?;
+        parts.put(own)?;
     }
     Ok(all)
 }
@@ -156,11 +147,11 @@ fn run_top(
     ensures err { IfErr result (λ e. e ≡ QueryError.Rows → has_large_task kinds.RowsOnly query.now results.now (reads_by beside.old parts.old) ≡ true) }
     ensures lent { OnOk result ((beside.new ≡ beside.old) × (parts.new ≡ parts.old)) }
 {
-    let task = memory(partial(alloc, query, Combine::RowsOnly))?;
+    let task = partial(alloc, query, Combine::RowsOnly)?;
     let keys = query.order.as_slice();
     let first = top_of_tasks(alloc, hash, &task, keys, most, beside, parts, results);
     drop(task);
-    memory(cut_by(alloc, query, first?))
+    Ok(cut_by(alloc, query, first?)?)
 }
 
 /// The rows of a block, made of all rows of its tasks.
@@ -180,7 +171,7 @@ fn run_all(
     ensures err { IfErr result (λ e. e ≡ QueryError.Rows → (has_large_task kind query.now results.now (reads_by beside.old parts.old) ≡ true) ⊎ (has_large_together kind query.now results.now (task_rows kind query.now results.now (reads_by beside.old parts.old)) ≡ true)) }
     ensures lent { OnOk result ((beside.new ≡ beside.old) × (parts.new ≡ parts.old)) }
 {
-    let task = memory(partial(alloc, query, kind))?;
+    let task = partial(alloc, query, kind)?;
     let rows = run_tasks(alloc, hash, &task, beside, parts, results);
     drop(task);
     combine(alloc, hash, query, kind, rows?, results)

@@ -10,7 +10,7 @@ use Rattle.cq_tree.specs.declared.expression.Cond.{Cond, And, Or, Not}
 use Rattle.cq_tree.specs.declared.expression.Cond.TheBlock.{hidden-the_row-Arm-2, hidden-the_row-Cond-0, hidden-the_row-Expr-1, hidden-the_row-Expr-3}
 use Rattle.cq_tree.proofs.Opened.{case_is, coalesce_is}
 use Rattle.cq_meaning.specs.Widths.{bits, bits_of_arms, bits_of_all, IsBound, AreBound, AreBoundArms, IsBoundCondition}
-use Rattle.cq_widths.specs.TreeLists.{bits_of_arms_in, bits_of_all_in, IsBoundArm}
+use Rattle.cq_bind.specs.TreeLists.{bits_of_arms_in, bits_of_all_in, IsBoundArm}
 
 module _ (ks : List ℕ) (n : ℕ) where
   -- the bits of an expression that may be computed

@@ -1,10 +1,10 @@
 use Rattle.std.proofs.Common.{rules, ◌≡◌, ◌≢◌, pos, arith, true, sym, subst, ◌∙◌}
 use Rattle.std.proofs.lemmas.Option.{IfSome_then}
 use Rattle.cq_meaning.specs.Widths.{IsBound}
-use Rattle.cq_widths.specs.TreeLists.{IsBoundArm}
-use Rattle.cq_widths.proofs.Nodes.{made_neg, made_add, made_sub, made_mul, made_div, made_rem, made_case, made_coalesce, bound_and, bound_or, bound_not}
-use Rattle.cq_widths.proofs.StepLaws.{all_more, all_step, arms_step}
-use Rattle.cq_widths.proofs.expression.+bits.Goals as goal
+use Rattle.cq_bind.specs.TreeLists.{IsBoundArm}
+use Rattle.cq_bind.proofs.Nodes.{made_neg, made_add, made_sub, made_mul, made_div, made_rem, made_case, made_coalesce, bound_and, bound_or, bound_not}
+use Rattle.cq_bind.proofs.StepLaws.{all_more, all_step, arms_step}
+use Rattle.cq_bind.proofs.widths.+bits.Goals as goal
 
 pub bits_of-returns-in_ok-k-in-Neg : goal.bits_of-returns-in_ok-k-in-Neg
 bits_of-returns-in_ok-k-in-Neg t c = rw c.in-Neg.is (IfSome_then c.raised.result c.raised.ensures (λ r p. made_neg _ _ c.in-Neg.a _ r (rw c.get.ensures at c.in_ok-k-in-Neg.ensures) p))

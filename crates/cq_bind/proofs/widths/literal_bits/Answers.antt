@@ -1,8 +1,8 @@
 use Rattle.std.proofs.Common.{rules, ◌≡◌, ◌≤◌, ◌^◌, ap, sym, subst, ◌∙◌}
 use Rattle.std.specs.Prelude.{unsigned_abs}
 use Rattle.cq_meaning.specs.Widths.{digits_in, bits_of_value, IsBelow}
-use Rattle.cq_widths.proofs.StepLaws.{digits_below}
-use Rattle.cq_widths.proofs.expression.literal_bits.Goals as goal
+use Rattle.cq_bind.proofs.StepLaws.{digits_below}
+use Rattle.cq_bind.proofs.widths.literal_bits.Goals as goal
 
 pub returns-in-Int-clause-is : goal.returns-in-Int-clause-is
 returns-in-Int-clause-is c =

@@ -3,8 +3,8 @@ use Rattle.std.specs.Prelude.{slice_index_or}
 use Rattle.cq_tree.specs.declared.expression.Expr.{Expr}
 use Rattle.cq_tree.specs.declared.expression.Arm.{Arm}
 use Rattle.cq_meaning.specs.Widths.{IsBound}
-use Rattle.cq_widths.specs.TreeLists.{bits_of_arms_in, bits_of_all_in, IsBoundArm}
-use Rattle.cq_widths.proofs.expression.+bits.Given as goal
+use Rattle.cq_bind.specs.TreeLists.{bits_of_arms_in, bits_of_all_in, IsBoundArm}
+use Rattle.cq_bind.proofs.widths.+bits.Given as goal
 
 abbrev pub invariant-bits_of_arms-loop-arm : goal.invariant-bits_of_arms-loop-arm
 invariant-bits_of_arms-loop-arm l = record {

@@ -7,7 +7,7 @@ use Rattle.std.specs.Int.Count.{count_leading_zeros}
 use Rattle.cq_tree.specs.declared.expression.Expr.{Expr}
 use Rattle.cq_tree.specs.declared.expression.Arm.{Arm}
 use Rattle.cq_meaning.specs.Widths.{digits_in, bits}
-use Rattle.cq_widths.specs.TreeLists.{bits_of_arms_in, bits_of_all_in}
+use Rattle.cq_bind.specs.TreeLists.{bits_of_arms_in, bits_of_all_in}
 
 pub all_more : {X : Type 0} (P : X → Type 0) (xs : List X) (i : ℕ) (x : X) → i < length xs → x ≡ get_or xs i x → ((k : ℕ) (d : X) → k < i → P (get_or xs k d)) → P x → (k : ℕ) (d : X) → k < i + 1 → P (get_or xs k d)
 all_more P [] i x below is h p k d l = absurd (omega arith)

@@ -1,6 +1,6 @@
 ghost use Rattle.std.specs.Prelude.{◌≡◌, ◌<◌, ◌≤◌, ◌+◌, ◌^◌, true, length, max, slice_index_or, IfSome, All};
 ghost use Rattle.cq_meaning.specs.Widths.{digits_in as digits, bits_of_value, bits, IsBelow, IsBound, IsBoundCondition};
-ghost use Rattle.cq_widths.specs.TreeLists.{bits_of_arms_in, bits_of_all_in, IsBoundArm};
+ghost use Rattle.cq_bind.specs.TreeLists.{bits_of_arms_in, bits_of_all_in, IsBoundArm};
 
 use cq_tree::{Arm, Cond, Expr};
 use cq_value::Value;
@@ -23,7 +23,7 @@ fn joined(j: u32, k: u32) -> Option<u32>
     raised(j.max(k))
 }
 
-pub fn multiplied(j: u32, k: u32) -> Option<u32>
+fn multiplied(j: u32, k: u32) -> Option<u32>
     ensures { IfSome result (λ r. (r ≡ j + k) × (j + k ≤ 126)) }
 {
     if j <= 126 && k <= 126 - j {
@@ -61,7 +61,7 @@ fn column_bits(ks: &[u32], at: u32) -> Option<u32>
 /// The bits of an expression, given those of the columns and the number of results: only where columns and results are there,
 /// no divisor is 0 and no width is above 127.
 #[cycle(bits)]
-pub fn bits_of(e: &Expr, ks: &[u32], n: u64) -> Option<u32>
+pub(crate) fn bits_of(e: &Expr, ks: &[u32], n: u64) -> Option<u32>
     ensures { IfSome result (λ k. (k ≡ bits ks.now e.now) × IsBound ks.now n e.now) }
 {
     match e {
@@ -132,7 +132,7 @@ fn bits_of_all(es: &[Expr], ks: &[u32], n: u64) -> Option<u32>
 
 /// Whether the same holds of the expressions of a condition.
 #[cycle(bits)]
-pub fn is_bound(c: &Cond, ks: &[u32], n: u64) -> bool
+fn is_bound(c: &Cond, ks: &[u32], n: u64) -> bool
     ensures { result ≡ true → IsBoundCondition ks.now n c.now }
 {
     match c {

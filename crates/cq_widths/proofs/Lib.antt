@@ -1,4 +1,0 @@
-pub mod Nodes
-pub mod StepLaws
-pub mod FromNodes
-pub mod HoldLaws
