@@ -33,7 +33,7 @@ returns-in_default-clause-kept g c = record { still = c.requires.ready; count = 
 pub returns-clause-answered : goal.returns-clause-answered
 returns-clause-answered g c = λ p may.
     let o = g.V.Groups.outlook c.args.groups.now c.args.who in
-    let n = g.V.Groups.outlook c.write.new.groups c.args.who in
+    let n = g.V.Groups.outlook c.write.new.self c.args.who in
     let w = c.write.ensures.written in
     subst (λ (a : Answer). IsAnsweredBy c.args.catalog.now c.args.nodes p c.args.who (statement.Write c.args.op.now) a o.known n.known) (sym c.answer_of.ensures) (λ run settings retired workers runs.
     write_behind p c.args.who o.comes may (journals_in o.known) (journals_in w.0) (journals_in n.known) (found_come o w.0 w.1) rules run (environment_at c.args.catalog.now settings retired) c.args.op.now _

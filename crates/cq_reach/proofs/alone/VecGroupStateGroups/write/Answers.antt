@@ -2,7 +2,7 @@ use Rattle.std.proofs.Common.{sym}
 use Rattle.cq_reach.proofs.Growth.{rest_again}
 use Rattle.cq_reach.proofs.Seeing.{seen_long}
 use Rattle.cq_reach.proofs.Visiting.{few_alone, takes_alone, as_many_alone, known_alone}
-use Rattle.cq_reach.proofs.alone.VecGroups.write.Goals as goal
+use Rattle.cq_reach.proofs.alone.VecGroupStateGroups.write.Goals as goal
 
 pub write_groups-requires-clause-few : goal.write_groups-requires-clause-few
 write_groups-requires-clause-few g c = few_alone c.args.self.now.items c.requires.few
