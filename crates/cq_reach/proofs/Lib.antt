@@ -1,0 +1,10 @@
+pub mod Growth
+pub mod Seeing
+pub mod Failing
+pub mod Turning
+pub mod Holding
+pub mod Stopping
+pub mod Counting
+pub mod Entering
+pub mod Written
+pub mod Visiting

@@ -1,0 +1,6 @@
+pub mod Seen
+pub mod Outlook
+pub mod Alone
+pub mod Reads
+pub mod Writes
+pub mod Staging
