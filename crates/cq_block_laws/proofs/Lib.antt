@@ -1,0 +1,6 @@
+pub mod Noted
+pub mod Ordered
+pub mod Rooms
+pub mod Served
+pub mod Phases
+pub mod Accounts
