@@ -11,9 +11,8 @@ use Rattle.cq_value.proofs.Truths.{two_ways}
 use Rattle.cq_history.specs.Phases.{phase_in}
 use Rattle.cq_history.proofs.Lists.{filter_all}
 use Rattle.cq_answer.specs.declared.answered.Answered.{Answered}
-use Rattle.cq_store.specs.Stores.{StoreState}
-use Rattle.cq_history.specs.Faults.{Range, range_in, ranges_of, Climbs, AccountsFor}
-use Rattle.cq_block_laws.specs.Accounts.{AreRanges, none, phase, AccountsByPhases, later_phases, AreOfPhases, TellsOf}
+use Rattle.cq_history.specs.Faults.{Range, range_in, ranges_of, Climbs}
+use Rattle.cq_block_laws.specs.Accounts.{AreRanges, none, phase, AccountsByPhases, later_phases, AreOfPhases}
 use Rattle.cq_block_laws.specs.Laws.{SerialAccounts, BlockAccounts, StayingAccounts, MovedAccounts}
 
 climbs_on : (low : ℕ) (rs : List Range) (n m : ℕ) → n ≤ m → Climbs low rs n → Climbs low rs m

@@ -4,3 +4,4 @@ pub mod Rooms
 pub mod Served
 pub mod Phases
 pub mod Accounts
+pub mod Still

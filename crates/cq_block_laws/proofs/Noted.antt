@@ -2,7 +2,6 @@
 use Rattle.std.proofs.Common.{◌≡◌, ◌≢◌, ◌<◌, ◌≤◌, inl, inr, ℕ, Bool, true, false, List, [], ◌∷◌, ◌++◌, length, refl, sym, ◌∙◌, ap, subst, arith, eq-eqb, append_assoc}
 use Rattle.std.specs.Prelude.{nat_eq}
 use Rattle.std.specs.List.{AllByRecursion}
-use Rattle.cq_value.specs.Tables.{empty_table}
 use Rattle.cq_value.proofs.Truths.{two_ways, or_neither}
 use Rattle.cq_tree.specs.declared.journal.Entry.{Entry}
 use Rattle.cq_journal.specs.Records.{Journal}
@@ -11,7 +10,7 @@ use Rattle.cq_history.specs.Journals.{journal_in}
 use Rattle.cq_history.specs.Deeds.{IsFresh}
 use Rattle.cq_history.specs.Log.{GoesOnBy}
 use Rattle.cq_history.proofs.Entries.{index_beyond, with_list}
-use Rattle.cq_cell.specs.Lists.{NotIn, keep, own, StartsWith}
+use Rattle.cq_cell.specs.Lists.{NotIn, keep, own}
 use Rattle.cq_cell.proofs.Lists.{of_others}
 use Rattle.cq_shared.specs.declared.note.Note.{Note}
 use Rattle.cq_shared.specs.declared.note.Note.TheVariants as note

@@ -1,11 +1,9 @@
 -- The answers of a block in their order: those of one session, and all in the order of a script.
-use Rattle.std.proofs.Common.{◌≡◌, ◌≢◌, ◌⊎◌, ◌+◌, ◌<◌, ◌≤◌, inl, inr, ℕ, Bool, true, false, List, [], ◌∷◌, ◌++◌, length, filter, refl, sym, ◌∙◌, ap, subst, arith, eq-eqb, ne_eqb, length-append}
+use Rattle.std.proofs.Common.{◌≡◌, ◌≢◌, ◌+◌, ◌<◌, ◌≤◌, inl, inr, ℕ, Bool, true, false, List, [], ◌∷◌, ◌++◌, refl, sym, ◌∙◌, ap, arith, eq-eqb, ne_eqb}
 use Rattle.std.specs.Prelude.{nat_eq, ◌||◌, Option, Some, None}
 use Rattle.std.specs.List.{AllByRecursion}
-use Rattle.std.proofs.lemmas.Bool.{eqb-true}
 use Rattle.std.proofs.lemmas.List.Elements.{filter-append}
-use Rattle.cq_value.proofs.Lists.{all_weaker, all_both, all_append, all_left, all_right, filter_none, append_nil}
-use Rattle.cq_value.proofs.Truths.{two_ways}
+use Rattle.cq_value.proofs.Lists.{all_weaker, all_both, all_append, all_right, filter_none, append_nil}
 use Rattle.cq_answer.specs.declared.answer.Answer.{Answer}
 use Rattle.cq_answer.specs.declared.answer.Answer.TheVariants as answer
 use Rattle.cq_answer.specs.declared.answered.Answered.{Answered}
@@ -15,8 +13,8 @@ use Rattle.cq_answer.specs.declared.fault.Fault.TheVariants as fault
 use Rattle.cq_tree.specs.declared.statement.Statement.{Statement}
 use Rattle.cq_tree.specs.declared.statement.Statement.TheVariants as statement
 use Rattle.cq_planning.specs.Touched.{among}
-use Rattle.cq_history.specs.Run.{Run, Environment, retiring, after, environment_from}
-use Rattle.cq_history.specs.Phases.{IsInBlock, StandsBefore, AreInScriptOrder, MayBeInBlock, AreComplete}
+use Rattle.cq_history.specs.Run.{Environment, retiring, after}
+use Rattle.cq_history.specs.Phases.{StandsBefore, AreInScriptOrder, MayBeInBlock}
 use Rattle.cq_history.specs.Log.{of_session, IsNext}
 use Rattle.cq_history.proofs.Lists.{filter_all}
 use Rattle.cq_block_laws.specs.Closing.{Session, numbers_of, answers_of, IsOfSession, AreRising, AreApart, AreSessions}
@@ -102,8 +100,8 @@ module _ (phase count : ℕ) (settings : Settings) where
       (in_script_order (s.number + 1) (omega arith) more all.3 (apart_right s.answers (answers_of more) apart))
       (all_both (IsOf s.number) (λ (a : Answered). AllByRecursion (λ (b : Answered). a.statement ≢ b.statement) (answers_of more)) (λ (a : Answered). AllByRecursion (StandsBefore a) (answers_of more))
       (λ a o far. all_both (λ (b : Answered). (phase ≡ b.phase) × (s.number < b.session)) (λ (b : Answered). a.statement ≢ b.statement) (StandsBefore a)
-          (λ b up n. inr (record { phase = sym up.0 ∙ sym o.phase; session = (let is = o.session in let l = all.0 in omega (arith, is, l, one)); order = inl ((let is = o.session in let u = up.1 in omega (arith, is, u)), n) })) (answers_of more)
-          (each_answer (λ (b : Answered). (phase ≡ b.phase) × (s.number < b.session)) (s.number + 1) more (λ t b l p. (sym p.phase, (let is = p.session in omega (arith, is, l)))) all.3) far)
+      (λ b up n. inr (record { phase = sym up.0 ∙ sym o.phase; session = (let is = o.session in let l = all.0 in omega (arith, is, l, one)); order = inl ((let is = o.session in let u = up.1 in omega (arith, is, u)), n) })) (answers_of more)
+      (each_answer (λ (b : Answered). (phase ≡ b.phase) × (s.number < b.session)) (s.number + 1) more (λ t b l p. (sym p.phase, (let is = p.session in omega (arith, is, l)))) all.3) far)
       s.answers all.1 (apart_across s.answers (answers_of more) apart))
 
   -- the answers are the next ones, each of one of the sessions

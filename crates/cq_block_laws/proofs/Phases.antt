@@ -1,11 +1,10 @@
 -- A closed block is one phase of the log.
-use Rattle.std.proofs.Common.{◌≡◌, ◌≢◌, ◌+◌, ◌<◌, ◌≤◌, inl, inr, ℕ, Bool, true, false, List, [], ◌∷◌, ◌++◌, length, filter, refl, sym, ◌∙◌, ap, subst, arith, Some, None, Option, append_assoc, length-append}
-use Rattle.std.specs.Prelude.{nat_eq, not, ◌-◌, ◌||◌}
+use Rattle.std.proofs.Common.{◌≡◌, ◌+◌, ◌<◌, ◌≤◌, inl, inr, ℕ, true, List, [], ◌∷◌, ◌++◌, length, filter, refl, sym, ◌∙◌, ap, subst, arith, Some, Option, append_assoc, length-append}
+use Rattle.std.specs.Prelude.{nat_eq, not, ◌-◌}
 use Rattle.std.specs.List.{AllByRecursion, sum_by}
 use Rattle.std.proofs.lemmas.Bool.{eqb-true}
 use Rattle.cq_value.proofs.Lists.{all_weaker, all_both, all_append}
 use Rattle.cq_value.proofs.Truths.{two_ways}
-use Rattle.cq_tree.specs.declared.journal.Who.{Who}
 use Rattle.cq_tree.specs.declared.statement.Statement.{Statement}
 use Rattle.cq_tree.specs.declared.statement.Statement.TheVariants as statement
 use Rattle.cq_catalog.specs.Contents.{Contents}
@@ -13,11 +12,11 @@ use Rattle.cq_answer.specs.declared.answered.Answered.{Answered}
 use Rattle.cq_journal.specs.Records.{Journal}
 use Rattle.cq_journal.specs.Stations.{node_of}
 use Rattle.cq_planning.specs.Touched.{among}
-use Rattle.cq_history.specs.Run.{Run, Rules, Environment, after, environment_from, Continues}
+use Rattle.cq_history.specs.Run.{Run, Rules, environment_from, Continues}
 use Rattle.cq_history.specs.Phases.{who_of, beside_in, MayBeInBlock, AreComplete}
 use Rattle.cq_history.specs.Journals.{journal_in}
-use Rattle.cq_history.specs.Room.{free_at, stores_to, stores_from, IsRoom}
-use Rattle.cq_history.specs.Deeds.{Deed, Phase}
+use Rattle.cq_history.specs.Room.{stores_to, stores_from, IsRoom}
+use Rattle.cq_history.specs.Deeds.{Phase}
 use Rattle.cq_history.specs.Log.{Era, no_era, last_of, IsLaidOut, joined, AreServed, of_session, IsSession, phase_of, IsPhase}
 use Rattle.cq_history.proofs.Later.{continues_same}
 use Rattle.cq_history.proofs.Visiting.{laid_same}
@@ -26,7 +25,7 @@ use Rattle.cq_cell.specs.Lists.{NotIn, own, StartsWith}
 use Rattle.cq_shared.specs.declared.errand.Errand.{Errand}
 use Rattle.cq_shared.specs.Errands.{sent_by, tooks, gaves}
 use Rattle.cq_shared.specs.Notes.{who_of as note_who}
-use Rattle.cq_block_laws.specs.Serving.{Opening, Known, at_first, free_first, WereFree, Finds, MayFind, KeepsWithin, IsPhaseOf, IsAnsweredBeside, AreAnswered}
+use Rattle.cq_block_laws.specs.Serving.{Opening, Known, at_first, WereFree, Finds, MayFind, KeepsWithin, IsPhaseOf, AreAnswered}
 use Rattle.cq_block_laws.specs.Closing.{Session, numbers_of, answers_of, IsOfSession, AreRising, AreApart, AreSessions, History, HasSeen, IsServed, IsClosed}
 use Rattle.cq_block_laws.specs.Laws.{BlockIsPhase, BlockGoesOn}
 use Rattle.cq_block_laws.proofs.Noted.{all_known, goes_on, entries_known, none_opened}
@@ -98,7 +97,7 @@ module _ (rules : Rules) (run : Run) (kept count : ℕ) (before : List Answered)
       each_owned sessions (h.errands at)
       (all_both (IsServed rules run o h) Facts (λ (s : Session). AllByRecursion (λ n. sent_by n ≡ s.number → HasOwner s.answers n) (h.errands at))
       (λ s r f. owned_in_all s.number s.answers (h.errands at) (r.known.errands at) (r.workers at)
-          (all_owned rules run o at s.number (at_first o) s.answers s.answers r.known (λ n has. has) (of_number s f) tt r.answered)) sessions closed.served (facts 1 sessions are))
+      (all_owned rules run o at s.number (at_first o) s.answers s.answers r.known (λ n has. has) (of_number s f) tt r.answered)) sessions closed.served (facts 1 sessions are))
       (all_known sent_by (numbers_of sessions) (h.errands at) (subst (λ (v : List ℕ). (n : ℕ) → NotIn n v → own sent_by n (h.errands at) ≡ []) closed.numbers (closed.workers at)))
 
   none_yet : (xs : List Answered) → AllByRecursion (λ (b : Answered). notes_for b [] ≡ []) xs
@@ -111,8 +110,8 @@ module _ (rules : Rules) (run : Run) (kept count : ℕ) (before : List Answered)
   within : (at : ℕ) → AllByRecursion (Within at) block
   within at = all_joined (Within at) sessions (all_both (IsServed rules run o h) Facts (λ (s : Session). AllByRecursion (Within at) s.answers)
       (λ s r f. all_both (IsOf s.number) (λ (b : Answered). KeepsWithin o.environment.catalog (at + 1) b.bound (notes_for b (r.known.errands at))) (Within at)
-          (λ b i k. subst (KeepsWithin o.environment.catalog (at + 1) b.bound) (same_notes b (h.errands at) (r.known.errands at) (subst (λ n. HasSeen sent_by n (h.errands at) (r.known.errands at)) (sym i.session) (r.workers at))) k) s.answers f.of
-          (all_within rules run o at s.number (at_first o) s.answers r.known (of_number s f) f.rising (none_yet s.answers) r.answered)) sessions closed.served (facts 1 sessions are))
+      (λ b i k. subst (KeepsWithin o.environment.catalog (at + 1) b.bound) (same_notes b (h.errands at) (r.known.errands at) (subst (λ n. HasSeen sent_by n (h.errands at) (r.known.errands at)) (sym i.session) (r.workers at))) k) s.answers f.of
+      (all_within rules run o at s.number (at_first o) s.answers r.known (of_number s f) f.rising (none_yet s.answers) r.answered)) sessions closed.served (facts 1 sessions are))
 
   of_phase : (a : Answered) (s : ℕ) → IsOf s a → AllByRecursion (λ (b : Answered). b.phase ≡ a.phase) block
   of_phase a s i = each_answer (length before + 1) count o.environment.settings (λ (b : Answered). b.phase ≡ a.phase) 1 sessions (λ t b l j. j.phase ∙ sym i.phase) are
@@ -122,9 +121,9 @@ module _ (rules : Rules) (run : Run) (kept count : ℕ) (before : List Answered)
   room a s at notes free there i begins w =
       let far = starts_twice (h.errands at) notes w.some begins w.begins in
       let t : tooks w.some ≤ gaves w.some + sum_by (stores_to o.environment.catalog (at + 1)) (beside_in (before ++ block) a) =
-          no_more_taken o.environment.catalog (at + 1) a before block (h.errands at) w.some far (owned at) (within at) apart there (of_phase a s i) w.before in
+      no_more_taken o.environment.catalog (at + 1) a before block (h.errands at) w.some far (owned at) (within at) apart there (of_phase a s i) w.before in
       let g : gaves w.some ≤ tooks w.some + sum_by (stores_from o.environment.catalog (at + 1)) (beside_in (before ++ block) a) =
-          no_more_given o.environment.catalog (at + 1) a before block (h.errands at) w.some far (owned at) (within at) apart there (of_phase a s i) w.before in
+      no_more_given o.environment.catalog (at + 1) a before block (h.errands at) w.some far (owned at) (within at) apart there (of_phase a s i) w.before in
       let is = w.is in
       record { least = omega (arith, t, is); most = omega (arith, g, is) }
 

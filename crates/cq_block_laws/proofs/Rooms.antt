@@ -1,19 +1,19 @@
 -- The spare stores of workers, by what the statements of a block took and gave.
-use Rattle.std.proofs.Common.{◌≡◌, ◌≢◌, ◌⊎◌, ◌+◌, ◌<◌, ◌≤◌, inl, inr, ℕ, Bool, true, false, List, [], ◌∷◌, ◌++◌, filter, map, refl, sym, ◌∙◌, ap, subst, arith, eq-eqb, ne_eqb, append_assoc}
-use Rattle.std.specs.Prelude.{nat_eq, not, ◌&&◌, ◌||◌, ⊤, Option}
+use Rattle.std.proofs.Common.{◌≡◌, ◌≢◌, ◌⊎◌, ◌+◌, ◌≤◌, inl, inr, ℕ, Bool, true, false, List, [], ◌∷◌, ◌++◌, filter, map, refl, sym, ◌∙◌, ap, subst, arith, eq-eqb, ne_eqb}
+use Rattle.std.specs.Prelude.{nat_eq, ⊤, Option}
 use Rattle.std.specs.List.{AllByRecursion, list_any, sum_by}
 use Rattle.std.proofs.lemmas.Bool.{eqb-true}
 use Rattle.std.proofs.lemmas.List.Elements.{filter-append}
 use Rattle.std.proofs.lemmas.List.Sums.{sum_by-cons, sum_by-append}
-use Rattle.cq_value.proofs.Lists.{all_weaker, all_both, all_append, all_left, all_filtered, filter_none, append_nil}
-use Rattle.cq_value.proofs.Truths.{two_ways, and_both, or_left, or_right}
+use Rattle.cq_value.proofs.Lists.{all_weaker, all_both, all_left, all_filtered}
+use Rattle.cq_value.proofs.Truths.{two_ways, and_both}
 use Rattle.cq_tree.specs.declared.journal.Who.{Who}
 use Rattle.cq_tree.specs.declared.statement.Statement.{Statement}
 use Rattle.cq_catalog.specs.Contents.{Contents}
 use Rattle.cq_answer.specs.declared.answered.Answered.{Answered}
 use Rattle.cq_history.specs.Phases.{who_of, is_beside, beside_in}
 use Rattle.cq_history.specs.Room.{stores_to, stores_from}
-use Rattle.cq_cell.specs.Lists.{keep, own, StartsWith}
+use Rattle.cq_cell.specs.Lists.{StartsWith}
 use Rattle.cq_shared.specs.declared.errand.Errand.{Errand}
 use Rattle.cq_shared.specs.Errands.{sent_by, took_in, gave_in, tooks, gaves}
 use Rattle.cq_block_laws.specs.Serving.{statement_in, sent_for, KeepsWithin}
@@ -209,9 +209,9 @@ beside_more : (f : Option Statement → ℕ) (a : Answered) (before block : List
 beside_more f a before block =
     let e : sum_by f (beside_in (before ++ block) a) ≡ sum_by (λ (b : Answered). f b.bound) (filter (is_beside a) (before ++ block)) = sum_bound f (filter (is_beside a) (before ++ block)) in
     let s : sum_by (λ (b : Answered). f b.bound) (filter (is_beside a) (before ++ block)) ≡ sum_by (λ (b : Answered). f b.bound) (filter (is_beside a) before ++ filter (is_beside a) block) =
-        ap (sum_by (λ (b : Answered). f b.bound)) (filter-append (is_beside a) before block) in
+    ap (sum_by (λ (b : Answered). f b.bound)) (filter-append (is_beside a) before block) in
     let p : sum_by (λ (b : Answered). f b.bound) (filter (is_beside a) before ++ filter (is_beside a) block) ≡ sum_by (λ (b : Answered). f b.bound) (filter (is_beside a) before) + sum_by (λ (b : Answered). f b.bound) (filter (is_beside a) block) =
-        sum_by-append (λ (b : Answered). f b.bound) (filter (is_beside a) before) (filter (is_beside a) block) in
+    sum_by-append (λ (b : Answered). f b.bound) (filter (is_beside a) before) (filter (is_beside a) block) in
     omega (arith, e, s, p)
 
 module _ (c : Contents) (node : ℕ) (a : Answered) (before block : List Answered) (all some : List Errand) (begins : StartsWith all some)
@@ -239,10 +239,10 @@ module _ (c : Contents) (node : ℕ) (a : Answered) (before block : List Answere
       let t : sum_by took_in some ≤ sum_by (sum_for took_in some) others = covered others took_in some owners in
       let g : sum_by (sum_for gave_in some) others ≤ sum_by gave_in some = shared others gave_in some (all_notes (λ n. AtMostOne (λ (b : Answered). sent_for (who_of b) n) others) single some) in
       let w : sum_by (sum_for took_in some) others ≤ sum_by (λ (b : Answered). sum_for gave_in some b + stores_to c node b.bound) others =
-          sum_weaker (sum_for took_in some) (λ (b : Answered). sum_for gave_in some b + stores_to c node b.bound) others
-          (all_weaker (λ (b : Answered). KeepsWithin c node b.bound (notes_for b all)) (λ (b : Answered). sum_for took_in some b ≤ sum_for gave_in some b + stores_to c node b.bound) (λ b k. k.took (notes_for b some) (so_far b)) others bounded) in
+      sum_weaker (sum_for took_in some) (λ (b : Answered). sum_for gave_in some b + stores_to c node b.bound) others
+      (all_weaker (λ (b : Answered). KeepsWithin c node b.bound (notes_for b all)) (λ (b : Answered). sum_for took_in some b ≤ sum_for gave_in some b + stores_to c node b.bound) (λ b k. k.took (notes_for b some) (so_far b)) others bounded) in
       let s : sum_by (λ (b : Answered). sum_for gave_in some b + stores_to c node b.bound) others ≡ sum_by (sum_for gave_in some) others + sum_by (λ (b : Answered). stores_to c node b.bound) others =
-          sum_both (sum_for gave_in some) (λ (b : Answered). stores_to c node b.bound) others in
+      sum_both (sum_for gave_in some) (λ (b : Answered). stores_to c node b.bound) others in
       let m : sum_by (λ (b : Answered). stores_to c node b.bound) others ≤ sum_by (stores_to c node) (beside_in (before ++ block) a) = beside_more (stores_to c node) a before block in
       omega (arith, t, g, w, s, m)
 
@@ -251,9 +251,9 @@ module _ (c : Contents) (node : ℕ) (a : Answered) (before block : List Answere
       let t : sum_by gave_in some ≤ sum_by (sum_for gave_in some) others = covered others gave_in some owners in
       let g : sum_by (sum_for took_in some) others ≤ sum_by took_in some = shared others took_in some (all_notes (λ n. AtMostOne (λ (b : Answered). sent_for (who_of b) n) others) single some) in
       let w : sum_by (sum_for gave_in some) others ≤ sum_by (λ (b : Answered). sum_for took_in some b + stores_from c node b.bound) others =
-          sum_weaker (sum_for gave_in some) (λ (b : Answered). sum_for took_in some b + stores_from c node b.bound) others
-          (all_weaker (λ (b : Answered). KeepsWithin c node b.bound (notes_for b all)) (λ (b : Answered). sum_for gave_in some b ≤ sum_for took_in some b + stores_from c node b.bound) (λ b k. k.gave (notes_for b some) (so_far b)) others bounded) in
+      sum_weaker (sum_for gave_in some) (λ (b : Answered). sum_for took_in some b + stores_from c node b.bound) others
+      (all_weaker (λ (b : Answered). KeepsWithin c node b.bound (notes_for b all)) (λ (b : Answered). sum_for gave_in some b ≤ sum_for took_in some b + stores_from c node b.bound) (λ b k. k.gave (notes_for b some) (so_far b)) others bounded) in
       let s : sum_by (λ (b : Answered). sum_for took_in some b + stores_from c node b.bound) others ≡ sum_by (sum_for took_in some) others + sum_by (λ (b : Answered). stores_from c node b.bound) others =
-          sum_both (sum_for took_in some) (λ (b : Answered). stores_from c node b.bound) others in
+      sum_both (sum_for took_in some) (λ (b : Answered). stores_from c node b.bound) others in
       let m : sum_by (λ (b : Answered). stores_from c node b.bound) others ≤ sum_by (stores_from c node) (beside_in (before ++ block) a) = beside_more (stores_from c node) a before block in
       omega (arith, t, g, w, s, m)

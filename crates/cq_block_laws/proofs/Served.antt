@@ -1,11 +1,11 @@
 -- What a session did, one statement after the other, in a block that is closed.
-use Rattle.std.proofs.Common.{◌≡◌, ◌≢◌, ◌+◌, ◌<◌, ◌≤◌, inl, inr, ℕ, Bool, true, false, List, [], ◌∷◌, ◌++◌, filter, refl, sym, ◌∙◌, ap, subst, arith, eq-eqb, append_assoc}
-use Rattle.std.specs.Prelude.{nat_eq, ◌&&◌, ◌||◌, Option, Some}
+use Rattle.std.proofs.Common.{◌≡◌, ◌≢◌, ◌+◌, ◌<◌, inl, inr, ℕ, Bool, true, false, List, [], ◌∷◌, ◌++◌, filter, refl, sym, ◌∙◌, ap, subst, arith, eq-eqb, append_assoc}
+use Rattle.std.specs.Prelude.{nat_eq, Option, Some}
 use Rattle.std.specs.List.{AllByRecursion, list_any}
 use Rattle.std.proofs.lemmas.Bool.{eqb-true}
 use Rattle.std.proofs.lemmas.List.Elements.{filter-append}
 use Rattle.cq_value.proofs.Lists.{all_weaker, all_both, all_append, filter_none, append_nil}
-use Rattle.cq_value.proofs.Truths.{two_ways, or_left, or_right}
+use Rattle.cq_value.proofs.Truths.{two_ways, or_right}
 use Rattle.cq_tree.specs.declared.journal.Who.{Who}
 use Rattle.cq_tree.specs.declared.statement.Statement.{Statement}
 use Rattle.cq_tree.specs.declared.statement.Statement.TheVariants as statement
@@ -14,7 +14,7 @@ use Rattle.cq_answer.specs.declared.answered.Answered.{Answered}
 use Rattle.cq_history.specs.Run.{Run, Rules}
 use Rattle.cq_history.specs.Phases.{who_of}
 use Rattle.cq_planning.specs.Touched.{among}
-use Rattle.cq_cell.specs.Lists.{keep, own, StartsWith}
+use Rattle.cq_cell.specs.Lists.{own, StartsWith}
 use Rattle.cq_cell.proofs.Lists.{starts_all, start_nil}
 use Rattle.cq_shared.specs.declared.errand.Errand.{Errand}
 use Rattle.cq_shared.specs.Errands.{sent_by, tooks, gaves}
@@ -145,8 +145,8 @@ all_from_own who P s [] all = tt
 all_from_own who P s (x ∷ xs) all = elim (two_ways (nat_eq (who x) s)) [
   | inl y ↦ (let h : P x × AllByRecursion P (own who s xs) = rw y at all in ((λ is. h.0), all_from_own who P s xs h.1))
   | inr n ↦ (
-    let h : AllByRecursion P (own who s xs) = rw n at all in
-    ((λ is. (let yes : nat_eq (who x) s ≡ true = eq-eqb (who x) s is in absurd (let bad : true ≡ false = sym yes ∙ n in cc bad))), all_from_own who P s xs h))
+      let h : AllByRecursion P (own who s xs) = rw n at all in
+      ((λ is. (let yes : nat_eq (who x) s ≡ true = eq-eqb (who x) s is in absurd (let bad : true ≡ false = sym yes ∙ n in cc bad))), all_from_own who P s xs h))
 ]
 
 pub owned_in_all : (s : ℕ) (xs : List Answered) (all seen : List Errand) → HasSeen sent_by s all seen → AllByRecursion (λ n. sent_by n ≡ s → HasOwner xs n) seen → AllByRecursion (λ n. sent_by n ≡ s → HasOwner xs n) all

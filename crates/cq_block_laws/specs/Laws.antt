@@ -1,14 +1,16 @@
 -- The laws.
-use Rattle.std.specs.Prelude.{◌≡◌, ◌≢◌, ◌<◌, ◌≤◌, ◌+◌, ◌++◌, ⊤, ℕ, List, [], ◌∷◌, length, Option, Some}
+use Rattle.std.specs.Prelude.{◌≡◌, ◌≢◌, ◌<◌, ◌≤◌, ◌+◌, ◌++◌, ⊤, ℕ, List, [], ◌∷◌, length, Option, Some, None}
 use Rattle.std.specs.List.{AllByRecursion}
 use Rattle.cq_tree.specs.declared.statement.Statement.{Statement}
 use Rattle.cq_tree.specs.declared.statement.Statement.TheVariants.{Move}
 use Rattle.cq_answer.specs.declared.answered.Answered.{Answered}
 use Rattle.cq_journal.specs.Records.{Journal}
+use Rattle.cq_journal.specs.Stations.{moving_of}
+use Rattle.cq_history.specs.Journals.{journal_in}
 use Rattle.cq_history.specs.Run.{Run, Rules, Environment, after, environment_from}
 use Rattle.cq_history.specs.Phases.{who_of, phase_in, MayBeInBlock}
 use Rattle.cq_history.specs.Deeds.{Phase}
-use Rattle.cq_history.specs.Log.{Era, no_era, joined, last_of, IsLaidOut, AreConsistent, IsAnsweredIn, IsPhase}
+use Rattle.cq_history.specs.Log.{Era, joined, IsLaidOut, IsConsistentIn, AreConsistent, IsAnsweredIn, IsPhase}
 use Rattle.cq_shared.specs.declared.errand.Errand.{Errand}
 use Rattle.cq_store.specs.Stores.{StoreState}
 use Rattle.cq_history.specs.Faults.{AccountsFor}
@@ -49,6 +51,11 @@ BlockGoesOn = (rules : Rules) (run : Run) (eras : List Era) (answers : List Answ
     AreConsistent rules run eras o.environment answers o.journals →
     AreSessions (length (joined eras ++ answers) + 1) (length (answers_of sessions)) o.environment.settings 1 sessions → AreApart (answers_of sessions) → IsClosed rules run o h sessions new →
     AreConsistent rules run eras (environment_from o.environment (answers_of sessions)) (answers ++ answers_of sessions) new
+
+-- between two phases no statement moves a group: each has ended the moves that it began
+abbrev pub MovesAreOver : Type 0
+MovesAreOver = (rules : Rules) (run : Run) (before : Era) (all : List Answered) (e : Environment) (answers : List Answered) (journals : List Journal) → IsConsistentIn rules run before all e answers journals →
+    (g : ℕ) → moving_of (journal_in journals g) ≡ None
 
 -- ---- counts of faults
 
