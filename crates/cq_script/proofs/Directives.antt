@@ -68,10 +68,10 @@ unfolding directive_of
 whole = refl
 
 -- a block that is never ended isn't run
-open : read (asks 1 ∷ says 2 (codes "\\parallel") ∷ says 3 (codes "\\session 1") ∷ asks 4 ∷ [])
+unended : read (asks 1 ∷ says 2 (codes "\\parallel") ∷ says 3 (codes "\\session 1") ∷ asks 4 ∷ [])
     ≡ (record { done = at 1 0 1 ∷ []; draft = Some (record { line = 2; session = Some 1; statements = at 2 1 2 ∷ [] }) }, None)
 unfolding directive_of
-open = refl
+unended = refl
 
 open_at_end : halt_at_end (record { done = []; draft = Some (record { line = 2; session = Some 1; statements = at 2 1 2 ∷ [] }) }) None ≡ Some (Misplaced 2)
 open_at_end = refl

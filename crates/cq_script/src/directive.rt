@@ -1,8 +1,10 @@
-ghost use Rattle.std.specs.Prelude.{◌≡◌, ◌≤◌, not, drop, length};
+ghost use Rattle.std.specs.Prelude.{◌≡◌, ◌≤◌, length};
 ghost use Rattle.std.specs.Char.{is_ascii_digit};
 ghost use Rattle.std.specs.List.{list_all, prefix_len};
 ghost use Rattle.cq_token.specs.Bytes.{is_blank as is_blank_byte};
 ghost use Rattle.cq_script.specs.Directives.{is_in_word, first_word, behind_word, is_zero, session_of, session_in, alone, directive_of};
+
+use crate::cutter::is_blank;
 
 /// The highest number of a session of a block.
 pub const MOST_SESSIONS: u32 = 8;
@@ -18,12 +20,6 @@ pub enum Directive {
     HighSession,
     /// `\end`: the block is run.
     End,
-}
-
-fn is_blank(b: u8) -> bool
-    ensures { result ≡ is_blank_byte b }
-{
-    matches!(b, b' ' | b'\t' | b'\r' | b'\n')
 }
 
 fn word_len(bytes: &[u8]) -> usize
