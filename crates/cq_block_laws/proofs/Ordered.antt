@@ -128,7 +128,7 @@ record Stays (e next : Environment) : Type 0 where
   settings : next.settings ≡ e.settings
 
 retiring_stays : (e : Environment) (f : Fault) → Stays e (retiring e f)
-retiring_stays e (fault.Retired node shard before after) = record { catalog = refl; settings = refl }
+retiring_stays e (fault.Retired failure) = record { catalog = refl; settings = refl }
 retiring_stays e f = record { catalog = refl; settings = refl }
 
 one_stays : (e : Environment) (bound : Option Statement) (a : Answer) → MayBeInBlock bound → Stays e (after e bound a)

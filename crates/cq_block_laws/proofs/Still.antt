@@ -128,8 +128,8 @@ module _ (run : Run) (e : Environment) (p : Phase) (d : Deed) where
 
   over_moving : (group from to : ℕ) (a : Answer) → Moves e.catalog view group from to a → AllOver
   over_moving group from to (answer.Table names rows) h = over_in group (IsMove e.catalog group from to h.0) (over_move e.catalog group from to h.0) h.3
-  over_moving group from to (answer.Failed (fault.Worker node shard before after)) h = over_entered h.0
-  over_moving group from to (answer.Failed (fault.Retired node shard before after)) h = over_in group (IsStopped from to) (over_stopped e.catalog group from to) h.0
+  over_moving group from to (answer.Failed (fault.Worker failure)) h = over_entered h.0
+  over_moving group from to (answer.Failed (fault.Retired failure)) h = over_in group (IsStopped from to) (over_stopped e.catalog group from to) h.0
   over_moving group from to (answer.Failed fault.Memory) (inl h) = over_entered h
   over_moving group from to (answer.Failed fault.Memory) (inr h) = over_in group (IsStopped from to) (over_stopped e.catalog group from to) h
   over_moving group from to a h = absurd h
@@ -144,8 +144,8 @@ module _ (run : Run) (e : Environment) (p : Phase) (d : Deed) where
 
   over_fails : (by_size : Bool) (nodes : ℕ → ℕ) (made : List Made) (m : Move) (f : Fault) → FailsMove by_size run e.catalog e.retired view nodes made m f → AllOver
   over_fails by_size nodes made m (fault.NoRoom node free needed) h g = over_steps e.catalog g by_size made (λ steps. steps ≡ []) (d.made g) over_empty (h.0 g)
-  over_fails by_size nodes made m (fault.Worker node shard before after) h g = over_steps e.catalog g by_size made (λ steps. steps ≡ []) (d.made g) over_empty (h.0 g)
-  over_fails by_size nodes made m (fault.Retired node shard before after) h g = over_steps e.catalog g by_size made (StopsIn m g) (d.made g) (over_stops e.catalog g m) (h.0 g)
+  over_fails by_size nodes made m (fault.Worker failure) h g = over_steps e.catalog g by_size made (λ steps. steps ≡ []) (d.made g) over_empty (h.0 g)
+  over_fails by_size nodes made m (fault.Retired failure) h g = over_steps e.catalog g by_size made (StopsIn m g) (d.made g) (over_stops e.catalog g m) (h.0 g)
   over_fails by_size nodes made m fault.Memory (inl h) g = over_steps e.catalog g by_size made (λ steps. steps ≡ []) (d.made g) over_empty (h g)
   over_fails by_size nodes made m fault.Memory (inr h) g = over_steps e.catalog g by_size made (StopsIn m g) (d.made g) (over_stops e.catalog g m) (h g)
   over_fails by_size nodes made m f h g = absurd h
