@@ -1,4 +1,4 @@
-ghost use Rattle.std.specs.Prelude.{◌≡◌, ◌⊎◌, ◌<◌, length, IfOk, IfErr, false, true};
+ghost use Rattle.std.specs.Prelude.{◌≡◌, ◌⊎◌, ◌<◌, length, IfOk, IfErr, MatchResult, false, true};
 ghost use Rattle.std.specs.List.{AllByRecursion};
 ghost use Rattle.cq_meaning.specs.Results.{results_of, Answers};
 ghost use Rattle.cq_meaning.specs.Limits.{is_large};
@@ -8,9 +8,18 @@ ghost use Rattle.cq_meaning_laws.specs.WholeRules.{steps_of as steps_by_rule, no
 use crate::steps::{Schedule, Step, steps_of};
 use cq_queries::{Tables, run_query};
 use cq_tree::{Query, QueryError};
-use cq_value::{Results, Rows};
+use cq_value::{NoMemory, Results, Rows};
 use std::alloc::Global;
 use std::hash::RandomState;
+
+fn memory<T: Drop>(r: Result<T, NoMemory>) -> Result<T, QueryError>
+    ensures { MatchResult result (λ x. r ≡ Ok x) (λ e. e ≡ QueryError.Memory) }
+{
+    match r {
+        Ok(x) => Ok(x),
+        Err(_) => Err(QueryError::Memory),
+    }
+}
 
 /// The results with those of steps, each computed over the results before it.
 fn run_steps(
@@ -43,7 +52,7 @@ fn compute_results(
     ensures ok { IfOk result (λ all. (all ≡ results_of q.now tables.now) × (has_large_step tables.now (no_results q.now) (steps_by_rule q.now) ≡ false)) }
     ensures err { IfErr result (λ e. e ≡ QueryError.Rows → has_large_step tables.now (no_results q.now) (steps_by_rule q.now) ≡ true) }
 {
-    let Schedule { steps, results } = steps_of(alloc, q)?;
+    let Schedule { steps, results } = memory(steps_of(alloc, q))?;
     run_steps(alloc, hash, steps.as_slice(), tables, results)
 }
 
