@@ -15,7 +15,7 @@ use cq_bind_calls::plain;
 use cq_bind_operands::value;
 use cq_bind_rules::{column_at, key_column};
 use cq_reading::{BindError, Bound, Scope, Source};
-use cq_value::Text;
+use cq_value::{Text, small};
 
 /// `*`, or `relation.*`.
 #[derive(Clone, Copy)]
@@ -99,10 +99,7 @@ fn star_bound(scope: &Scope<'_>, at: u64, place: u32) -> Result<Bound, BindError
 fn tree_place(place: usize) -> Result<u32, BindError>
     ensures { MatchResult result (λ n. n ≡ place) (λ e. e ≡ error.Memory) }
 {
-    match u32::try_from(place) {
-        Ok(n) => Ok(n),
-        Err(_) => Err(BindError::Memory),
-    }
+    Ok(small(place as u64)?)
 }
 
 /// The value of a column that `*` stands for.

@@ -14,16 +14,13 @@ use cq_bind_calls::{Nested, Step, through_all, through_of};
 use cq_bind_names::{crossed, no_relations};
 use cq_grammar::From;
 use cq_reading::{BindError, Found, Relations, Source, World};
-use cq_value::{Items, Names, Text};
+use cq_value::{Items, Names, Text, small};
 
 /// How many columns there are, as trees have it. The only error is want of memory, where they are more than 4294967295.
 fn how_many(columns: &[Source]) -> Result<u32, BindError>
     ensures { MatchResult result (λ n. n ≡ length columns.now) (λ e. e ≡ Memory) }
 {
-    match u32::try_from(columns.len()) {
-        Ok(n) => Ok(n),
-        Err(_) => Err(BindError::Memory),
-    }
+    Ok(small(columns.len() as u64)?)
 }
 
 /// A relation with its joins, behind those of these names and so many columns.

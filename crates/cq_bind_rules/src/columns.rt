@@ -13,7 +13,7 @@ use cq_bind_operands::null;
 use cq_grammar::Name;
 use cq_reading::{BindError, Bound, Scope, Source};
 use cq_tree::Expr;
-use cq_value::Text;
+use cq_value::{Text, small};
 
 /// Where a name is found.
 #[derive(Clone, Copy)]
@@ -95,10 +95,7 @@ fn place_of_full_name(columns: &[Source], relation: &Text, name: &Text) -> Place
 pub(crate) fn column_number(place: u64) -> Result<u32, BindError>
     ensures { MatchResult result (λ i. i ≡ place) (λ e. e ≡ Memory) }
 {
-    match u32::try_from(place) {
-        Ok(i) => Ok(i),
-        Err(_) => Err(BindError::Memory),
-    }
+    Ok(small(place)?)
 }
 
 /// The column at this place of those in reach, and NULL where there is none.

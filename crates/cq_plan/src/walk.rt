@@ -17,8 +17,7 @@ use crate::groups::groups_in;
 use crate::sets::{Base, Begun, BegunList, Right, key_set};
 use cq_catalog::Catalog;
 use cq_relations::{
-    Distribution, Pushable, count_columns, distribution_at, distribution_by, place_of,
-    pushable,
+    Distribution, Pushable, count_columns, distribution_at, distribution_by, place_of, pushable,
 };
 use cq_shape::{Said, ValueSet, copy_set, labels_in, put_all_said, put_equalities};
 use cq_tree::{Cond, FromTree, Query};

@@ -12,8 +12,8 @@ pub use components::{
     Block, Distributions, are_one_component, colocated, has_loose, is_one_class, partner_of,
     partners, plain, staying, stays,
 };
-pub use outputs::{is_output_of_class, keeps_class};
 pub use cq_value::plus;
+pub use outputs::{is_output_of_class, keeps_class};
 pub use places::{distribution_at, place_of};
 pub use relation::{Distribution, OuterJoin, Pushable, Relation};
 pub use walk::{count_columns, distribution_by, outer_join, pushable, put_relations};

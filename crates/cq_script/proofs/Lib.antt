@@ -6,3 +6,4 @@ pub mod RunLaws
 pub mod WrittenLaws
 pub mod DrawLaws
 pub mod Examples
+pub mod Directives

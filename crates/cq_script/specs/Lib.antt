@@ -1,3 +1,4 @@
+pub mod Directives
 pub mod Generating
 pub mod Pieces
 pub mod Runs

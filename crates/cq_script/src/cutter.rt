@@ -70,7 +70,7 @@ pub struct Cutter {
     copied: Bytes,
 }
 
-fn is_blank(b: u8) -> bool
+pub(crate) fn is_blank(b: u8) -> bool
     ensures { result ≡ is_blank_byte b }
 {
     matches!(b, b' ' | b'\t' | b'\r' | b'\n')

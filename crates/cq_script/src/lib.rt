@@ -5,6 +5,7 @@
 mod copying;
 mod csv_table;
 mod cutter;
+mod directive;
 mod draws;
 mod fatal;
 mod fault;
@@ -20,6 +21,7 @@ mod words;
 
 pub use cq_answer::{Answer, Fault, Tag};
 pub use cutter::{Bytes, Cutter, Item, Line, Place, Step};
+pub use directive::{Directive, MOST_SESSIONS, read_directive};
 pub use fatal::{Fatal, MOST_BYTES, MOST_STATEMENTS};
 pub use generator::{Generator, make_script};
 pub use memory::{MemSink, MemSource};

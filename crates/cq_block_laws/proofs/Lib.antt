@@ -1,0 +1,7 @@
+pub mod Noted
+pub mod Ordered
+pub mod Rooms
+pub mod Served
+pub mod Phases
+pub mod Accounts
+pub mod Still

@@ -1,0 +1,78 @@
+-- The laws.
+use Rattle.std.specs.Prelude.{◌≡◌, ◌≢◌, ◌<◌, ◌≤◌, ◌+◌, ◌++◌, ⊤, ℕ, List, [], ◌∷◌, length, Option, Some, None}
+use Rattle.std.specs.List.{AllByRecursion}
+use Rattle.cq_tree.specs.declared.statement.Statement.{Statement}
+use Rattle.cq_tree.specs.declared.statement.Statement.TheVariants.{Move}
+use Rattle.cq_answer.specs.declared.answered.Answered.{Answered}
+use Rattle.cq_journal.specs.Records.{Journal}
+use Rattle.cq_journal.specs.Stations.{moving_of}
+use Rattle.cq_history.specs.Journals.{journal_in}
+use Rattle.cq_history.specs.Run.{Run, Rules, Environment, after, environment_from}
+use Rattle.cq_history.specs.Phases.{who_of, phase_in, MayBeInBlock}
+use Rattle.cq_history.specs.Deeds.{Phase}
+use Rattle.cq_history.specs.Log.{Era, joined, IsLaidOut, IsConsistentIn, AreConsistent, IsAnsweredIn, IsPhase}
+use Rattle.cq_shared.specs.declared.errand.Errand.{Errand}
+use Rattle.cq_store.specs.Stores.{StoreState}
+use Rattle.cq_history.specs.Faults.{AccountsFor}
+use Rattle.cq_block_laws.specs.Accounts.{AccountsByPhases, later_phases, AreOfPhases, TellsOf}
+use Rattle.cq_block_laws.specs.Serving.{Opening, Known, IsPhaseOf, IsAnsweredBeside, AreAnswered}
+use Rattle.cq_block_laws.specs.Closing.{Session, numbers_of, answers_of, AreApart, AreSessions, History, IsClosed}
+
+-- a session goes on by one more answer
+abbrev pub AnswersOn : Type 0
+AnswersOn = (rules : Rules) (run : Run) (o : Opening) (old mid new : Known) (answers : List Answered) (a : Answered) → AreAnswered rules run o old answers mid → IsAnsweredBeside rules run o a mid new →
+    AreAnswered rules run o old (answers ++ a ∷ []) new
+
+-- a statement that is no move notes nothing at a worker
+abbrev pub IsNoMove : Option Statement → Type 0
+IsNoMove (Some (Move shard from to)) = ⊥
+IsNoMove bound = ⊤
+
+-- so it is answered beside others, where it is answered in each phase of its session
+abbrev pub QuietBeside : Type 0
+QuietBeside = (rules : Rules) (run : Run) (o : Opening) (a : Answered) (old new : List Journal) (errands : ℕ → List Errand) → IsNoMove a.bound →
+    ((p : Phase) → IsPhaseOf o a.session p → IsAnsweredIn rules run o.environment (after o.environment a.bound a.answer) p (who_of a) old new a.bound a.answer) →
+    IsAnsweredBeside rules run o a (record { journals = old; errands = errands }) (record { journals = new; errands = errands })
+
+-- statements of a block leave the catalogue and the settings
+abbrev pub BlockKeeps : Type 0
+BlockKeeps = (e : Environment) (block : List Answered) → AllByRecursion (λ (a : Answered). MayBeInBlock a.bound) block →
+    ((environment_from e block).catalog ≡ e.catalog) × ((environment_from e block).settings ≡ e.settings)
+
+-- a closed block is one phase behind these answers
+abbrev pub BlockIsPhase : Type 0
+BlockIsPhase = (rules : Rules) (run : Run) (kept count : ℕ) (before : List Answered) (o : Opening) (h : History) (sessions : List Session) (new : List Journal) → IsLaidOut run kept o.environment.catalog o.journals →
+    AreSessions (length before + 1) count o.environment.settings 1 sessions → AreApart (answers_of sessions) → IsClosed rules run o h sessions new →
+    IsPhase rules run kept o.environment before (answers_of sessions) (numbers_of sessions) o.journals new
+
+-- so all is as between two phases again
+abbrev pub BlockGoesOn : Type 0
+BlockGoesOn = (rules : Rules) (run : Run) (eras : List Era) (answers : List Answered) (o : Opening) (h : History) (sessions : List Session) (new : List Journal) →
+    AreConsistent rules run eras o.environment answers o.journals →
+    AreSessions (length (joined eras ++ answers) + 1) (length (answers_of sessions)) o.environment.settings 1 sessions → AreApart (answers_of sessions) → IsClosed rules run o h sessions new →
+    AreConsistent rules run eras (environment_from o.environment (answers_of sessions)) (answers ++ answers_of sessions) new
+
+-- between two phases no statement moves a group: each has ended the moves that it began
+abbrev pub MovesAreOver : Type 0
+MovesAreOver = (rules : Rules) (run : Run) (before : Era) (all : List Answered) (e : Environment) (answers : List Answered) (journals : List Journal) → IsConsistentIn rules run before all e answers journals →
+    (g : ℕ) → moving_of (journal_in journals g) ≡ None
+
+-- ---- counts of faults
+
+-- where each answer is a phase of its own, its order is that of the answers
+abbrev pub SerialAccounts : Type 0
+SerialAccounts = (answers : List Answered) (s : StoreState) → AreOfPhases answers → AccountsFor answers s → AccountsByPhases answers s
+
+-- a store's count accounts for a block's answers too, which tell of what happened to it meanwhile
+abbrev pub BlockAccounts : Type 0
+BlockAccounts = (phase : ℕ) (answers block : List Answered) (s t : StoreState) → AllByRecursion (λ (a : Answered). a.phase < phase) answers → AllByRecursion (λ (a : Answered). a.phase ≡ phase) block → TellsOf block s t →
+    AccountsByPhases answers s → AccountsByPhases (answers ++ block) t
+
+-- so of the answers since a shard group was moved: by a statement of an earlier phase, or never
+abbrev pub StayingAccounts : Type 0
+StayingAccounts = (phase n : ℕ) (answers block : List Answered) (s t : StoreState) → 0 < phase → AllByRecursion (λ (a : Answered). a.phase < phase) answers → AllByRecursion (λ (a : Answered). a.phase ≡ phase) block →
+    AllByRecursion (λ (a : Answered). a.statement ≢ n) block → TellsOf block s t → AccountsByPhases (later_phases n answers) s → AccountsByPhases (later_phases n (answers ++ block)) t
+
+-- or by one of the block: no phase comes behind it yet
+abbrev pub MovedAccounts : Type 0
+MovedAccounts = (phase n : ℕ) (answers : List Answered) (s : StoreState) → AllByRecursion (λ (a : Answered). a.phase ≤ phase) answers → phase_in answers n ≡ phase → AccountsByPhases (later_phases n answers) s

@@ -1,0 +1,98 @@
+-- Directives, and scripts with blocks, worked out.
+use Rattle.std.proofs.Common.{◌≡◌, [], ◌∷◌, List, ℕ, codes, refl, Some, None, Option}
+use Rattle.cq_script.specs.declared.cutter.Item.{Item}
+use Rattle.cq_script.specs.declared.directive.Directive.TheVariants.{Parallel, Session, HighSession, End}
+use Rattle.cq_script.specs.Pieces.{Piece}
+use Rattle.cq_script.specs.Pieces as pieces
+use Rattle.cq_script.specs.Directives.{directive_of, Placed, Draft, Reading, Halt, Misplaced, TooManySessions, nothing_read, read, halt_at_end}
+
+opens : directive_of (codes "\\parallel") ≡ Some Parallel
+unfolding directive_of
+opens = refl
+
+chooses : directive_of (codes "\\session  2 \r") ≡ Some (Session 2)
+unfolding directive_of
+chooses = refl
+
+with_zeros : directive_of (codes "\\session 08") ≡ Some (Session 8)
+unfolding directive_of
+with_zeros = refl
+
+too_high : directive_of (codes "\\session 9") ≡ Some HighSession
+unfolding directive_of
+too_high = refl
+
+far_too_high : directive_of (codes "\\session 18446744073709551617") ≡ Some HighSession
+unfolding directive_of
+far_too_high = refl
+
+ends : directive_of (codes "\\end\t") ≡ Some End
+unfolding directive_of
+ends = refl
+
+-- no session is 0, and none is without digits
+no_session : directive_of (codes "\\session 0") ≡ None
+unfolding directive_of
+no_session = refl
+
+no_digits : directive_of (codes "\\session one") ≡ None
+unfolding directive_of
+no_digits = refl
+
+no_number : directive_of (codes "\\session") ≡ None
+unfolding directive_of
+no_number = refl
+
+two_words : directive_of (codes "\\end block") ≡ None
+unfolding directive_of
+two_words = refl
+
+-- ---- scripts
+
+abbrev some : Item
+some = record { text = codes "SELECT 1"; copied = [] }
+
+abbrev at : ℕ → ℕ → ℕ → Placed
+at number session phase = record { item = some; number = number; session = session; phase = phase }
+
+abbrev says : ℕ → List ℕ → Piece
+says line text = pieces.Directive line text
+
+abbrev asks : ℕ → Piece
+asks line = pieces.Statement line some
+
+-- a statement, a block of two sessions, and a statement
+whole : read (asks 1 ∷ says 2 (codes "\\parallel") ∷ says 3 (codes "\\session 2") ∷ asks 4 ∷ says 5 (codes "\\session 1") ∷ asks 6 ∷ asks 7 ∷ says 8 (codes "\\end") ∷ asks 9 ∷ [])
+    ≡ (record { done = at 1 0 1 ∷ at 2 2 2 ∷ at 3 1 2 ∷ at 4 1 2 ∷ at 5 0 5 ∷ []; draft = None }, None)
+unfolding directive_of
+whole = refl
+
+-- a block that is never ended isn't run
+unended : read (asks 1 ∷ says 2 (codes "\\parallel") ∷ says 3 (codes "\\session 1") ∷ asks 4 ∷ [])
+    ≡ (record { done = at 1 0 1 ∷ []; draft = Some (record { line = 2; session = Some 1; statements = at 2 1 2 ∷ [] }) }, None)
+unfolding directive_of
+unended = refl
+
+open_at_end : halt_at_end (record { done = []; draft = Some (record { line = 2; session = Some 1; statements = at 2 1 2 ∷ [] }) }) None ≡ Some (Misplaced 2)
+open_at_end = refl
+
+-- a block in a block, an end outside, and a session outside are out of their places, and so is a statement without a session
+nested : read (says 1 (codes "\\parallel") ∷ says 2 (codes "\\parallel") ∷ []) ≡ (record { done = []; draft = Some (record { line = 1; session = None; statements = [] }) }, Some (Misplaced 2))
+unfolding directive_of
+nested = refl
+
+nothing_to_end : read (says 1 (codes "\\end") ∷ []) ≡ (nothing_read, Some (Misplaced 1))
+unfolding directive_of
+nothing_to_end = refl
+
+outside : read (asks 1 ∷ says 2 (codes "\\session 1") ∷ []) ≡ (record { done = at 1 0 1 ∷ []; draft = None }, Some (Misplaced 2))
+unfolding directive_of
+outside = refl
+
+no_session_yet : read (says 1 (codes "\\parallel") ∷ asks 4 ∷ says 6 (codes "\\end") ∷ []) ≡ (record { done = []; draft = Some (record { line = 1; session = None; statements = [] }) }, Some (Misplaced 4))
+unfolding directive_of
+no_session_yet = refl
+
+ninth : read (says 1 (codes "\\parallel") ∷ says 2 (codes "\\session 9") ∷ []) ≡ (record { done = []; draft = Some (record { line = 1; session = None; statements = [] }) }, Some TooManySessions)
+unfolding directive_of
+ninth = refl
