@@ -83,7 +83,6 @@ module _ {X : Type 0} (state : X → StoreState) (groups : List (GroupState X)) 
         by (Ok v) made none = visit_alone groups k g h who (Read ∷ []) at (seen_read g h who on.same made)
         by (Err e) made none = visit_alone groups k g h who [] at (seen_still g h who on.same none)
 
-
     pub read_go_on : AreResting state groups → GoOn state groups (set groups k h)
     read_go_on resting = go_on_set state groups k g h resting at on (by r entry err)
       where

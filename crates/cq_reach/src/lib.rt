@@ -5,9 +5,7 @@ mod alone;
 mod error;
 mod groups;
 mod staging;
-mod probing;
 mod writes;
-pub use probing::probe;
 
 pub use error::WriteError;
 pub use groups::Groups;
