@@ -6,5 +6,5 @@ mod memory;
 mod queries;
 mod tasks;
 
-pub use gathering::{RowsList, combine};
+pub use gathering::{RowsList, combine, joined};
 pub use tasks::partial;
