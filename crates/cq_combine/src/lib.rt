@@ -5,5 +5,5 @@ mod gathering;
 mod queries;
 mod tasks;
 
-pub use gathering::{RowsList, combine};
+pub use gathering::{RowsList, combine, joined};
 pub use tasks::partial;

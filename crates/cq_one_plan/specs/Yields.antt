@@ -1,6 +1,6 @@
 -- What a plan may give over captures of the groups that it touches: its subplans' rows become results; each of its tasks gives an answer of the partial
 -- query over what it reads; and its rows are gathered from these.
-use Rattle.std.specs.Prelude.{◌≡◌, ℕ, ◌+◌, List, [], ◌∷◌, map, length, ⊤, Bool, true, false, if◌then◌else◌, Option, None, Some}
+use Rattle.std.specs.Prelude.{◌≡◌, ℕ, ◌+◌, ◌<◌, List, [], ◌∷◌, map, length, ⊤, Bool, true, false, if◌then◌else◌, Option, None, Some}
 use Rattle.std.specs.List.{range_with_len, flat_map}
 use Rattle.std.specs.List.Sorted.{IsPermutation}
 use Rattle.cq_tree.specs.declared.plan.Combine.{Combine}
@@ -25,7 +25,6 @@ use Rattle.cq_repartition_laws.specs.Tasks.{bucket_tables}
 use Rattle.cq_outline.specs.Tasking.{Touch, groups_in}
 use Rattle.cq_outline.specs.declared.joining.Joined.{Joined}
 use Rattle.cq_one_plan.specs.declared.plan.Plan.{Plan, Plan', Row_of-Plan, end_of-Plan, more_of-Plan}
-use Rattle.cq_one_plan.specs.Stays.{leaves_in}
 
 -- ---- what a task reads
 
@@ -40,17 +39,26 @@ read_by c held None = task_tables c (references c held) 0
 
 -- ---- the relations of a repartition
 
+-- how many relations are joined
+abbrev pub relations_in : FromTree → ℕ
+relations_in (Table t n) = 1
+relations_in (Sub' p q) = 1
+relations_in (Result i n) = 1
+relations_in (Cross' p (more_of-FromTree a end_of-FromTree) q (more_of-FromTree b end_of-FromTree)) = relations_in a + relations_in b
+relations_in (Inner' p (more_of-FromTree a end_of-FromTree) q (more_of-FromTree b end_of-FromTree) on) = relations_in a + relations_in b
+relations_in (Left' p (more_of-FromTree a end_of-FromTree) q (more_of-FromTree b end_of-FromTree) on) = relations_in a + relations_in b
+
 -- the FROM with a table of its own, from number t on, in the place of each distributed table and of each subquery
 abbrev pub opened : Contents → ℕ → FromTree → FromTree
 opened c t (Table u n) = if is_distributed_place (place_at c u) then Table t n else Table u n
 opened c t (Sub' p (more_of-Query q end_of-Query)) = Table t (outputs_of q)
 opened c t (Result i n) = Result i n
 opened c t (Cross' p (more_of-FromTree a end_of-FromTree) q (more_of-FromTree b end_of-FromTree)) =
-    Cross' p (more_of-FromTree (opened c t a) end_of-FromTree) q (more_of-FromTree (opened c (t + leaves_in a) b) end_of-FromTree)
+    Cross' p (more_of-FromTree (opened c t a) end_of-FromTree) q (more_of-FromTree (opened c (t + relations_in a) b) end_of-FromTree)
 opened c t (Inner' p (more_of-FromTree a end_of-FromTree) q (more_of-FromTree b end_of-FromTree) on) =
-    Inner' p (more_of-FromTree (opened c t a) end_of-FromTree) q (more_of-FromTree (opened c (t + leaves_in a) b) end_of-FromTree) on
+    Inner' p (more_of-FromTree (opened c t a) end_of-FromTree) q (more_of-FromTree (opened c (t + relations_in a) b) end_of-FromTree) on
 opened c t (Left' p (more_of-FromTree a end_of-FromTree) q (more_of-FromTree b end_of-FromTree) on) =
-    Left' p (more_of-FromTree (opened c t a) end_of-FromTree) q (more_of-FromTree (opened c (t + leaves_in a) b) end_of-FromTree) on
+    Left' p (more_of-FromTree (opened c t a) end_of-FromTree) q (more_of-FromTree (opened c (t + relations_in a) b) end_of-FromTree) on
 
 abbrev pub opened_query : Contents → Query → Query
 opened_query c (Query' cs ctes ss subs from filter_ grouped keys aggs having items shown distinct order limit offset names) =
@@ -67,17 +75,17 @@ module _ (c : Contents) (held : Held) (rs : Results) (groups : List ℕ) (db : T
   AreOpened t (Table u n) = IfOpened (is_distributed_place (place_at c u)) (flat_map (λ g. table_rows (task_tables c held g) u) groups) (table_rows db t)
   AreOpened t (Sub' p (more_of-Query q end_of-Query)) = IsPermutation (flat_map (λ g. meaning q (task_tables c held g) rs) groups) (table_rows db t)
   AreOpened t (Result i n) = ⊤
-  AreOpened t (Cross' p (more_of-FromTree a end_of-FromTree) q (more_of-FromTree b end_of-FromTree)) = AreOpened t a × AreOpened (t + leaves_in a) b
-  AreOpened t (Inner' p (more_of-FromTree a end_of-FromTree) q (more_of-FromTree b end_of-FromTree) on) = AreOpened t a × AreOpened (t + leaves_in a) b
-  AreOpened t (Left' p (more_of-FromTree a end_of-FromTree) q (more_of-FromTree b end_of-FromTree) on) = AreOpened t a × AreOpened (t + leaves_in a) b
+  AreOpened t (Cross' p (more_of-FromTree a end_of-FromTree) q (more_of-FromTree b end_of-FromTree)) = AreOpened t a × AreOpened (t + relations_in a) b
+  AreOpened t (Inner' p (more_of-FromTree a end_of-FromTree) q (more_of-FromTree b end_of-FromTree) on) = AreOpened t a × AreOpened (t + relations_in a) b
+  AreOpened t (Left' p (more_of-FromTree a end_of-FromTree) q (more_of-FromTree b end_of-FromTree) on) = AreOpened t a × AreOpened (t + relations_in a) b
 
 abbrev pub from_of : Query → FromTree
 from_of (Query' cs ctes ss subs from filter_ grouped keys aggs having items shown distinct order limit offset names) = from
 
--- tables with those of the relations behind them: the tables that aren't distributed, and a table for each relation that is
+-- tables with those of the relations behind them: the catalogue's tables that aren't distributed, and a table for each relation that is
 pub record IsSpread (c : Contents) (held : Held) (rs : Results) (groups : List ℕ) (q : Query) (db : Tables) : Type 0 where
   pub opened_tables : AreOpened c held rs groups db (length c.tables) (from_of q)
-  pub other_tables : (t : ℕ) → is_distributed_place (place_at c t) ≡ false → table_rows db t ≡ table_rows (read_by c held None) t
+  pub other_tables : (t : ℕ) → t < length c.tables → is_distributed_place (place_at c t) ≡ false → table_rows db t ≡ table_rows (read_by c held None) t
 
 -- the tasks' tables of a repartition: each bucket of what has a column of the class, and all of the rest
 abbrev pub buckets_by : Joined → Query → Tables → List Tables

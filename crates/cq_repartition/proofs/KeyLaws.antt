@@ -67,7 +67,7 @@ module _ (class : ℕ) (q : Query) (first : ℕ → ℕ) (pairs : List (ℕ × �
   equality_is : list_any (λ (e : ℕ × ℕ). is_one_class first class e.0) pairs ≡ has_equality class q
   equality_is = λ i. list_any (λ (e : ℕ × ℕ). is_one_class (first_are i) class e.0) (pairs_are i)
 
-  keys_are : keys_among first class (leaves_from (out-Query q).from 0 false) ≡ keys_of class q
+  pub keys_are : keys_among first class (leaves_from (out-Query q).from 0 false) ≡ keys_of class q
   keys_are = ap (λ f. keys_among f class (leaves_from (out-Query q).from 0 false)) first_are
 
 none_has : (keys : List Key) → nat_eq (length keys) 0 ≡ true → has_some keys ≡ false

@@ -3,13 +3,13 @@ ghost use Rattle.std.specs.List.{list_any};
 ghost use Rattle.cq_tree.specs.declared.query.Query.{out-Query};
 ghost use Rattle.cq_planning.specs.Components.{is_one_class as is_one_class_by_rule};
 ghost use Rattle.cq_shape.specs.Labels.{label};
-ghost use Rattle.cq_repartition_laws.specs.Keys.{is_number, place_of as place_by_rule, key_at as key_at_by_rule, is_of_each as is_of_each_by_rule, keys_among as keys_among_by_rule};
+ghost use Rattle.cq_repartition_laws.specs.Keys.{is_number, place_of as place_by_rule, key_at as key_at_by_rule, is_of_each as is_of_each_by_rule, keys_among as keys_among_by_rule, keys_of as keys_by_rule};
 ghost use Rattle.cq_repartition.specs.Parted.{keys_if_parted};
 
 use cq_demands::{Leaf, is_plain, leaves_of};
 use cq_relations::is_one_class;
 use cq_repart::{Key, Keys};
-use cq_shape::{equalities_in, labels_of};
+use cq_shape::{equalities_in, labels_in, labels_of};
 use cq_tree::Query;
 use cq_value::{NoMemory, plus};
 use std::alloc::Global;
@@ -113,4 +113,15 @@ pub fn keys_of(alloc: Global, query: &Query, class: u64) -> Result<Option<Keys>,
     } else {
         Ok(Some(keys))
     }
+}
+
+/// The tables of a query that are split by a class, and by which columns.
+///
+/// Errors: it has a subquery in its FROM, or want of memory.
+pub fn split_keys(alloc: Global, query: &Query, class: u64) -> Result<Keys, NoMemory>
+    ensures { IfOk result (λ keys. keys ≡ keys_by_rule class query.now) }
+{
+    let labels = labels_in(alloc, &query.from, &query.filter)?;
+    let leaves = leaves_of(alloc, &query.from)?;
+    keys_among(alloc, labels.as_slice(), class, leaves.as_slice())
 }

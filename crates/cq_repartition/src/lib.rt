@@ -5,4 +5,5 @@
 mod keys;
 mod repartition;
 
+pub use keys::split_keys;
 pub use repartition::{Repartition, repartition_of};

@@ -3,4 +3,4 @@
 
 mod execution;
 
-pub use execution::{Parts, run_by_tasks};
+pub use execution::{Parts, Places, run_at, run_by_tasks, run_tasks};

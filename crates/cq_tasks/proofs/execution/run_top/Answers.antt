@@ -1,4 +1,4 @@
-use Rattle.std.proofs.Common.{rules, ◌≡◌, true, false, take, map, sym, ap, subst, ◌∙◌}
+use Rattle.std.proofs.Common.{rules, ◌≡◌, true, false, take, map, ap, subst, ◌∙◌}
 use Rattle.std.specs.Prelude.{IfOk}
 use Rattle.std.specs.List.{list_any}
 use Rattle.std.proofs.lemmas.Result.{IfOk-weaker}
@@ -10,14 +10,14 @@ use Rattle.cq_meaning.specs.Sorting.{keys_cmp, sorted}
 use Rattle.cq_meaning.specs.Queries.{meaning, AnswersWith}
 use Rattle.cq_task_laws.specs.Partial.{partial}
 use Rattle.cq_task_laws.specs.Merging.{joined, merging_rows, as_table}
-use Rattle.cq_tasks.specs.Execution.{reads_by, task_rows, has_large_task}
+use Rattle.cq_tasks.specs.Execution.{reads_at, task_rows, has_large_task}
 use Rattle.cq_tasks.proofs.TopLaws.{tops_gather}
 use Rattle.cq_tasks.proofs.execution.run_top.Goals as goal
 
 pub returns-in_err-first-clause-err : goal.returns-in_err-first-clause-err
 returns-in_err-first-clause-err c =
     let task : c.in_ok-task.task ≡ partial RowsOnly c.args.query.now = search rules in
-    let dbs = reads_by c.args.beside.now c.args.parts.now in
+    let dbs = reads_at c.args.beside.now c.args.parts.now c.args.places.now in
     let large : c.in_err-first.field-0.0 ≡ QueryError.Rows → has_large_task RowsOnly c.args.query.now c.args.results.now dbs ≡ true =
     λ r. subst (λ t. list_any (λ db. is_large t db c.args.results.now) dbs ≡ true) task (c.in_err-first.ensures.err r) in
     search (rules, large)
@@ -27,7 +27,7 @@ returns-clause-gathers c =
     let q = c.args.query.now in
     let p = out-Query q in
     let rs = c.args.results.now in
-    let dbs = reads_by c.args.beside.now c.args.parts.now in
+    let dbs = reads_at c.args.beside.now c.args.parts.now c.args.places.now in
     let task : c.in_ok-task.task ≡ partial RowsOnly q = search rules in
     let keys : c.as_slice-keys.result.now ≡ p.order = c.as_slice-keys.ensures in
     let first : c.in_ok-first.field-0 ≡ take c.args.most (sorted (keys_cmp p.order) (joined (task_rows RowsOnly q rs dbs))) =
@@ -41,7 +41,7 @@ returns-clause-gathers c =
 pub returns-clause-fits : goal.returns-clause-fits
 returns-clause-fits c =
     let task : c.in_ok-task.task ≡ partial RowsOnly c.args.query.now = search rules in
-    let dbs = reads_by c.args.beside.now c.args.parts.now in
+    let dbs = reads_at c.args.beside.now c.args.parts.now c.args.places.now in
     let small : has_large_task RowsOnly c.args.query.now c.args.results.now dbs ≡ false =
     subst (λ t. list_any (λ db. is_large t db c.args.results.now) dbs ≡ false) task c.in_ok-first.ensures.fits in
     search (rules, small)
