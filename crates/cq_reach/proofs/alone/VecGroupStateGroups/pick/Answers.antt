@@ -1,11 +1,11 @@
-use Rattle.std.proofs.Common.{◌∙◌, Ok, Err}
+use Rattle.std.proofs.Common.{◌∙◌, rules}
 use Rattle.std.proofs.Math.ListN.{set}
 use Rattle.cq_reach.proofs.Growth.{rest_again}
 use Rattle.cq_reach.proofs.Visiting.{within_alone, at_alone, meets_alone, tells_read, tables_told, rows_told, read_go_on, failed_alone}
 use Rattle.cq_reach.proofs.alone.VecGroupStateGroups.pick.Goals as goal
 
 pub index_mut-requires : goal.index_mut-requires
-index_mut-requires g c = within_alone c.args.self.now.items c.args.group c.requires.within
+index_mut-requires g c = let low = within_alone c.args.self.now.items c.args.group c.requires.within in search rules
 
 pub pick-requires-clause-kept : goal.pick-requires-clause-kept
 pick-requires-clause-kept g c =
