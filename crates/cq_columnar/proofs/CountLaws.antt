@@ -7,7 +7,6 @@ use Rattle.cq_value.specs.declared.value.Value.{Value}
 use Rattle.cq_value.specs.declared.value.Value.TheVariants.{Int}
 use Rattle.cq_value.specs.Changes.{Fit, changed}
 use Rattle.cq_value.specs.Tables.{Table, rows_of}
-use Rattle.cq_columnar.specs.declared.counting.Counted.{Counted}
 use Rattle.cq_columnar.specs.declared.within.Within.{Within}
 use Rattle.cq_columnar.specs.Counting.{row_of, rows_behind, rows_between, layout_to, digit, counted}
 use Rattle.cq_columnar.specs.Layouts.{Layout}

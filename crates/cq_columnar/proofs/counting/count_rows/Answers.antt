@@ -1,4 +1,4 @@
-use Rattle.std.proofs.Common.{◌≡◌, ◌∙◌, List, pos, sym, ap, subst, arith, le_refl}
+use Rattle.std.proofs.Common.{◌∙◌, List, pos, sym, ap, subst, arith, le_refl}
 use Rattle.std.specs.Prelude.{sum_by}
 use Rattle.cq_value.specs.declared.change.Change.{Change}
 use Rattle.cq_value.specs.declared.value.Value.{Value}
