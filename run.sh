@@ -12,12 +12,14 @@ Answers SQL scripts. Scripts and words stand in any order.
   SCRIPT                a file, or - for standard input. Several are answered one after the other, each over empty tables.
                         Without one: what comes through a pipe or from a file by <, else examples/tenants.sql.
   generate NUMBER ROWS  in place of a script: one of so many orders is made from a number
+  chunks ROWS A B       in place of a script: of so many rows in chunks those from A to B are counted
 
   --workers N           the number of nodes, from 1 to 16; 2 where it isn't given
   --repartition         joins whose rows have to move run from the start
   --csv                 tables are written as CSV
   --stop                the run ends behind the first ERROR, with status 3
   --journal             the journals are written at the end
+  --columnar            rows are kept in chunks by columns
 
   --shell               statements are answered as you type them, by the proved program; Ctrl-D ends
   --proved              the program is proved and built first, where that has to be: half an hour to an hour, once
@@ -224,21 +226,30 @@ while [ "$rest" -gt 0 ]; do
         shift
         rest=$((rest - 1))
         ;;
-    --workers=* | --repartition | --stop | --journal) set -- "$@" "$word" ;;
+    --workers=* | --repartition | --stop | --journal | --columnar) set -- "$@" "$word" ;;
     generate)
         [ "$rest" -gt 1 ] || fail 'generate wants a number and how many rows'
-        generates=yes number=$1 rows=$2
+        generates=generate number=$1 rows=$2
         shift 2
         rest=$((rest - 2))
+        ;;
+    chunks)
+        [ "$rest" -gt 2 ] || fail 'chunks wants how many rows, and the least and the greatest that counts'
+        generates=chunks rows=$1 least=$2 greatest=$3
+        shift 3
+        rest=$((rest - 3))
         ;;
     -) add_script - ;;
     -*) fail "no word $word: ./run.sh --help lists them" ;;
     *) add_script "$word" ;;
     esac
 done
-[ -z "$generates" ] || set -- "$@" generate "$number" "$rows"
-[ -z "$generates$is_shell" ] || [ "$count" -eq 0 ] || fail "a script stands beside ${generates:+generate}${is_shell:+--shell}"
-[ -z "$generates" ] || [ -z "$is_shell" ] || fail 'generate stands beside --shell'
+case $generates in
+generate) set -- "$@" generate "$number" "$rows" ;;
+chunks) set -- "$@" chunks "$rows" "$least" "$greatest" ;;
+esac
+[ -z "$generates$is_shell" ] || [ "$count" -eq 0 ] || fail "a script stands beside $generates${is_shell:+--shell}"
+[ -z "$generates" ] || [ -z "$is_shell" ] || fail "$generates stands beside --shell"
 
 lack=$(lack_of_proof)
 if [ -n "$lack" ] && [ -n "$must_prove" ]; then

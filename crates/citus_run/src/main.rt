@@ -1,5 +1,5 @@
 //! The program: it answers the SQL script on standard input, or the one that its words ask for, over as many nodes as they say, whose
-//! stores are in memory, and writes the answers to standard output, in blocks. Its exit status is the number of the run's status.
+//! stores are in memory, in rows or in chunks by columns, and writes the answers to standard output, in blocks. Its exit status is the number of the run's status.
 #![tactic(auto)]
 
 ghost use Rattle.std.specs.Prelude.{◌≡◌, [], ◌∷◌, map, drop, IfOk, MatchResult};
@@ -7,9 +7,10 @@ ghost use Rattle.std.specs.String.{string_bytes};
 ghost use Rattle.std.specs.Vec.Iter.{into_iter_items};
 ghost use Rattle.cq_cluster.specs.Cluster.{IsWaiting};
 
+use cq_columnar::ColumnStore;
 use cq_script::{ReadSource, Sink, WriteSink};
 use cq_store::{BoxedStore, MemStore};
-use cq_top::{IdleGate, RunLog, Status, make_workers, run};
+use cq_top::{IdleGate, RunLog, Status, make_workers, read_words, run_over};
 use std::alloc::{AllocError, Global};
 use std::io::BufWriter;
 use std::process::ExitCode;
@@ -52,13 +53,28 @@ fn words_of(alloc: Global, args: io::Result<env::Args>) -> Result<Vec<String>, A
     }
 }
 
+/// Whether the words ask for stores whose rows lie in chunks by columns.
+fn asks_for_columns(alloc: Global, words: &[String]) -> bool {
+    match read_words(alloc, words) {
+        Ok(settled) => settled.columnar,
+        Err(_) => false,
+    }
+}
+
 fn main(rt: HostRuntime) -> ExitCode {
     let alloc = rt.alloc();
-    let make = |node: u32| -> Result<BoxedStore, AllocError>
-        ensures { IfOk result (λ b. IsWaiting node (state b)) }
-    { Ok(Box::new(alloc, MemStore::new(alloc, node))?) };
     let Ok(words) = words_of(alloc, env::args(&rt)) else {
         return ExitCode::from(Status::Memory.number());
+    };
+    let is_columnar = asks_for_columns(alloc, &words);
+    let make = |node: u32| -> Result<BoxedStore, AllocError>
+        ensures { IfOk result (λ b. IsWaiting node (state b)) }
+    {
+        if is_columnar {
+            Ok(Box::new(alloc, ColumnStore::new(alloc, node))?)
+        } else {
+            Ok(Box::new(alloc, MemStore::new(alloc, node))?)
+        }
     };
     let Ok(mut workers) = make_workers(alloc, NODES, STORES, &make) else {
         return ExitCode::from(Status::Memory.number());
@@ -69,7 +85,8 @@ fn main(rt: HostRuntime) -> ExitCode {
     };
     let mut source = ReadSource::new(rt.stdin());
     let mut sink = WriteSink::new(writer);
-    let status = run(
+    let status = run_over(
+        &rt,
         &rt,
         alloc,
         &words,

@@ -70,6 +70,7 @@ pub fn run_script<R: Threads + Wait + Sync + RandomSource>(
     let mut log = RunLog::new(alloc);
     let status = run_over(
         rt,
+        rt,
         alloc,
         &words,
         &mut source,

@@ -27,17 +27,21 @@ wanted name = record (new_rule name) { required = true; action = Some Set }
 abbrev pub generate : App
 generate = with_rule (with_rule (on_top (λ s. record s { disable_help_flag = true }) (new_app (codes "generate"))) (wanted (codes "number"))) (wanted (codes "rows"))
 
+-- `chunks rows least greatest`
+abbrev pub chunks : App
+chunks = with_rule (with_rule (with_rule (on_top (λ s. record s { disable_help_flag = true }) (new_app (codes "chunks"))) (wanted (codes "rows"))) (wanted (codes "least"))) (wanted (codes "greatest"))
+
 -- the program's command without its words: the first word is no program's name, and there is no help
 abbrev pub bare : App
 bare = on_top (λ s. record s { no_binary_name = true; disable_help_flag = true; disable_help_subcommand = true }) (new_app (codes "citus_run"))
 
 -- with its options
 abbrev pub options : App
-options = with_rule (with_rule (with_rule (with_rule (with_rule bare (option (codes "workers"))) (flag (codes "repartition"))) (flag (codes "csv"))) (flag (codes "stop"))) (flag (codes "journal"))
+options = with_rule (with_rule (with_rule (with_rule (with_rule (with_rule bare (option (codes "workers"))) (flag (codes "repartition"))) (flag (codes "csv"))) (flag (codes "stop"))) (flag (codes "journal"))) (flag (codes "columnar"))
 
--- and with `generate`
+-- and with `generate` and `chunks`
 abbrev pub program : App
-program = with_subcommand options generate.top
+program = with_subcommand (with_subcommand options generate.top) chunks.top
 
 -- a number of decimal digits alone, from `least` to `most`
 abbrev pub number_in : ℕ → ℕ → Text → Option ℕ
@@ -62,24 +66,41 @@ both x y = option_and_then (λ n. option_map (λ m. (n, m)) y) x
 abbrev pub generated : List Row → Option (ℕ × ℕ)
 generated rows = both (number_of (codes "number") 0 4294967295 rows) (number_of (codes "rows") 1 100000 rows)
 
--- the same, where one is asked for
-abbrev pub generate_in : Option (Text × List Row) → Option (Option (ℕ × ℕ))
-generate_in None = Some None
-generate_in (Some p) = option_map (λ q. Some q) (generated p.1)
+-- how many rows are counted in chunks, and the least and the greatest that counts
+abbrev pub counted : List Row → Option (ℕ × ℕ × ℕ)
+counted rows = option_and_then (λ n. option_map (λ p. (n, p.0, p.1)) (both (number_of (codes "least") 0 4294967295 rows) (number_of (codes "greatest") 0 4294967295 rows))) (number_of (codes "rows") 1 100000 rows)
 
-abbrev pub settled_with : List Row → ℕ → Option (ℕ × ℕ) → Settled
-settled_with rows workers generate = record {
+-- the words of a subcommand, where they have it
+abbrev pub rows_under : Text → Option (Text × List Row) → Option (List Row)
+rows_under name None = None
+rows_under name (Some p) = if bytes_eq p.0 name then Some p.1 else None
+
+-- what a subcommand settles, where the words have it
+abbrev pub asked_by : {X : Type 0} → (List Row → Option X) → Option (List Row) → Option (Option X)
+asked_by settle None = Some None
+asked_by settle (Some rows) = option_map (λ x. Some x) (settle rows)
+
+abbrev pub generate_in : Option (Text × List Row) → Option (Option (ℕ × ℕ))
+generate_in sub = asked_by generated (rows_under (codes "generate") sub)
+
+abbrev pub chunks_in : Option (Text × List Row) → Option (Option (ℕ × ℕ × ℕ))
+chunks_in sub = asked_by counted (rows_under (codes "chunks") sub)
+
+abbrev pub settled_with : List Row → ℕ → Option (ℕ × ℕ) → Option (ℕ × ℕ × ℕ) → Settled
+settled_with rows workers generate chunks = record {
   workers = workers;
   repartition = is_on (codes "repartition") rows;
   csv = is_on (codes "csv") rows;
   stop = is_on (codes "stop") rows;
   journal = is_on (codes "journal") rows;
+  columnar = is_on (codes "columnar") rows;
   generate = generate;
+  chunks = chunks;
 }
 
 -- what clap's matches settle
 abbrev pub settled_by : List Row → Option (Text × List Row) → Option Settled
-settled_by rows sub = option_and_then (λ workers. option_map (settled_with rows workers) (generate_in sub)) (workers_in rows)
+settled_by rows sub = option_and_then (λ workers. option_and_then (λ generate. option_map (settled_with rows workers generate) (chunks_in sub)) (generate_in sub)) (workers_in rows)
 
 abbrev pub IsRefused : Kinds → Type 0
 IsRefused [] = ⊥

@@ -42,6 +42,19 @@ fn generate<'a>(alloc: Global) -> Result<Command<'a>, AllocError>
         .arg(wanted(alloc, "rows"))
 }
 
+/// `chunks rows least greatest`.
+#[tactic(auto, using(crate::proofs::CommandLaws::added))]
+fn chunks<'a>(alloc: Global) -> Result<Command<'a>, AllocError>
+    ensures app { IfOk result (λ c. app_of c ≡ spec.chunks) }
+    ensures local { IfOk result (λ c. (out-Command c).has_globals ≡ false) }
+{
+    Command::new(alloc, "chunks")
+        .disable_help_flag(true)
+        .arg(wanted(alloc, "rows"))?
+        .arg(wanted(alloc, "least"))?
+        .arg(wanted(alloc, "greatest"))
+}
+
 /// The program's options.
 #[tactic(auto, using(crate::proofs::CommandLaws::added))]
 fn options<'a>(alloc: Global) -> Result<Command<'a>, AllocError>
@@ -55,12 +68,15 @@ fn options<'a>(alloc: Global) -> Result<Command<'a>, AllocError>
         .arg(flag(alloc, "repartition"))?
         .arg(flag(alloc, "csv"))?
         .arg(flag(alloc, "stop"))?
-        .arg(flag(alloc, "journal"))
+        .arg(flag(alloc, "journal"))?
+        .arg(flag(alloc, "columnar"))
 }
 
-/// The program's command: its options, and then `generate` or nothing.
+/// The program's command: its options, and then `generate`, `chunks` or nothing.
 pub(crate) fn program<'a>(alloc: Global) -> Result<Command<'a>, AllocError>
     ensures { IfOk result (λ c. app_of c ≡ spec.program) }
 {
-    options(alloc)?.subcommand(generate(alloc)?)
+    options(alloc)?
+        .subcommand(generate(alloc)?)?
+        .subcommand(chunks(alloc)?)
 }

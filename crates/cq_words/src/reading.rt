@@ -18,7 +18,7 @@ const WORKERS: u32 = 2;
 /// The most nodes of a run.
 const MOST_WORKERS: u32 = 16;
 
-/// The most rows of a generated script.
+/// The most rows of a generated script, and of rows in chunks.
 const MOST_ROWS: u32 = 100_000;
 
 /// The first word of an argument.
@@ -62,12 +62,42 @@ fn generated(matches: &ArgMatches<'_>) -> Option<(u32, u32)>
     Some((number, rows))
 }
 
-/// The same, where one is asked for.
+/// How many rows are counted in chunks, and the least and the greatest that counts.
+fn counted(matches: &ArgMatches<'_>) -> Option<(u32, u32, u32)>
+    ensures { result ≡ spec.counted (rows_of (found_of matches.now)) }
+{
+    let rows = number_of(matches, "rows", 1, MOST_ROWS)?;
+    let least = number_of(matches, "least", 0, u32::MAX)?;
+    let greatest = number_of(matches, "greatest", 0, u32::MAX)?;
+    Some((rows, least, greatest))
+}
+
+/// The matches of a subcommand, where the words have it.
+fn matches_under<'m, 'a>(matches: &'m ArgMatches<'a>, name: &str) -> Option<&'m ArgMatches<'a>>
+    ensures { option_map (λ m. rows_of (found_of m.now)) result ≡ spec.rows_under name.now (subcommand_rows_of matches.now) }
+{
+    match matches.subcommand() {
+        Some((found, inner)) if found == name => Some(inner),
+        _ => None,
+    }
+}
+
+/// What `generate` asks for, where the words have it.
 fn generate_in(matches: &ArgMatches<'_>) -> Option<Option<(u32, u32)>>
     ensures { result ≡ spec.generate_in (subcommand_rows_of matches.now) }
 {
-    match matches.subcommand() {
-        Some((_, inner)) => Some(Some(generated(inner)?)),
+    match matches_under(matches, "generate") {
+        Some(inner) => Some(Some(generated(inner)?)),
+        None => Some(None),
+    }
+}
+
+/// What `chunks` asks for, where the words have it.
+fn chunks_in(matches: &ArgMatches<'_>) -> Option<Option<(u32, u32, u32)>>
+    ensures { result ≡ spec.chunks_in (subcommand_rows_of matches.now) }
+{
+    match matches_under(matches, "chunks") {
+        Some(inner) => Some(Some(counted(inner)?)),
         None => Some(None),
     }
 }
@@ -83,7 +113,9 @@ fn settled_by(matches: &ArgMatches<'_>) -> Option<Settled>
         csv: is_on(matches, "csv"),
         stop: is_on(matches, "stop"),
         journal: is_on(matches, "journal"),
+        columnar: is_on(matches, "columnar"),
         generate: generate_in(matches)?,
+        chunks: chunks_in(matches)?,
     })
 }
 
@@ -104,7 +136,7 @@ fn has_dashes(words: &[String]) -> bool
 }
 
 /// What the words of the command line settle: options, each at most once and in any order, and then `generate` with its two
-/// numbers, or nothing more.
+/// numbers, `chunks` with its three, or nothing more.
 ///
 /// Errors: `Usage` exactly where the words are others; want of memory.
 #[tactic(auto, using(crate::proofs::WordLaws::settled_taken, crate::proofs::WordLaws::settled_refused, crate::proofs::WordLaws::settled_dashes))]

@@ -11,6 +11,10 @@ pub struct Settled {
     pub stop: bool,
     /// The journals are written at the end.
     pub journal: bool,
+    /// Rows lie in chunks by columns.
+    pub columnar: bool,
     /// The number and the rows of a script that is generated in place of the input.
     pub generate: Option<(u32, u32)>,
+    /// Of rows in chunks that are counted in place of a script: how many there are, and the least and the greatest that counts.
+    pub chunks: Option<(u32, u32, u32)>,
 }

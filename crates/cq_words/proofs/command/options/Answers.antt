@@ -11,4 +11,5 @@ returns c =
     let two = added _ _ _ _ _ c.in_ok-arg-2.ensures c.flag.ensures.local one c.flag.ensures.rule in
     let three = added _ _ _ _ _ c.in_ok-arg-3.ensures c.flag-2.ensures.local two c.flag-2.ensures.rule in
     let four = added _ _ _ _ _ c.in_ok-arg-4.ensures c.flag-3.ensures.local three c.flag-3.ensures.rule in
-    added_last _ _ _ _ c.arg-5.result c.arg-5.ensures c.flag-4.ensures.local four c.flag-4.ensures.rule
+    let five = added _ _ _ _ _ c.in_ok-arg-5.ensures c.flag-4.ensures.local four c.flag-4.ensures.rule in
+    added_last _ _ _ _ c.arg-6.result c.arg-6.ensures c.flag-5.ensures.local five c.flag-5.ensures.rule

@@ -1,0 +1,50 @@
+-- Where no store, source or sink fails, and words and script keep the limits, a run comes to its end, and no answer says that a store failed.
+use Rattle.std.specs.Prelude.{◌≡◌, ◌≤◌, ◌⊎◌, ℕ, Bool, true, IsTrue, Option, Some, None, List, length}
+use Rattle.std.specs.List.{AllByRecursion}
+use Rattle.cq_answer.specs.declared.answered.Answered.{Answered}
+use Rattle.cq_store.specs.Stores.{StoreState}
+use Rattle.cq_store.specs.declared.worker.Worker.{Worker}
+use Rattle.cq_cluster.specs.Steady.{NamesNode}
+use Rattle.cq_script.specs.declared.cutter.Item.{Item}
+use Rattle.cq_script.specs.Generating.{IsGenerated}
+use Rattle.cq_script.specs.Streams.{SourceState, SinkState, Rose}
+use Rattle.cq_words.specs.declared.settled.Settled.{Settled}
+use Rattle.cq_top.specs.declared.status.Status.{Status}
+use Rattle.cq_top.specs.declared.status.Status.TheVariants.{Done, Stopped, Memory}
+use Rattle.cq_top.specs.Scripts.{most_bytes, most_statements, IsReached, FailsLast}
+use Rattle.cq_top.specs.Runs.{IsMisused, asked}
+
+-- no store that was handed in ever fails
+abbrev pub AllSteady : {X : Type 0} → (X → StoreState) → List (Worker X) → Type 0
+AllSteady {X} state entry = AllByRecursion (λ (w : Worker X). AllByRecursion (λ (x : X). IsTrue (state x).steady) w.stores.items) entry
+
+-- a script is within the limits, and however far it is taken, no line is out of its place
+pub record KeepsLimits (script : List ℕ) : Type 0 where
+  pub size : length script ≤ most_bytes
+  pub statements : (taken : ℕ) (found : List Item) (line : Option ℕ) → IsReached script taken found line → (length found ≤ most_statements) × (line ≡ None)
+
+-- so is the script of a source that tells its bytes, or the one that is made
+abbrev pub ScriptKeepsLimits : Option (ℕ × ℕ) → SourceState → Type 0
+ScriptKeepsLimits None source = (bytes : List ℕ) × (source.left ≡ Some bytes) × KeepsLimits bytes
+ScriptKeepsLimits (Some g) source = (script : List ℕ) → IsGenerated g.0 g.1 script → KeepsLimits script
+
+-- the words are right, the script keeps the limits, and no fault of the source or the sink rose
+pub record IsUndisturbed (words : List (List ℕ)) (workers : ℕ) (source source_end : SourceState) (sink sink_end : SinkState) : Type 0 where
+  pub well : IsMisused words workers → ⊥
+  pub script : ScriptKeepsLimits (asked words).generate source
+  pub reads : Rose source.faults source_end.faults → ⊥
+  pub writes : Rose sink.faults sink_end.faults → ⊥
+
+-- the run is done, was stopped by a statement that failed under --stop, or memory was wanting
+abbrev pub IsComplete : Bool → Status → List Answered → Type 0
+IsComplete stop status answers = (status ≡ Done) ⊎ (((status ≡ Stopped) × (stop ≡ true) × FailsLast answers) ⊎ (status ≡ Memory))
+
+-- and no answer says that a store failed: each is its statement's own, want of memory, or a refusal for the statement
+pub record Completes (s : Settled) (status : Status) (answers : List Answered) : Type 0 where
+  pub ends : IsComplete s.stop status answers
+  pub names : (node : ℕ) → AllByRecursion (λ (a : Answered). NamesNode a.answer node → ⊥) answers
+
+-- a run completes where nothing disturbs it
+abbrev pub CompletesCalmly : {X : Type 0} → (X → StoreState) → List (List ℕ) → List (Worker X) → Status → List Answered → SourceState → SourceState → SinkState → SinkState → Type 0
+CompletesCalmly state words entry status answers source source_end sink sink_end =
+    AllSteady state entry → IsUndisturbed words (length entry) source source_end sink sink_end → Completes (asked words) status answers

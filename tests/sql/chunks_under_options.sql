@@ -1,0 +1,1 @@
+SELECT 1; -- no byte of the input is read
