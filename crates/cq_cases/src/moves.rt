@@ -183,18 +183,11 @@ fn kept(alloc: Global, stores: &mut Vec<FaultStore>, shard: u64) -> Result<Vec<P
 /// Whether an answer tells of a retired store.
 fn tells_of(answered: &Answered, retired: &Retired<FaultStore>) -> bool {
     match &answered.answer {
-        Answer::Failed(
-            Fault::Retired {
-                node,
-                before,
-                after,
-                ..
-            },
-        ) => {
+        Answer::Failed(Fault::Retired(failure)) => {
             answered.statement == retired.who.statement
-                && *node == retired.node
-                && *before == retired.before
-                && *after == retired.after
+                && failure.node == retired.node
+                && failure.before == retired.before
+                && failure.after == retired.after
         }
         _ => false,
     }

@@ -4,6 +4,7 @@ use Rattle.std.specs.Prelude.{IsTrue, find}
 use Rattle.std.specs.List.{AllByRecursion, AllZip, flat_map}
 use Rattle.std.proofs.Math.ListN.{set}
 use Rattle.cq_value.proofs.Lists.{all_map, all_append, all_more, all_left, all_right, all_filtered}
+use Rattle.cq_tree.specs.declared.failure.StoreFailure.{StoreFailure}
 use Rattle.cq_tree.specs.declared.journal.Who.{Who}
 use Rattle.cq_catalog.specs.declared.info.Opened.{Opened}
 use Rattle.cq_answer.specs.declared.answer.Answer.{Answer}
@@ -205,12 +206,12 @@ module _ {X : Type 0} (state : X → StoreState) where
   -- ---- what is named
 
   -- a store that failed is of a node whose stores aren't all steady
-  pub failed_unsteady : (node shard before after : ℕ) (xs ys : List X) → SomeZip (Lifted state (Failed node shard before after)) xs ys → AreSteady state node xs → ⊥
-  failed_unsteady node shard before after [] ys some all = some
-  failed_unsteady node shard before after (x ∷ xs) [] some all = some
-  failed_unsteady node shard before after (x ∷ xs) (y ∷ ys) some all = elim some [
+  pub failed_unsteady : (failure : StoreFailure) (xs ys : List X) → SomeZip (Lifted state (Failed failure)) xs ys → AreSteady state failure.node xs → ⊥
+  failed_unsteady failure [] ys some all = some
+  failed_unsteady failure (x ∷ xs) [] some all = some
+  failed_unsteady failure (x ∷ xs) (y ∷ ys) some all = elim some [
     | inl f ↦ not_both (state x).steady f.unsteady (all.0 f.of_node)
-    | inr more ↦ failed_unsteady node shard before after xs ys more all.1
+    | inr more ↦ failed_unsteady failure xs ys more all.1
   ]
 
   -- so is one that is retired
@@ -221,30 +222,30 @@ module _ {X : Type 0} (state : X → StoreState) where
   all_last P xs y all = (all_right P xs (y ∷ []) all).0
 
   -- an answer that tells of a store which is retired then
-  retired_named : (who : Who) (node shard before after : ℕ) (old new : Cluster X) → KeepsSteady state old new → AllByRecursion (IsRetired state) new.retired.items →
-      Retires who (answer.Failed (fault.Retired node shard before after)) old.retired.items new.retired.items → IsSteadyAt state old node → ⊥
-  retired_named who node shard before after old new keeps are retires was =
+  retired_named : (who : Who) (failure : StoreFailure) (old new : Cluster X) → KeepsSteady state old new → AllByRecursion (IsRetired state) new.retired.items →
+      Retires who (answer.Failed (fault.Retired failure)) old.retired.items new.retired.items → IsSteadyAt state old failure.node → ⊥
+  retired_named who failure old new keeps are retires was =
       let r = retires.0 in
-      let now = (keeps node was).retired in
-      retired_unsteady node r (all_last (IsRetired state) old.retired.items r (subst (AllByRecursion (IsRetired state)) retires.1 are)) retires.3
-      (all_last (λ (s : Retired X). (state s.store).node ≡ node → IsTrue (state s.store).steady) old.retired.items r (subst (RetiredAreSteady state node) retires.1 now))
+      let now = (keeps failure.node was).retired in
+      retired_unsteady failure.node r (all_last (IsRetired state) old.retired.items r (subst (AllByRecursion (IsRetired state)) retires.1 are)) retires.3
+      (all_last (λ (s : Retired X). (state s.store).node ≡ failure.node → IsTrue (state s.store).steady) old.retired.items r (subst (RetiredAreSteady state failure.node) retires.1 now))
 
   -- an answer names a node whose stores aren't all steady, where it names a store that failed or one that is retired then
   pub names_by : (who : Who) (a : Answer) (old new : Cluster X) → KeepsSteady state old new → AllByRecursion (IsRetired state) new.retired.items → Retires who a old.retired.items new.retired.items →
-      ((node shard before after : ℕ) → a ≡ answer.Failed (fault.Worker node shard before after) → GroupsAreSteady state node old.groups.items → ⊥) → NamesNoSteady state old a
-  names_by who (answer.Failed (fault.Worker at shard before after)) old new keeps are retires failed node was is =
-      failed at shard before after refl (subst (λ n. GroupsAreSteady state n old.groups.items) (sym is) was.groups)
-  names_by who (answer.Failed (fault.Retired at shard before after)) old new keeps are retires failed node was is =
-      retired_named who at shard before after old new keeps are retires (subst (IsSteadyAt state old) (sym is) was)
+      ((failure : StoreFailure) → a ≡ answer.Failed (fault.Worker failure) → GroupsAreSteady state failure.node old.groups.items → ⊥) → NamesNoSteady state old a
+  names_by who (answer.Failed (fault.Worker failure)) old new keeps are retires failed node was is =
+      failed failure refl (subst (λ n. GroupsAreSteady state n old.groups.items) (sym is) was.groups)
+  names_by who (answer.Failed (fault.Retired failure)) old new keeps are retires failed node was is =
+      retired_named who failure old new keeps are retires (subst (IsSteadyAt state old) (sym is) was)
   names_by who (answer.Failed f) old new keeps are retires failed node was is = is
   names_by who (answer.Tag t) old new keeps are retires failed node was is = is
   names_by who (answer.Table names rows) old new keeps are retires failed node was is = is
 
   -- a store of the groups that failed
-  pub groups_unsteady : (a : Answer) (old new : List (GroupState X)) → NamesFailed state a old new → (node shard before after : ℕ) → a ≡ answer.Failed (fault.Worker node shard before after) → GroupsAreSteady state node old → ⊥
-  groups_unsteady a old new failed node shard before after is all =
-      let f = failed node shard before after is in
-      failed_unsteady node shard before after (stores_of f.1.was) (stores_of f.1.is) f.1.failed (all_at (λ (g : GroupState X). AreSteady state node (stores_of g)) old f.0 f.1.was all f.1.there)
+  pub groups_unsteady : (a : Answer) (old new : List (GroupState X)) → NamesFailed state a old new → (failure : StoreFailure) → a ≡ answer.Failed (fault.Worker failure) → GroupsAreSteady state failure.node old → ⊥
+  groups_unsteady a old new failed failure is all =
+      let f = failed failure is in
+      failed_unsteady failure (stores_of f.1.was) (stores_of f.1.is) f.1.failed (all_at (λ (g : GroupState X). AreSteady state failure.node (stores_of g)) old f.0 f.1.was all f.1.there)
 
   -- ---- stores that are set aside
 
@@ -270,8 +271,8 @@ module _ {X : Type 0} (state : X → StoreState) where
   -- ---- moves
 
   unnamed : (f : Fault) → NamesNoStore f → (node : ℕ) → NamesNode (answer.Failed f) node → ⊥
-  unnamed (fault.Worker at shard before after) none node is = let no : true ≡ false = none in cc
-  unnamed (fault.Retired at shard before after) none node is = let no : true ≡ false = none in cc
+  unnamed (fault.Worker failure) none node is = let no : true ≡ false = none in cc
+  unnamed (fault.Retired failure) none node is = let no : true ≡ false = none in cc
   unnamed f none node is = is
 
   pub spares_failed : (old new : Cluster X) (f : Fault) → KeepsSteady state old new → NamesNoStore f → SparesSteady state (answer.Failed f) old new
@@ -307,10 +308,10 @@ module _ {X : Type 0} (state : X → StoreState) where
         back node (record { groups = subst (GroupsAreSteady state node) (sym groups) was.groups; workers = taken.1; retired = subst (RetiredAreSteady state node) (sym retired) was.retired }) taken.0
 
     names_kept : (f : Fault) → HasKeptGroup state who group to (length given) f mid new → NamesNoSteady state cl (answer.Failed f)
-    names_kept (fault.Worker at shard before after) h node was is =
-        let all = subst (GroupsAreSteady state at) (sym groups) (subst (λ n. GroupsAreSteady state n cl.groups.items) (sym is) was.groups) in
-        failed_unsteady at shard before after (stores_of h.at.was) (stores_of h.at.is) h.at.cause.1 (all_at (λ (g : GroupState X). AreSteady state at (stores_of g)) mid.groups.items group h.at.was all h.at.changed.there)
-    names_kept (fault.Retired at shard before after) h node was is =
+    names_kept (fault.Worker failure) h node was is =
+        let all = subst (GroupsAreSteady state failure.node) (sym groups) (subst (λ n. GroupsAreSteady state n cl.groups.items) (sym is) was.groups) in
+        failed_unsteady failure (stores_of h.at.was) (stores_of h.at.is) h.at.cause.1 (all_at (λ (g : GroupState X). AreSteady state failure.node (stores_of g)) mid.groups.items group h.at.was all h.at.changed.there)
+    names_kept (fault.Retired failure) h node was is =
         let lose = h.up.retired.1 in
         let now = subst (RetiredAreSteady state node) lose.all (keeps_moved node was).retired in
         retired_unsteady node lose.last lose.is (lose.of_node ∙ is) (all_last (λ (s : Retired X). IsSteadyOn node (state s.store)) mid.retired.items lose.last now)

@@ -39,8 +39,8 @@ KeepsSteady state old new = (node : ℕ) → IsSteadyAt state old node → IsSte
 
 -- the answer says that a store of this node failed
 abbrev pub NamesNode : Answer → ℕ → Type 0
-NamesNode (answer.Failed (fault.Worker at shard before after)) node = at ≡ node
-NamesNode (answer.Failed (fault.Retired at shard before after)) node = at ≡ node
+NamesNode (answer.Failed (fault.Worker failure)) node = failure.node ≡ node
+NamesNode (answer.Failed (fault.Retired failure)) node = failure.node ≡ node
 NamesNode a node = ⊥
 
 -- it says so of no node whose stores are all steady

@@ -207,8 +207,8 @@ module _ {X : Type 0} (state : X → StoreState) where
   -- a steady group's error names no worker
   pub blames_none : (e : GroupError) (g : GroupState X) (ys : List X) → IsSteady state g → Blames state e (stores_of g) ys → e ≡ Memory
   blames_none Memory g ys s h = refl
-  blames_none (Worker node shard before after) g ys s h =
-      absurd (some_not (λ (x : X). IsTrue (state x).steady) (Lifted state (Failed node shard before after))
+  blames_none (Worker failure) g ys s h =
+      absurd (some_not (λ (x : X). IsTrue (state x).steady) (Lifted state (Failed failure))
       (λ x y a b. false≢true (sym b.unsteady ∙ a)) (stores_of g) ys (steady_stores g.tables.items s) h)
 
   -- a group whose stores went on, and whose journal is that of the same group

@@ -167,14 +167,14 @@ module _ {X : Type 0} (state : X → StoreState) where
   pub blames_arriving : (e : GroupError) (n : ℕ) (ts us : List (IncomingTable X)) (u v : IncomingTable X) → IsThrough (IsSettledTable state) n ts us → n < length us → u ≡ get_or us n u → IsWaitingTable state u v →
       Blames state e u.stores.items v.stores.items → Blames state e (flat_map (λ (t : IncomingTable X). t.stores.items) ts) (flat_map (λ (t : IncomingTable X). t.stores.items) (set us n v))
   blames_arriving Memory n ts us u v h low is w b = tt
-  blames_arriving (Worker node shard before after) n ts us u v h low is w b =
+  blames_arriving (Worker failure) n ts us u v h low is w b =
       let items : IncomingTable X → List X = λ t. t.stores.items in
       let G : X → X → Type 0 = Lifted state GoesOn in
-      let F : X → X → Type 0 = Lifted state (Failed node shard before after) in
+      let F : X → X → Type 0 = Lifted state (Failed failure) in
       let stay : (t : IncomingTable X) → AllZip G (items t) (items t) = λ t. zip_refl G (λ x. rests_go_on (state x) (state x) (rests (state x))) (items t) in
       let now : AllZip (λ t r. AllZip G (items t) (items r)) us (set us n v) =
       zip_set (λ t r. AllZip G (items t) (items r)) stay us n u v low is (zip_weaker (Lifted state Rests) G (λ x y. rests_go_on (state x) (state y)) u.stores.items v.stores.items w.stores) in
-      blames_later state (Worker node shard before after) (flat_map items ts) (flat_map items us) (flat_map items (set us n v))
+      blames_later state (Worker failure) (flat_map items ts) (flat_map items us) (flat_map items (set us n v))
       (zip_flat G items ts us (through_both (IsSettledTable state) (λ t r. AllZip G (items t) (items r))
       (λ t r k. zip_weaker (Lifted state (Makes t.pending)) G (λ x y. makes_go_on t.pending (state x) (state y)) t.stores.items r.stores.items k.stores) stay n ts us h))
       (some_flat G F items us (set us n v) now (some_set (λ t r. SomeZip F (items t) (items r)) us n u v low is b))

@@ -105,8 +105,8 @@ module _ {X : Type 0} (state : X → StoreState) where
   -- an error of one store is on its node
   pub on_node : (e : GroupError) (x y : X) → Blames state e (x ∷ []) (y ∷ []) → IsOn (state x).node e
   on_node Memory x y h = tt
-  on_node (Worker node shard before after) x y (inl h) = sym h.of_node
-  on_node (Worker node shard before after) x y (inr h) = absurd h
+  on_node (Worker failure) x y (inl h) = sym h.of_node
+  on_node (Worker failure) x y (inr h) = absurd h
 
   pub replica_node : (first node : ℕ) (es : List Entry) (table : ℕ) (shape : Shape) (shard : ℕ) (xs : List X) (place : ℕ) (e : GroupError) →
       AreReplicasFrom first node es table shape shard (map state xs) → place < length xs → HoldsAt (λ x. IsOn (state x).node e) xs place → IsOn (node_at node (first + place)) e
@@ -121,8 +121,8 @@ module _ {X : Type 0} (state : X → StoreState) where
       AllZip (Lifted state GoesOn) t.stores.items u.stores.items → Blames state e t.stores.items u.stores.items →
       Blames state e (flat_map (λ (v : GroupTable X). v.stores.items) ts) (flat_map (λ (v : GroupTable X). v.stores.items) (set ts place u))
   blames_group Memory ts place t u low is h k = tt
-  blames_group (Worker node shard before after) ts place t u low is h k =
-      let F : X → X → Type 0 = Lifted state (Failed node shard before after) in
+  blames_group (Worker failure) ts place t u low is h k =
+      let F : X → X → Type 0 = Lifted state (Failed failure) in
       let G : X → X → Type 0 = Lifted state GoesOn in
       let items : GroupTable X → List X = λ v. v.stores.items in
       some_flat G F items ts (set ts place u)

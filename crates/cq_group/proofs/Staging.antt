@@ -32,12 +32,12 @@ module _ {X : Type 0} (state : X → StoreState) (changes : List Change) (n : �
 
   pub blamed : (e : GroupError) → Blames state e (y ∷ []) (z ∷ []) → Blames state e xs zs
   blamed Memory h = tt
-  blamed (Worker node shard before after) (inl h) =
-      let F : X → X → Type 0 = Lifted state (Failed node shard before after) in
+  blamed (Worker failure) (inl h) =
+      let F : X → X → Type 0 = Lifted state (Failed failure) in
       let G : X → X → Type 0 = Lifted state GoesOn in
-      some_after F G F (λ a b c. failed_before node shard before after (state a) (state b) (state c)) xs (set ys n z) zs
-      (some_before G F F (λ a b c. failed_later node shard before after (state a) (state b) (state c)) xs ys (set ys n z)
+      some_after F G F (λ a b c. failed_before failure (state a) (state b) (state c)) xs (set ys n z) zs
+      (some_before G F F (λ a b c. failed_later failure (state a) (state b) (state c)) xs ys (set ys n z)
       (through_both (Lifted state (Stages changes)) G (λ a b k. keeps_go_on (state a) (state b) (stages_keep changes (state a) (state b) k)) (λ a. keeps_go_on (state a) (state a) (keeps (state a))) n xs ys done)
       (some_set F ys n y z low is h))
       (zip_weaker (Lifted state Discards) G (λ a b. discards_go_on (state a) (state b)) (set ys n z) zs drops)
-  blamed (Worker node shard before after) (inr h) = absurd h
+  blamed (Worker failure) (inr h) = absurd h

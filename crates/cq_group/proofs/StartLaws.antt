@@ -262,7 +262,7 @@ module _ {X : Type 0} (state : X → StoreState) where
   -- why a move didn't begin, where it could
   pub why_error : (e : GroupError) (g h : GroupState X) (to from : ℕ) → CanStart g to from → Blames state e (stores_of g) (stores_of h) → RefusesMove state g h to from (why_told e)
   why_error Memory g h to from can b = can
-  why_error (Worker node shard before after) g h to from can b = (can, b)
+  why_error (Worker failure) g h to from can b = (can, b)
 
   pub rested_length : (g h : GroupState X) → IsSameBut (Lifted state Rests) g h → length h.tables.items ≡ length g.tables.items
   rested_length g h s = length_zipped (IsRestingTable (Lifted state Rests)) g.tables.items h.tables.items s.tables

@@ -55,14 +55,14 @@ module _ {X : Type 0} (state : X → StoreState) where
 
   pub blames_one : (e : GroupError) (xs : List X) (n : ℕ) (x y : X) → n < length xs → x ≡ get_or xs n x → Blames state e (x ∷ []) (y ∷ []) → Blames state e xs (set xs n y)
   blames_one Memory xs n x y low is h = tt
-  blames_one (Worker node shard before after) xs n x y low is (inl h) = some_set (Lifted state (Failed node shard before after)) xs n x y low is h
-  blames_one (Worker node shard before after) xs n x y low is (inr h) = absurd h
+  blames_one (Worker failure) xs n x y low is (inl h) = some_set (Lifted state (Failed failure)) xs n x y low is h
+  blames_one (Worker failure) xs n x y low is (inr h) = absurd h
 
   pub blames_later : (e : GroupError) (xs ys zs : List X) → AllZip (Lifted state GoesOn) xs ys → Blames state e ys zs → Blames state e xs zs
   blames_later Memory xs ys zs h k = tt
-  blames_later (Worker node shard before after) xs ys zs h k =
-      some_before (Lifted state GoesOn) (Lifted state (Failed node shard before after)) (Lifted state (Failed node shard before after))
-      (λ a b c. failed_later node shard before after (state a) (state b) (state c)) xs ys zs h k
+  blames_later (Worker failure) xs ys zs h k =
+      some_before (Lifted state GoesOn) (Lifted state (Failed failure)) (Lifted state (Failed failure))
+      (λ a b c. failed_later failure (state a) (state b) (state c)) xs ys zs h k
 
   pub rested_go_on : (xs ys : List X) → AllZip (Lifted state Rests) xs ys → AllZip (Lifted state GoesOn) xs ys
   rested_go_on xs ys h = zip_weaker (Lifted state Rests) (Lifted state GoesOn) (λ a b. rests_go_on (state a) (state b)) xs ys h

@@ -2,6 +2,7 @@
 use Rattle.std.proofs.Common.{◌≡◌, ◌≤◌, ℕ, IsTrue, List, [], refl, sym, ap, ◌∙◌, subst, arith}
 use Rattle.cq_value.specs.declared.change.Change.{Change}
 use Rattle.cq_value.specs.Tables.{Table}
+use Rattle.cq_tree.specs.declared.failure.StoreFailure.{StoreFailure}
 use Rattle.cq_store.specs.Stores.{StoreState, Becomes}
 use Rattle.cq_group.specs.Calls.{Rests, Discards, Commits, Stages, KeepsRows, GoesOn, Failed}
 
@@ -95,8 +96,8 @@ dropped s t u nothing h k = becomes s u s.rows s.staged
     (λ i. k.steady (subst IsTrue (sym (ap (λ (x : StoreState). x.steady) h.state)) i) ∙ h.steady i)
 
 -- a store that failed in one of several calls failed in all of them together
-pub failed_later : (node shard before after : ℕ) (s t u : StoreState) → GoesOn s t → Failed node shard before after t u → Failed node shard before after s u
-failed_later node shard before after s t u h k = record {
+pub failed_later : (failure : StoreFailure) (s t u : StoreState) → GoesOn s t → Failed failure t u → Failed failure s u
+failed_later failure s t u h k = record {
   of_node = sym (ap (λ (x : StoreState). x.node) h.state) ∙ k.of_node;
   of_shard = sym (ap (λ (x : StoreState). x.shard) h.state) ∙ k.of_shard;
   unsteady = sym (ap (λ (x : StoreState). x.steady) h.state) ∙ k.unsteady;
@@ -105,8 +106,8 @@ failed_later node shard before after s t u h k = record {
   to = k.to;
 }
 
-pub failed_before : (node shard before after : ℕ) (s t u : StoreState) → Failed node shard before after s t → GoesOn t u → Failed node shard before after s u
-failed_before node shard before after s t u h k = record {
+pub failed_before : (failure : StoreFailure) (s t u : StoreState) → Failed failure s t → GoesOn t u → Failed failure s u
+failed_before failure s t u h k = record {
   of_node = h.of_node;
   of_shard = h.of_shard;
   unsteady = h.unsteady;

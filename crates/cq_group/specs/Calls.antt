@@ -5,6 +5,7 @@ use Rattle.cq_value.specs.declared.change.Change.{Change}
 use Rattle.cq_value.specs.declared.value.Value.{Value}
 use Rattle.cq_value.specs.Tables.{Table, IsAscending, empty_table, rows_of}
 use Rattle.cq_value.specs.Changes.{applied, Fit}
+use Rattle.cq_tree.specs.declared.failure.StoreFailure.{StoreFailure}
 use Rattle.cq_tree.specs.declared.write.ShardOp.{ShardOp}
 use Rattle.cq_meaning.specs.Effects.{inserts, table_of, IsSafeWrite}
 use Rattle.cq_journal.specs.Journals.{replay}
@@ -87,23 +88,23 @@ SomeZip R [] ys = ⊥
 SomeZip R (x ∷ xs) [] = ⊥
 SomeZip R (x ∷ xs) (y ∷ ys) = R x y ⊎ SomeZip R xs ys
 
--- a store that isn't steady, on this node and under this shard id, whose count of faults rose from one number to another
-pub record Failed (node shard before after : ℕ) (old new : StoreState) : Type 0 where
-  pub of_node : old.node ≡ node
-  pub of_shard : old.shard ≡ shard
+-- a store that isn't steady failed so meanwhile
+pub record Failed (failure : StoreFailure) (old new : StoreState) : Type 0 where
+  pub of_node : old.node ≡ failure.node
+  pub of_shard : old.shard ≡ failure.shard
   pub unsteady : old.steady ≡ false
-  pub from : old.faults ≤ before
-  pub rose : Rose before after
-  pub to : after ≤ new.faults
+  pub from : old.faults ≤ failure.before
+  pub rose : Rose failure.before failure.after
+  pub to : failure.after ≤ new.faults
 
 -- where an error names a worker, it is one of the stores, and failed
 abbrev pub Blames : {X : Type 0} → (X → StoreState) → GroupError → List X → List X → Type 0
 Blames state Memory old new = ⊤
-Blames state (Worker node shard before after) old new = SomeZip (Lifted state (Failed node shard before after)) old new
+Blames state (Worker failure) old new = SomeZip (Lifted state (Failed failure)) old new
 
 -- what an error of a call on a store tells: which store failed, and how its count of faults rose
 abbrev pub error_told : ℕ → StoreState → StoreError → GroupError
-error_told before s call.Failed = Worker s.node s.shard before s.faults
+error_told before s call.Failed = Worker (record { node = s.node; shard = s.shard; before = before; after = s.faults })
 error_told before s call.Memory = Memory
 
 -- changes can be staged in a store: it keeps a shard, nothing is staged, and they fit its rows
@@ -115,7 +116,7 @@ pub record Takes (changes : List Change) (s : StoreState) : Type 0 where
 -- where an error names a worker, it is on this node
 abbrev pub IsOn : ℕ → GroupError → Type 0
 IsOn node Memory = ⊤
-IsOn node (Worker at shard before after) = at ≡ node
+IsOn node (Worker failure) = failure.node ≡ node
 
 -- the node that a read is made on: the group's, or in a reference group the near one
 abbrev pub node_read : {X : Type 0} → GroupState X → ℕ → ℕ

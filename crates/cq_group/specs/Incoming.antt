@@ -137,12 +137,12 @@ abbrev pub RefusesMove : {X : Type 0} → (X → StoreState) → GroupState X �
 RefusesMove state old new to from (why.Moving by) = moving_of (journal_of old) ≡ Some by
 RefusesMove state old new to from (why.NotThere node) = (moving_of (journal_of old) ≡ None) × (node ≡ old.node) × (node ≢ from)
 RefusesMove state old new to from (why.SameNode node) = (moving_of (journal_of old) ≡ None) × (node ≡ old.node) × (node ≡ from) × (node ≡ to)
-RefusesMove state old new to from (why.Worker node shard before after) = CanStart old to from × Blames state (error.Worker node shard before after) (stores_of old) (stores_of new)
+RefusesMove state old new to from (why.Worker failure) = CanStart old to from × Blames state (error.Worker failure) (stores_of old) (stores_of new)
 RefusesMove state old new to from why.Memory = CanStart old to from
 
 -- what an error tells of a move that it kept from beginning
 abbrev pub why_told : GroupError → MoveWhy
-why_told (error.Worker node shard before after) = why.Worker node shard before after
+why_told (error.Worker failure) = why.Worker failure
 why_told error.Memory = why.Memory
 
 -- what comes in is as it was

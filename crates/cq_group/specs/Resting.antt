@@ -1,5 +1,6 @@
 -- Several shard groups between two statements, and after one.
 use Rattle.std.specs.Prelude.{◌≡◌, ℕ, List, map, length, Some, slice_get}
+use Rattle.cq_tree.specs.declared.failure.StoreFailure.{StoreFailure}
 use Rattle.cq_journal.specs.Records.{Journal}
 use Rattle.cq_journal.specs.Stations.{node_of}
 use Rattle.cq_store.specs.Stores.{StoreState}
@@ -25,14 +26,14 @@ pub record GoOn {X : Type 0} (state : X → StoreState) (old new : List (GroupSt
   pub count : length new ≡ length old
   pub each : (i : ℕ) (g h : GroupState X) → slice_get old i ≡ Some g → slice_get new i ≡ Some h → GroupGoesOn state g h × IsResting state h
 
--- meanwhile a store of the group at this place failed, which isn't steady: that of this shard on this node
-pub record HasFailedAt {X : Type 0} (state : X → StoreState) (place node shard before after : ℕ) (old new : List (GroupState X)) : Type 0 where
+-- meanwhile a store of the group at this place failed so, which isn't steady
+pub record HasFailedAt {X : Type 0} (state : X → StoreState) (place : ℕ) (failure : StoreFailure) (old new : List (GroupState X)) : Type 0 where
   pub was : GroupState X
   pub is : GroupState X
   pub there : slice_get old place ≡ Some was
   pub here : slice_get new place ≡ Some is
-  pub failed : SomeZip (Lifted state (Failed node shard before after)) (stores_of was) (stores_of is)
+  pub failed : SomeZip (Lifted state (Failed failure)) (stores_of was) (stores_of is)
 
 -- of some group
-abbrev pub HasFailed : {X : Type 0} → (X → StoreState) → ℕ → ℕ → ℕ → ℕ → List (GroupState X) → List (GroupState X) → Type 0
-HasFailed state node shard before after old new = (place : ℕ) × HasFailedAt state place node shard before after old new
+abbrev pub HasFailed : {X : Type 0} → (X → StoreState) → StoreFailure → List (GroupState X) → List (GroupState X) → Type 0
+HasFailed state failure old new = (place : ℕ) × HasFailedAt state place failure old new

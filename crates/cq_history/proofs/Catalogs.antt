@@ -35,7 +35,7 @@ then_alike a b c f g = record { catalog = f.catalog ∙ g.catalog; settings = f.
 
 -- what was retired doesn't matter to what comes then
 after_retiring : (e : Environment) (retired : List ℕ) (f : Fault) → Alike (retiring (retire e retired) f) (retiring e f)
-after_retiring e retired (fault.Retired node shard before after) = record { catalog = refl; settings = refl }
+after_retiring e retired (fault.Retired failure) = record { catalog = refl; settings = refl }
 after_retiring e retired f = record { catalog = refl; settings = refl }
 
 after_retired : (e : Environment) (retired : List ℕ) (bound : Option Statement) (a : Answer) → Alike (after (retire e retired) bound a) (after e bound a)
@@ -78,7 +78,7 @@ block_leaves e (Some (statement.Write op)) (answer.Table names rows) m = same e
 block_leaves e (Some (statement.Write op)) (answer.Failed f) m = same e
 block_leaves e (Some (statement.Move shard from to)) (answer.Tag t) m = same e
 block_leaves e (Some (statement.Move shard from to)) (answer.Table names rows) m = same e
-block_leaves e (Some (statement.Move shard from to)) (answer.Failed (fault.Retired node at before after)) m = record { catalog = refl; settings = refl }
+block_leaves e (Some (statement.Move shard from to)) (answer.Failed (fault.Retired failure)) m = record { catalog = refl; settings = refl }
 block_leaves e (Some (statement.Move shard from to)) (answer.Failed f) m = same e
 block_leaves e (Some s) a m = absurd m
 

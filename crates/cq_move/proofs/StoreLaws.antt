@@ -2,6 +2,7 @@
 use Rattle.std.proofs.Common.{◌≡◌, ◌∙◌, ◌⊎◌, inl, inr, ◌≤◌, ℕ, suc, IsTrue, List, [], ◌∷◌, ◌++◌, length, Result, Ok, Err, IfOk, IfErr, OnErr, refl, sym, ap, subst, arith}
 use Rattle.std.specs.List.{AllByRecursion, AllZip, flat_map, Contains}
 use Rattle.cq_value.specs.declared.change.Change.{Change}
+use Rattle.cq_tree.specs.declared.failure.StoreFailure.{StoreFailure}
 use Rattle.cq_tree.specs.declared.journal.Entry.{Entry}
 use Rattle.cq_store.specs.Stores.{StoreState}
 use Rattle.cq_group.specs.declared.group.GroupError.{GroupError}
@@ -32,8 +33,8 @@ adopted_goes_on s t u h k = tried s u
     (λ i. k.steady (subst IsTrue (sym (ap (λ (x : StoreState). x.steady) h.state)) i) ∙ h.steady i)
 
 -- and failed meanwhile
-adopted_broke : (node shard before after : ℕ) (s t u : StoreState) → Adopts s t → Failed node shard before after t u × GoesOn t u → Broke node shard before after s u
-adopted_broke node shard before after s t u h k = record {
+adopted_broke : (failure : StoreFailure) (s t u : StoreState) → Adopts s t → Failed failure t u × GoesOn t u → Broke failure s u
+adopted_broke failure s t u h k = record {
   of_node = ap (λ (x : StoreState). x.node) k.1.state ∙ k.0.of_node;
   of_shard = ap (λ (x : StoreState). x.shard) k.1.state ∙ k.0.of_shard;
   unsteady = ap (λ (x : StoreState). x.steady) k.1.state ∙ k.0.unsteady;
@@ -100,16 +101,16 @@ module _ {X : Type 0} (state : X → StoreState) where
       AllZip (Lifted state Adopts) xs (flat_map (λ (t : IncomingTable X). t.stores.items) ts) → AllZip (Lifted state GoesOn) (flat_map (λ (t : IncomingTable X). t.stores.items) ts) zs →
       Blames state e (flat_map (λ (t : IncomingTable X). t.stores.items) ts) zs → EndsMove state os to (why_told e) xs zs
   ends_by Memory to entries os ts xs zs h a g b = tt
-  ends_by (Worker node shard before after) to entries os ts xs zs h a g b =
+  ends_by (Worker failure) to entries os ts xs zs h a g b =
       let ys = flat_map (λ (t : IncomingTable X). t.stores.items) ts in
-      let F : X → X → Type 0 = Lifted state (Failed node shard before after) in
+      let F : X → X → Type 0 = Lifted state (Failed failure) in
       let G : X → X → Type 0 = Lifted state GoesOn in
-      let named = named_in node shard to entries os ts h (some_first F (λ (x : X). ((state x).node ≡ node) × ((state x).shard ≡ shard)) (λ x y f. (f.of_node, f.of_shard)) ys zs b) in
+      let named = named_in failure.node failure.shard to entries os ts h (some_first F (λ (x : X). ((state x).node ≡ failure.node) × ((state x).shard ≡ failure.shard)) (λ x y f. (f.of_node, f.of_shard)) ys zs b) in
       record {
         there = named.0;
         of_table = named.1;
-        broken = some_before (Lifted state Adopts) (λ x y. F x y × G x y) (Lifted state (Broke node shard before after))
-            (λ x y z. adopted_broke node shard before after (state x) (state y) (state z)) xs ys zs a (some_both G F ys zs g b);
+        broken = some_before (Lifted state Adopts) (λ x y. F x y × G x y) (Lifted state (Broke failure))
+            (λ x y z. adopted_broke failure (state x) (state y) (state z)) xs ys zs a (some_both G F ys zs g b);
       }
 
   pub ends_told : (why : MoveWhy) (to : ℕ) (entries : List Entry) (os : List Outline) (ts : List (IncomingTable X)) (xs zs : List X) → AllZip (IsIncomingTable state to entries) os ts →

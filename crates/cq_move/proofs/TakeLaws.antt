@@ -3,6 +3,7 @@ use Rattle.std.proofs.Common.{◌≡◌, ◌∙◌, ◌<◌, ◌≤◌, ℕ, zer
 use Rattle.std.specs.List.{HoldsAt, find, remove}
 use Rattle.std.proofs.lemmas.Bool.{le-leb}
 use Rattle.cq_value.proofs.Truths.{both_true}
+use Rattle.cq_tree.specs.declared.failure.StoreFailure.{StoreFailure}
 use Rattle.cq_store.specs.Stores.{StoreState}
 use Rattle.cq_group.specs.Calls.{Lifted, SomeZip}
 use Rattle.cq_move.specs.Outcomes.{Broke}
@@ -57,11 +58,11 @@ some_found test y ys false (inl h) = absurd (cc h)
 some_found test y ys false (inr h) = h
 
 -- where a store broke, one is found
-pub broken_found : {X : Type 0} (state : X → StoreState) (node shard before after : ℕ) (xs ys : List X) → SomeZip (Lifted state (Broke node shard before after)) xs ys → IsSome (find (λ x. is_broken shard after (state x)) ys)
-broken_found state node shard before after [] ys h = absurd h
-broken_found state node shard before after (x ∷ xs) [] h = absurd h
-broken_found state node shard before after (x ∷ xs) (y ∷ ys) (inl h) =
-    some_found (λ z. is_broken shard after (state z)) y ys (is_broken shard after (state y))
-    (inl (both_true (nat_eq (state y).shard shard) (nat_le after (state y).faults) (eq-eqb (state y).shard shard h.of_shard) (le-leb after (state y).faults h.to)))
-broken_found state node shard before after (x ∷ xs) (y ∷ ys) (inr h) =
-    some_found (λ z. is_broken shard after (state z)) y ys (is_broken shard after (state y)) (inr (broken_found state node shard before after xs ys h))
+pub broken_found : {X : Type 0} (state : X → StoreState) (failure : StoreFailure) (xs ys : List X) → SomeZip (Lifted state (Broke failure)) xs ys → IsSome (find (λ x. is_broken failure.shard failure.after (state x)) ys)
+broken_found state failure [] ys h = absurd h
+broken_found state failure (x ∷ xs) [] h = absurd h
+broken_found state failure (x ∷ xs) (y ∷ ys) (inl h) =
+    some_found (λ z. is_broken failure.shard failure.after (state z)) y ys (is_broken failure.shard failure.after (state y))
+    (inl (both_true (nat_eq (state y).shard failure.shard) (nat_le failure.after (state y).faults) (eq-eqb (state y).shard failure.shard h.of_shard) (le-leb failure.after (state y).faults h.to)))
+broken_found state failure (x ∷ xs) (y ∷ ys) (inr h) =
+    some_found (λ z. is_broken failure.shard failure.after (state z)) y ys (is_broken failure.shard failure.after (state y)) (inr (broken_found state failure xs ys h))

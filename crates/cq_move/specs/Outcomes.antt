@@ -1,6 +1,7 @@
 -- What a move of a shard group comes to.
 use Rattle.std.specs.Prelude.{◌≡◌, ◌≤◌, ◌⊎◌, ℕ, ⊤, false, List, [], ◌∷◌, ◌++◌, map, Contains}
 use Rattle.std.specs.List.{AllZip}
+use Rattle.cq_tree.specs.declared.failure.StoreFailure.{StoreFailure}
 use Rattle.cq_tree.specs.declared.journal.Who.{Who}
 use Rattle.cq_tree.specs.declared.journal.Entry.{Entry}
 use Rattle.cq_tree.specs.declared.journal.EntryKind.{EntryKind}
@@ -30,27 +31,27 @@ KeepShards {X} state os stores = AllZip (λ (o : Outline) (x : X). (state x).sha
 abbrev pub IsTried : StoreState → StoreState → Type 0
 IsTried old new = Becomes old (record old { shard = new.shard; rows = new.rows; staged = new.staged }) new
 
--- a store that isn't steady, which keeps this shard on this node now, and whose count of faults rose meanwhile from one number to another
-pub record Broke (node shard before after : ℕ) (old new : StoreState) : Type 0 where
-  pub of_node : new.node ≡ node
-  pub of_shard : new.shard ≡ shard
+-- a store that isn't steady, which keeps the shard now, failed so meanwhile
+pub record Broke (failure : StoreFailure) (old new : StoreState) : Type 0 where
+  pub of_node : new.node ≡ failure.node
+  pub of_shard : new.shard ≡ failure.shard
   pub unsteady : new.steady ≡ false
-  pub from : old.faults ≤ before
-  pub rose : Rose before after
-  pub to : after ≤ new.faults
+  pub from : old.faults ≤ failure.before
+  pub rose : Rose failure.before failure.after
+  pub to : failure.after ≤ new.faults
 
 -- one of the stores that were given for a group's tables, on the node to which the group goes, broke
-pub record HasBroken {X : Type 0} (state : X → StoreState) (os : List Outline) (to node shard before after : ℕ) (old new : List X) : Type 0 where
-  pub there : node ≡ to
-  pub of_table : Contains (shards_in os) shard
-  pub broken : SomeZip (Lifted state (Broke node shard before after)) old new
+pub record HasBroken {X : Type 0} (state : X → StoreState) (os : List Outline) (to : ℕ) (failure : StoreFailure) (old new : List X) : Type 0 where
+  pub there : failure.node ≡ to
+  pub of_table : Contains (shards_in os) failure.shard
+  pub broken : SomeZip (Lifted state (Broke failure)) old new
 
 -- why a move that began didn't come to its end: a store that was given for it broke, or memory was wanting
 abbrev pub EndsMove : {X : Type 0} → (X → StoreState) → List Outline → ℕ → MoveWhy → List X → List X → Type 0
 EndsMove state os to (why.Moving by) old new = ⊥
 EndsMove state os to (why.NotThere node) old new = ⊥
 EndsMove state os to (why.SameNode node) old new = ⊥
-EndsMove state os to (why.Worker node shard before after) old new = HasBroken state os to node shard before after old new
+EndsMove state os to (why.Worker failure) old new = HasBroken state os to failure old new
 EndsMove state os to why.Memory old new = ⊤
 
 -- the entries of a move that was stopped, before its first round of catch-up or after that round had begun

@@ -4,7 +4,7 @@ ghost use Rattle.cq_script.specs.Texts.{what_text, unsupported_text, fault_text}
 
 use crate::words::{push_name, push_signed, push_with, push_words};
 use cq_answer::{Fault, Unsupported, What};
-use cq_tree::Who;
+use cq_tree::{StoreFailure, Who};
 use std::alloc::AllocError;
 
 #[tactic(auto, unfolding(crate::specs::Texts::what_text))]
@@ -47,19 +47,13 @@ fn push_room(out: &mut Vec<u8>, node: u32, free: u64, needed: u64) -> Result<(),
     push_words(out, b" needed")
 }
 
-fn push_worker(
-    out: &mut Vec<u8>,
-    node: u32,
-    shard: u64,
-    before: u64,
-    after: u64,
-) -> Result<(), AllocError>
-    ensures { OnOk result (out.new.items ≡ out.old.items ++ fault_text (faults.Worker node shard before after)) }
+fn push_failure(out: &mut Vec<u8>, failure: StoreFailure) -> Result<(), AllocError>
+    ensures { OnOk result (out.new.items ≡ out.old.items ++ fault_text (faults.Worker failure)) }
 {
-    push_with(out, b"20 worker ", u64::from(node))?;
-    push_with(out, b" shard ", shard)?;
-    push_with(out, b" faults ", before)?;
-    push_with(out, b" to ", after)
+    push_with(out, b"20 worker ", u64::from(failure.node))?;
+    push_with(out, b" shard ", failure.shard)?;
+    push_with(out, b" faults ", failure.before)?;
+    push_with(out, b" to ", failure.after)
 }
 
 fn push_mover(out: &mut Vec<u8>, by: Who) -> Result<(), AllocError>
@@ -142,18 +136,7 @@ pub(crate) fn push_fault(out: &mut Vec<u8>, fault: &Fault) -> Result<(), AllocEr
         Fault::Subquery { at } => push_with(out, b"19 subquery at ", *at),
         Fault::LocalTable { at } => push_with(out, b"19 local table at ", *at),
         Fault::GroupedJoin { at } => push_with(out, b"19 grouped join at ", *at),
-        Fault::Worker {
-            node,
-            shard,
-            before,
-            after,
-        } => push_worker(out, *node, *shard, *before, *after),
-        Fault::Retired {
-            node,
-            shard,
-            before,
-            after,
-        } => push_worker(out, *node, *shard, *before, *after),
+        Fault::Worker(failure) | Fault::Retired(failure) => push_failure(out, *failure),
         Fault::Moving { by } => push_mover(out, *by),
         Fault::SameNode { node } => push_with(out, b"22 same node ", u64::from(*node)),
         Fault::NotThere { node } => push_with(out, b"23 not there, on node ", u64::from(*node)),

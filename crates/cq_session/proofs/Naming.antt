@@ -117,8 +117,8 @@ unread_is_of_reading fault.Memory text bytes tables reads = refl
 unread_is_of_reading f text bytes tables reads = data_named bytes tables f (reading_of text tables) (text_named text tables f) reads
 
 reading_names_none : (f : Fault) → IsOfReading f → NamesNoStore f
-reading_names_none (fault.Worker node shard before after) is = absurd (cc is)
-reading_names_none (fault.Retired node shard before after) is = absurd (cc is)
+reading_names_none (fault.Worker failure) is = absurd (cc is)
+reading_names_none (fault.Retired failure) is = absurd (cc is)
 reading_names_none f is = refl
 
 -- so it names no store

@@ -1,8 +1,9 @@
-//! What the layers hand to each other: the trees of bound statements (expressions, conditions, queries, writes), tasks, and
-//! entries of journals.
+//! What the layers hand to each other: the trees of bound statements (expressions, conditions, queries, writes), tasks,
+//! entries of journals, and failures of stores.
 #![tactic(auto)]
 
 mod expression;
+mod failure;
 mod journal;
 mod limit;
 mod plan;
@@ -13,6 +14,7 @@ mod wave;
 mod write;
 
 pub use expression::{Arm, Arms, Cond, Expr, Exprs, Op};
+pub use failure::StoreFailure;
 pub use journal::{Entries, Entry, EntryKind, Who};
 pub use limit::What;
 pub use plan::{Combine, Planner, Step, Steps, Task, Tasks};
