@@ -19,9 +19,9 @@ module _ {N : Type 0} where
   numbers_more [] p = refl
   numbers_more (q ∷ ps) p = ap (λ ns. q.0 ∷ ns) (numbers_more ps p)
 
-  each_less : (who : N → ℕ) (l : List N) (ps : List (ℕ × List N × List N)) (p : ℕ × List N × List N) → EachOwn who l (ps ++ p ∷ []) → EachOwn who l ps × (p.1 ≡ own who p.0 l) × StartsWith l p.2
-  each_less who l [] p h = (tt, h.0, h.1)
-  each_less who l (q ∷ ps) p h = let t = each_less who l ps p h.2 in ((h.0, h.1, t.0), t.1, t.2)
+  each_less : (who : N → ℕ) (l : List N) (ps : List (ℕ × List N × List N)) (p : ℕ × List N × List N) → EachOwn who l (ps ++ p ∷ []) → EachOwn who l ps × (p.1 ≡ own who p.0 l) × StartsWith l p.2 × (p.1 ≡ own who p.0 p.2)
+  each_less who l [] p h = (tt, h.0, h.1, h.2)
+  each_less who l (q ∷ ps) p h = let t = each_less who l ps p h.3 in ((h.0, h.1, h.2, t.0), t.1, t.2, t.3)
 
 module _ {X N : Type 0} where
   module _ (sessions : List ℕ) (n : ℕ) (left : List ℕ) where
@@ -136,7 +136,7 @@ module _ {X N : Type 0} where
     have_ended (l ∷ ls) (r ∷ rs) (r' ∷ rs') (p ∷ ps) k h = let q = p.place.me.0 in
         let t = each_less who l r.place.me.0.ended (q.number, q.mine, q.news) (subst (EachOwn who l) (ap (λ v. v.0.ended) k.0.me) h.0) in
         let rest = have_ended ls rs rs' ps k.1 h.1 in
-        ((record { mine = t.1; seen = t.2 }, rest.0), (t.0, rest.1))
+        ((record { mine = t.1; seen = t.2; all = t.3 }, rest.0), (t.0, rest.1))
 
     -- closed cells have the histories of their roots
     pub have_closed : (stands : X → X → List N → Type 0) (cs : List (TableId × Key X)) (roots : List (Pass X N)) (values : List X) → AllThree (IsClosed who stands) cs roots values
