@@ -24,7 +24,7 @@ with_retired e retired = record e { retired = retired }
 
 -- an answer that tells of no retired store leaves it
 fault_leaves : (e : Environment) (f : Fault) → tells_retired (answer.Failed f) ≡ false → retiring e f ≡ e
-fault_leaves e (fault.Retired node shard before after) none = absurd (cc none)
+fault_leaves e (fault.Retired failure) none = absurd (cc none)
 fault_leaves e f none = refl
 
 leaves : (e : Environment) (bound : Option Statement) (a : Answer) → MayBeInBlock bound → tells_retired a ≡ false → after e bound a ≡ e
@@ -43,7 +43,7 @@ leaves e (Some (statement.Move shard from to)) (answer.Table names rows) m none 
 leaves e (Some s) a m none = absurd m
 
 -- a move's answer that tells of one has its node put behind
-adds : (e : Environment) (bound : Option Statement) (a : Answer) (node shard before rose : ℕ) → IsMove bound → a ≡ answer.Failed (fault.Retired node shard before rose) → after e bound a ≡ with_retired e (e.retired ++ node ∷ [])
+adds : (e : Environment) (bound : Option Statement) (a : Answer) (node shard before rose : ℕ) → IsMove bound → a ≡ answer.Failed (fault.Retired (record { node = node; shard = shard; before = before; after = rose })) → after e bound a ≡ with_retired e (e.retired ++ node ∷ [])
 adds e None a node shard before rose m is = absurd m
 adds e (Some (statement.Move shard from to)) a node id before rose m is = ap (after e (Some (statement.Move shard from to))) is
 adds e (Some s) a node shard before rose m is = absurd m
