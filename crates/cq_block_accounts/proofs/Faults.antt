@@ -1,5 +1,5 @@
 -- Counts of faults of groups, as a block comes.
-use Rattle.std.proofs.Common.{◌≡◌, ◌<◌, ◌≤◌, inl, inr, ℕ, true, false, Bool, List, [], ◌∷◌, ◌++◌, length, filter, refl, sym, ◌∙◌, ap, subst, arith, Some, None, slice_get}
+use Rattle.std.proofs.Common.{◌≡◌, ◌⊎◌, ◌<◌, ◌≤◌, inl, inr, ℕ, true, false, Bool, List, [], ◌∷◌, ◌++◌, length, filter, refl, sym, ◌∙◌, ap, subst, arith, Some, None, slice_get}
 use Rattle.std.specs.Prelude.{nat_lt}
 use Rattle.std.specs.List.{AllByRecursion, AllZip}
 use Rattle.cq_value.proofs.Lists.{all_weaker, all_append, all_filtered, got}
@@ -16,6 +16,24 @@ use Rattle.cq_cluster.specs.Accounts.{moved_by, later_than, AreAccounted}
 use Rattle.cq_block_laws.specs.Accounts.{AccountsByPhases, later_phases, AreOfPhases, TellsOf}
 use Rattle.cq_block_laws.proofs.Accounts.{serial_accounts, staying_accounts, moved_accounts}
 use Rattle.cq_block_accounts.specs.Accounts.{AreAccountedByPhases, AreToldOf, IsToldOf, BlockIsAccounted, SerialIsAccounted}
+
+-- ---- answers of phases of their own
+
+same_filter : (p q : Answered → Bool) (xs : List Answered) → AllByRecursion (λ (a : Answered). p a ≡ q a) xs → filter p xs ≡ filter q xs
+same_filter p q [] same = refl
+same_filter p q (x ∷ xs) same = elim (two_ways (q x)) [
+  | inl y ↦ rw (same.0 ∙ y, y) (ap (λ v. x ∷ v) (same_filter p q xs same.1))
+  | inr n ↦ rw (same.0 ∙ n, n) (same_filter p q xs same.1)
+]
+
+phases_filtered : (p : Answered → Bool) (xs : List Answered) → AreOfPhases xs → AreOfPhases (filter p xs)
+phases_filtered p [] are = tt
+phases_filtered p (x ∷ xs) are = elim (two_ways (p x)) [
+  | inl y ↦ rw y (all_filtered (λ (b : Answered). x.phase < b.phase) p xs are.0, phases_filtered p xs are.1)
+  | inr n ↦ rw n (phases_filtered p xs are.1)
+]
+
+-- ---- groups
 
 module _ {X : Type 0} where
   abbrev Account : (X → StoreState) → List Answered → List X → Type 0
@@ -52,22 +70,6 @@ module _ {X : Type 0} where
           (along (λ (x : X). AccountsByPhases (later_phases (moved_by (entries_of g)) answers) (state x)) (λ (x : X). AccountsByPhases (later_phases (moved_by (entries_of g)) (answers ++ block)) (state x))
           (λ (x y : X). TellsOf block (state x) (state y)) (λ x y tells account. staying_accounts phase (moved_by (entries_of g)) answers block (state x) (state y) low early now t.earlier tells account)
           (stores_of g) (stores_of k) t.tells (h.stores i g was))
-
-  -- ---- answers of phases of their own
-
-  same_filter : (p q : Answered → Bool) (xs : List Answered) → AllByRecursion (λ (a : Answered). p a ≡ q a) xs → filter p xs ≡ filter q xs
-  same_filter p q [] same = refl
-  same_filter p q (x ∷ xs) same = elim (two_ways (q x)) [
-    | inl y ↦ rw (same.0 ∙ y, y) (ap (λ v. x ∷ v) (same_filter p q xs same.1))
-    | inr n ↦ rw (same.0 ∙ n, n) (same_filter p q xs same.1)
-  ]
-
-  phases_filtered : (p : Answered → Bool) (xs : List Answered) → AreOfPhases xs → AreOfPhases (filter p xs)
-  phases_filtered p [] are = tt
-  phases_filtered p (x ∷ xs) are = elim (two_ways (p x)) [
-    | inl y ↦ rw y (all_filtered (λ (b : Answered). x.phase < b.phase) p xs are.0, phases_filtered p xs are.1)
-    | inr n ↦ rw n (phases_filtered p xs are.1)
-  ]
 
   pub serial_is_accounted : (state : X → StoreState) → SerialIsAccounted state
   serial_is_accounted state c answers groups apart numbers last h = record {

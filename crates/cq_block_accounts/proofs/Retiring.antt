@@ -17,6 +17,39 @@ use Rattle.cq_cluster.specs.declared.retired.Retired.{Retired}
 use Rattle.cq_cluster.specs.Accounts.{AreRetired, StandsFor, tells_retired, is_retiring}
 use Rattle.cq_block_accounts.specs.Accounts.{RetiresAll, RetiredOn, SessionsRetire, IsMove, MayRetire, BlockRetires}
 
+-- ---- one answer
+
+abbrev with_retired : Environment → List ℕ → Environment
+with_retired e retired = record e { retired = retired }
+
+-- an answer that tells of no retired store leaves it
+fault_leaves : (e : Environment) (f : Fault) → tells_retired (answer.Failed f) ≡ false → retiring e f ≡ e
+fault_leaves e (fault.Retired failure) none = absurd (cc none)
+fault_leaves e f none = refl
+
+leaves : (e : Environment) (bound : Option Statement) (a : Answer) → MayBeInBlock bound → tells_retired a ≡ false → after e bound a ≡ e
+leaves e None (answer.Failed f) m none = refl
+leaves e None (answer.Tag t) m none = refl
+leaves e None (answer.Table names rows) m none = refl
+leaves e (Some (statement.Select q)) (answer.Failed f) m none = refl
+leaves e (Some (statement.Select q)) (answer.Tag t) m none = refl
+leaves e (Some (statement.Select q)) (answer.Table names rows) m none = refl
+leaves e (Some (statement.Write op)) (answer.Failed f) m none = refl
+leaves e (Some (statement.Write op)) (answer.Tag t) m none = refl
+leaves e (Some (statement.Write op)) (answer.Table names rows) m none = refl
+leaves e (Some (statement.Move shard from to)) (answer.Failed f) m none = fault_leaves e f none
+leaves e (Some (statement.Move shard from to)) (answer.Tag t) m none = refl
+leaves e (Some (statement.Move shard from to)) (answer.Table names rows) m none = refl
+leaves e (Some s) a m none = absurd m
+
+-- a move's answer that tells of one has its node put behind
+adds : (e : Environment) (bound : Option Statement) (a : Answer) (node shard before rose : ℕ) → IsMove bound → a ≡ answer.Failed (fault.Retired (record { node = node; shard = shard; before = before; after = rose })) → after e bound a ≡ with_retired e (e.retired ++ node ∷ [])
+adds e None a node shard before rose m is = absurd m
+adds e (Some (statement.Move shard from to)) a node id before rose m is = ap (after e (Some (statement.Move shard from to))) is
+adds e (Some s) a node shard before rose m is = absurd m
+
+-- ---- all answers
+
 module _ {X : Type 0} where
   zip_append : (xs us : List Answered) (ys vs : List (Retired X)) → AllZip StandsFor xs ys → AllZip StandsFor us vs → AllZip StandsFor (xs ++ us) (ys ++ vs)
   zip_append [] us [] vs z w = w
@@ -38,37 +71,8 @@ module _ {X : Type 0} where
 
   -- ---- the environment
 
-  abbrev with_retired : Environment → List ℕ → Environment
-  with_retired e retired = record e { retired = retired }
-
   abbrev nodes_of : List (Retired X) → List ℕ
   nodes_of retired = map (λ (r : Retired X). r.node) retired
-
-  -- an answer that tells of no retired store leaves it
-  fault_leaves : (e : Environment) (f : Fault) → tells_retired (answer.Failed f) ≡ false → retiring e f ≡ e
-  fault_leaves e (fault.Retired node shard before after) none = absurd (cc none)
-  fault_leaves e f none = refl
-
-  leaves : (e : Environment) (bound : Option Statement) (a : Answer) → MayBeInBlock bound → tells_retired a ≡ false → after e bound a ≡ e
-  leaves e None (answer.Failed f) m none = refl
-  leaves e None (answer.Tag t) m none = refl
-  leaves e None (answer.Table names rows) m none = refl
-  leaves e (Some (statement.Select q)) (answer.Failed f) m none = refl
-  leaves e (Some (statement.Select q)) (answer.Tag t) m none = refl
-  leaves e (Some (statement.Select q)) (answer.Table names rows) m none = refl
-  leaves e (Some (statement.Write op)) (answer.Failed f) m none = refl
-  leaves e (Some (statement.Write op)) (answer.Tag t) m none = refl
-  leaves e (Some (statement.Write op)) (answer.Table names rows) m none = refl
-  leaves e (Some (statement.Move shard from to)) (answer.Failed f) m none = fault_leaves e f none
-  leaves e (Some (statement.Move shard from to)) (answer.Tag t) m none = refl
-  leaves e (Some (statement.Move shard from to)) (answer.Table names rows) m none = refl
-  leaves e (Some s) a m none = absurd m
-
-  -- a move's answer that tells of one has its node put behind
-  adds : (e : Environment) (bound : Option Statement) (a : Answer) (node shard before rose : ℕ) → IsMove bound → a ≡ answer.Failed (fault.Retired node shard before rose) → after e bound a ≡ with_retired e (e.retired ++ node ∷ [])
-  adds e None a node shard before rose m is = absurd m
-  adds e (Some (statement.Move shard from to)) a node id before rose m is = ap (after e (Some (statement.Move shard from to))) is
-  adds e (Some s) a node shard before rose m is = absurd m
 
   behind : (e : Environment) (block : List Answered) (more : List (Retired X)) → AllByRecursion MayRetire block → AreRetired block more → environment_from e block ≡ with_retired e (e.retired ++ nodes_of more)
   behind e [] [] may are = ap (with_retired e) (sym (append-nil e.retired))

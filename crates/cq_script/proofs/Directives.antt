@@ -1,10 +1,10 @@
 -- Directives, and scripts with blocks, worked out.
-use Rattle.std.proofs.Common.{◌≡◌, [], ◌∷◌, List, ℕ, codes, refl, Some, None, Option}
+use Rattle.std.proofs.Common.{◌≡◌, [], ◌∷◌, List, ℕ, codes, refl, Some, None}
 use Rattle.cq_script.specs.declared.cutter.Item.{Item}
 use Rattle.cq_script.specs.declared.directive.Directive.TheVariants.{Parallel, Session, HighSession, End}
 use Rattle.cq_script.specs.Pieces.{Piece}
 use Rattle.cq_script.specs.Pieces as pieces
-use Rattle.cq_script.specs.Directives.{directive_of, Placed, Draft, Reading, Halt, Misplaced, TooManySessions, nothing_read, read, halt_at_end}
+use Rattle.cq_script.specs.Directives.{directive_of, Placed, Misplaced, TooManySessions, nothing_read, read, halt_at_end}
 
 opens : directive_of (codes "\\parallel") ≡ Some Parallel
 unfolding directive_of
