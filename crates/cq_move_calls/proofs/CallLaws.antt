@@ -30,7 +30,7 @@ use Rattle.cq_reach.proofs.Growth.{got_at, got_below, one_item, set_beside, set_
 use Rattle.cq_reach.proofs.Failing.{fails_in}
 use Rattle.cq_move_calls.specs.Held.{AreKept, GoesOnAt, GroupsAreSteady, HasFailedBy, RestsAt, seen_in}
 use Rattle.cq_move_calls.specs.Moving.{AreSteadyOn, ComesIn, CouldStart, IsMover, RefusesStart, TellsChanges, TellsExchanged, TellsStart, Told, kinds_on}
-use Rattle.cq_move_calls.proofs.Keeping.{exchanged_steady}
+use Rattle.cq_move_calls.specs.Keeping.{exchanged_steady}
 
 -- nobody else entered anything
 told_alone : {X : Type 0} (comes : Entry → Type 0) (who : Who) (kinds : List EntryKind) (fact : Seen → Type 0) (g h : GroupState X) → fact (seen_of g) → outlines h ≡ outlines g → h.nodes ≡ g.nodes → h.journal.group ≡ g.journal.group → h.journal.opening ≡ g.journal.opening →
