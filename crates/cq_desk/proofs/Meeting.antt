@@ -1,5 +1,5 @@
 -- A session's passes, as one of them has had a turn.
-use Rattle.std.proofs.Common.{◌≡◌, ◌≢◌, ◌⊎◌, inl, inr, ⊥, ℕ, zero, suc, ◌<◌, true, false, List, [], ◌∷◌, ◌++◌, length, map, refl, sym, ap, ◌∙◌, subst, arith, append_assoc, Option, Some, slice_get, get_or, Result, Ok, Err, IfErr}
+use Rattle.std.proofs.Common.{◌≡◌, ◌≢◌, ◌⊎◌, inl, inr, ℕ, zero, suc, ◌<◌, true, false, List, [], ◌∷◌, ◌++◌, length, map, refl, sym, ap, ◌∙◌, subst, arith, append_assoc, Option, Some, slice_get, get_or, Result, Ok, Err, IfErr}
 use Rattle.std.proofs.Math.ListN.{set}
 use Rattle.std.proofs.lemmas.List.{length-set}
 use Rattle.std.proofs.lemmas.Bool.Decides.{eqb_tells}
@@ -25,6 +25,7 @@ use Rattle.cq_shared.specs.Seen.{Place, Pass, group_of, seen_since, seen_by}
 use Rattle.cq_shared.specs.Reads.{read_notes}
 use Rattle.cq_shared.specs.Writes.{AreAt}
 use Rattle.cq_shared.proofs.Standing.{entries_more, seen_same}
+use Rattle.cq_shared.proofs.Frames.{at_place}
 use Rattle.cq_shared.proofs.Turning.{cell_at}
 use Rattle.cq_reach.specs.Seen.{Seen, seen_of, with_kinds}
 use Rattle.cq_reach.specs.Outlook.{Outlook, Meets, Tells}
@@ -74,6 +75,10 @@ map_beside f (x ∷ xs) (suc k) zero y n = refl
 map_beside f (x ∷ xs) (suc k) (suc i) y n = map_beside f xs k i y (λ e. n (ap suc e))
 
 module _ {X C : Type 0} where
+  -- the pass at a place is at the cell that is read there
+  pub at_cell : {A : Type 0} (f : A → TableId) (cells : List A) (passes : List (Pass X C)) (k : ℕ) (c : A) (q : Pass X C) → AreAt (map f cells) passes → slice_get passes k ≡ Some q → c ≡ get_or cells k c → IsAt (f (get_or cells k c)) q.place
+  at_cell {A} f cells passes k c q at there is = subst (λ (a : A). IsAt (f a) q.place) is (at_place f cells passes k c q at there is)
+
   -- a pass with another place
   abbrev pub turned : Pass X C → Place X C → Pass X C
   turned p q = record { place = q; number = p.number }

@@ -1,8 +1,7 @@
 use Rattle.cq_shared.specs.Reads.{read_notes}
-use Rattle.cq_shared.proofs.Frames.{at_place}
 use Rattle.cq_reach.specs.Seen.{seen_of}
 use Rattle.cq_reach.specs.Reads.{read_kinds, TellsTables}
-use Rattle.cq_desk.proofs.Meeting.{turned, taken, read_entries, meets, tells, noted, goes_on, again}
+use Rattle.cq_desk.proofs.Meeting.{at_cell, turned, taken, read_entries, meets, tells, noted, goes_on, again}
 use Rattle.cq_desk.proofs.desk.Desk.read.Goals as goal
 
 pub read_at-requires-clause-at : goal.read_at-requires-clause-at
@@ -10,7 +9,7 @@ read_at-requires-clause-at g c =
     let passes = c.args.self.now.passes.items in
     let p = c.index_mut.result.now in
     let there = taken passes c.args.group p c.requires.within c.index_mut.ensures.value in
-    at_place _ c.args.self.now.cells.now passes c.args.group c.index-self-place.result p c.requires.ready.at there c.index-self-place.is
+    at_cell _ c.args.self.now.cells.now passes c.args.group c.index-self-place.result p c.requires.ready.at there c.index-self-place.is
 
 pub read_at-requires-clause-rests : goal.read_at-requires-clause-rests
 read_at-requires-clause-rests g c =
