@@ -1,5 +1,5 @@
 -- A session's passes, as one of them has had a turn.
-use Rattle.std.proofs.Common.{◌≡◌, ◌≢◌, ◌⊎◌, inl, inr, ℕ, zero, suc, ◌<◌, true, false, List, [], ◌∷◌, ◌++◌, length, map, refl, sym, ap, ◌∙◌, subst, arith, append_assoc, Option, Some, slice_get, get_or, Result, Ok, Err, IfErr}
+use Rattle.std.proofs.Common.{◌≡◌, ◌≢◌, ◌⊎◌, inl, inr, ℕ, zero, suc, ◌<◌, List, [], ◌∷◌, ◌++◌, length, map, refl, sym, ap, ◌∙◌, subst, append_assoc, Option, Some, slice_get, get_or, Result, Ok, Err, IfErr}
 use Rattle.std.proofs.Math.ListN.{set}
 use Rattle.std.proofs.lemmas.List.{length-set}
 use Rattle.std.proofs.lemmas.Bool.Decides.{eqb_tells}
@@ -16,23 +16,22 @@ use Rattle.cq_group.specs.declared.group.GroupError.TheVariants.{Worker, Memory}
 use Rattle.cq_group.specs.Groups.{entries_of, outlines}
 use Rattle.cq_cell.specs.Lists.{NotIn, keep, own}
 use Rattle.cq_cell.specs.Turn.{IsAt, Rests, IsSame}
-use Rattle.cq_cell.proofs.Lists.{own_more}
 use Rattle.cq_shared.specs.declared.content.Shard.{Shard}
 use Rattle.cq_shared.specs.declared.note.Note.{Note}
 use Rattle.cq_shared.specs.declared.note.Note.TheVariants as note
-use Rattle.cq_shared.specs.Notes.{who_of, entry_in, entries_in}
+use Rattle.cq_shared.specs.Notes.{who_of, entries_in}
 use Rattle.cq_shared.specs.Seen.{Place, Pass, group_of, seen_since, seen_by}
 use Rattle.cq_shared.specs.Reads.{read_notes}
 use Rattle.cq_shared.specs.Writes.{AreAt}
 use Rattle.cq_shared.proofs.Standing.{entries_more, seen_same}
 use Rattle.cq_shared.proofs.Frames.{at_place}
 use Rattle.cq_shared.proofs.Turning.{cell_at}
-use Rattle.cq_reach.specs.Seen.{Seen, seen_of, with_kinds}
-use Rattle.cq_reach.specs.Outlook.{Outlook, Meets, Tells}
-use Rattle.cq_reach.specs.Reads.{CanRead, read_kinds, IfFailed}
+use Rattle.cq_reach.specs.Seen.{Seen, seen_of}
+use Rattle.cq_reach.specs.Outlook.{Meets, Tells}
+use Rattle.cq_reach.specs.Reads.{read_kinds, IfFailed}
 use Rattle.cq_reach.proofs.Growth.{got_at, got_below, one_item, set_there, set_beside}
 use Rattle.cq_desk.specs.Visits.{Finds, Looks}
-use Rattle.cq_desk.specs.Desks.{reached, IsOfOthers, known_by, MayBe, MayEnter, outlook_by, IsOwn, IsReady, GoOn, HasNoted}
+use Rattle.cq_desk.specs.Desks.{reached, IsOfOthers, known_by, outlook_by, IsOwn, IsReady, GoOn, HasNoted}
 
 -- ---- entries of others
 
@@ -42,15 +41,14 @@ full x xs e = cc
 -- the first of notes of which none are of a number isn't either
 not_first : (n : ℕ) (x : Note) (xs : List Note) → own who_of n (x ∷ xs) ≡ [] → (who_of x ≢ n) × (own who_of n xs ≡ [])
 not_first n x xs e = elim (eqb_tells (who_of x) n) [
-  inl y ↦ absurd (full x (own who_of n xs) (subst (λ b. keep b x (own who_of n xs) ≡ []) y.0 e)) |
-  inr z ↦ (z.1, subst (λ b. keep b x (own who_of n xs) ≡ []) z.0 e)
+  | inl y ↦ absurd (full x (own who_of n xs) (subst (λ b. keep b x (own who_of n xs) ≡ []) y.0 e))
+  | inr z ↦ (z.1, subst (λ b. keep b x (own who_of n xs) ≡ []) z.0 e)
 ]
 
 come : (sessions : List ℕ) (who : Who) (more : List Note) → own who_of who.session more ≡ [] → ((n : ℕ) → NotIn n sessions → own who_of n more ≡ []) → AllByRecursion (IsOfOthers sessions who) (entries_in more)
 come sessions who [] mine out = tt
 come sessions who (note.Entered e ∷ more) mine out =
-    let first = not_first who.session (note.Entered e) more mine in
-    (
+    let first = not_first who.session (note.Entered e) more mine in (
       (first.0, λ none. (not_first e.who.session (note.Entered e) more (out e.who.session none)).0 refl),
       come sessions who more first.1 (λ n none. (not_first n (note.Entered e) more (out n none)).1),
     )
@@ -105,7 +103,7 @@ module _ {X C : Type 0} (state : X → StoreState) (allows : C → ℕ → Entry
   known_after p q notes fact l =
       let f = l.finds in
       (λ i. reached (seen_since (group_of (l.same.2 i)) (l.news i)))
-          ∙ (known_more p.me.0.origin f.opening (p.me.0.news ++ f.more) notes f.origin ∙ ap (with_more (entries_in notes)) (sym (found_since p l.shard f)))
+      ∙ (known_more p.me.0.origin f.opening (p.me.0.news ++ f.more) notes f.origin ∙ ap (with_more (entries_in notes)) (sym (found_since p l.shard f)))
 
   module _ (cells : List TableId) (sessions : List ℕ) (passes : List (Pass X C)) (who : Who) (g : ℕ) (p : Pass X C) (ready : IsReady cells sessions passes who.session) (there : slice_get passes g ≡ Some p) where
     -- what the turn of a pass finds, the session may meet
@@ -130,8 +128,8 @@ module _ {X C : Type 0} (state : X → StoreState) (allows : C → ℕ → Entry
       -- a pass is the one that had the turn, or as it was
       which : (i : ℕ) (r : Pass X C) → slice_get (set passes g q) i ≡ Some r → ((i ≡ g) × (q ≡ r)) ⊎ ((i ≢ g) × (slice_get passes i ≡ Some r))
       which i r e = elim (eqb_tells i g) [
-        inl y ↦ inl (y.1, one_item q r (sym here ∙ subst (λ j. slice_get (set passes g q) j ≡ Some r) y.1 e)) |
-        inr z ↦ inr (z.1, sym (set_beside passes g i q z.1) ∙ e)
+        | inl y ↦ inl (y.1, one_item q r (sym here ∙ subst (λ j. slice_get (set passes g q) j ≡ Some r) y.1 e))
+        | inr z ↦ inr (z.1, sym (set_beside passes g i q z.1) ∙ e)
       ]
 
       -- what its turn told
@@ -160,8 +158,8 @@ module _ {X C : Type 0} (state : X → StoreState) (allows : C → ℕ → Entry
       goes_on same = record {
         count = length-set passes g q;
         each = λ i a b e f. elim (which i b f) [
-          inl y ↦ subst (λ (r : Pass X C). IsSame r.place b.place) (one_item p a (sym there ∙ subst (λ j. slice_get passes j ≡ Some a) y.0 e)) (subst (λ (r : Pass X C). IsSame p.place r.place) y.1 same) |
-          inr z ↦ subst (λ (r : Pass X C). IsSame a.place r.place) (one_item a b (sym e ∙ z.1)) (refl, refl, refl, refl, refl)
+          | inl y ↦ subst (λ (r : Pass X C). IsSame r.place b.place) (one_item p a (sym there ∙ subst (λ j. slice_get passes j ≡ Some a) y.0 e)) (subst (λ (r : Pass X C). IsSame p.place r.place) y.1 same)
+          | inr z ↦ subst (λ (r : Pass X C). IsSame a.place r.place) (one_item a b (sym e ∙ z.1)) (refl, refl, refl, refl, refl)
         ];
       }
 
@@ -173,12 +171,12 @@ module _ {X C : Type 0} (state : X → StoreState) (allows : C → ℕ → Entry
             at = record {
               count = length-set passes g q ∙ ready.at.count;
               each = λ i z r cell e. elim (which i r e) [
-                inl y ↦ subst (λ (t : Pass X C). IsAt z t.place) y.1 (let a = ready.at.each g z p (subst (λ j. slice_get cells j ≡ Some z) y.0 cell) there in (same.0 ∙ a.0, a.1)) |
-                inr y ↦ ready.at.each i z r cell y.1
+                | inl y ↦ subst (λ (t : Pass X C). IsAt z t.place) y.1 (let a = ready.at.each g z p (subst (λ j. slice_get cells j ≡ Some z) y.0 cell) there in (same.0 ∙ a.0, a.1))
+                | inr y ↦ ready.at.each i z r cell y.1
               ];
             };
             own = λ i r e. elim (which i r e) [
-              inl y ↦ subst (λ (t : Pass X C). IsOwn sessions who.session t.place) y.1 (record { rests = rests; numbered = o.numbered ∙ sym same.3; block = same.4 ∙ o.block }) |
-              inr y ↦ ready.own i r y.1
+              | inl y ↦ subst (λ (t : Pass X C). IsOwn sessions who.session t.place) y.1 (record { rests = rests; numbered = o.numbered ∙ sym same.3; block = same.4 ∙ o.block })
+              | inr y ↦ ready.own i r y.1
             ];
           }
