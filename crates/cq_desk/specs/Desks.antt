@@ -1,0 +1,70 @@
+-- The shard groups of a block as a session knows them by its passes.
+use Rattle.std.specs.Prelude.{◌≡◌, ◌≢◌, ℕ, List, [], ◌∷◌, ◌++◌, length, map, Some, slice_get}
+use Rattle.atomic_table.specs.Seated.{TableId}
+use Rattle.cq_tree.specs.declared.failure.StoreFailure.{StoreFailure}
+use Rattle.cq_tree.specs.declared.journal.Entry.{Entry}
+use Rattle.cq_tree.specs.declared.journal.EntryKind.{EntryKind}
+use Rattle.cq_tree.specs.declared.journal.Who.{Who}
+use Rattle.cq_store.specs.Stores.{StoreState}
+use Rattle.cq_cell.specs.Lists.{NotIn}
+use Rattle.cq_cell.specs.Turn.{Rests, IsSame}
+use Rattle.cq_shared.specs.declared.content.Shard.{Shard}
+use Rattle.cq_shared.specs.declared.note.Note.TheVariants as note
+use Rattle.cq_shared.specs.Seen.{Seen as Shown, Place, Pass, IsRuled, seen_by}
+use Rattle.cq_shared.specs.Writes.{AreAt, InBoth}
+use Rattle.cq_reach.specs.Seen.{Seen, seen_of}
+use Rattle.cq_reach.specs.Outlook.{Outlook}
+use Rattle.cq_desk.specs.Visits.{Finds}
+
+-- a group as far as a pass has seen it, without whether it is a reference group, which its journal says
+abbrev pub reached : Shown → Seen
+reached s = record { journal = s.journal; tables = s.tables; nodes = s.nodes }
+
+-- an entry of another session of the block
+abbrev pub IsOfOthers : List ℕ → Who → Entry → Type 0
+IsOfOthers sessions who e = (e.who.session ≢ who.session) × (NotIn e.who.session sessions → ⊥)
+
+module _ {X C : Type 0} where
+  abbrev pub known_by : Pass X C → Seen
+  known_by p = reached (seen_by p.place)
+
+  -- the turn of the group's pass may find it so
+  pub record MayBe (state : X → StoreState) (allows : C → ℕ → EntryKind → Type 0) (passes : List (Pass X C)) (g : ℕ) (s : Seen) : Type 0 where
+    pub pass : Pass X C
+    pub there : slice_get passes g ≡ Some pass
+    pub shard : Shard X C
+    pub finds : Finds state allows pass.place shard
+    pub is : s ≡ seen_of shard.group
+
+  -- an entry of this kind is allowed in a group by the rules under which it is shared
+  abbrev pub MayEnter : (C → ℕ → EntryKind → Type 0) → List (Pass X C) → ℕ → EntryKind → Type 0
+  MayEnter allows passes g kind = (p : Pass X C) → slice_get passes g ≡ Some p → (c : C) → IsRuled p.place c → allows c (known_by p).journal.number kind
+
+  -- what a session knows by its passes, and may find
+  abbrev pub outlook_by : (X → StoreState) → (C → ℕ → EntryKind → Type 0) → List ℕ → List (Pass X C) → Who → Outlook
+  outlook_by state allows sessions passes who = record {
+    known = map known_by passes;
+    comes = IsOfOthers sessions who;
+    finds = MayBe state allows passes;
+    allows = MayEnter allows passes;
+  }
+
+  -- a pass that rests, of the session of this number, in a block of these sessions
+  pub record IsOwn (sessions : List ℕ) (session : ℕ) (p : Place X C) : Type 0 where
+    pub rests : Rests p
+    pub numbered : session ≡ p.me.0.number
+    pub block : p.me.0.sessions ≡ sessions
+
+  -- the passes of a session, one to each cell, between two calls
+  pub record IsReady (cells : List TableId) (sessions : List ℕ) (passes : List (Pass X C)) (session : ℕ) : Type 0 where
+    pub at : AreAt cells passes
+    pub own : (g : ℕ) (p : Pass X C) → slice_get passes g ≡ Some p → IsOwn sessions session p.place
+
+  -- the passes are those that they were
+  pub record GoOn (old new : List (Pass X C)) : Type 0 where
+    pub count : length new ≡ length old
+    pub each : (g : ℕ) (p q : Pass X C) → slice_get old g ≡ Some p → slice_get new g ≡ Some q → IsSame p.place q.place
+
+  -- the session's pass to a group has noted that a store of it failed
+  abbrev pub HasNoted : Who → ℕ → List (Pass X C) → List (Pass X C) → StoreFailure → Type 0
+  HasNoted who g old new failure = InBoth old new g (λ a b. b.place.me.0.mine ≡ a.place.me.0.mine ++ note.Failed who failure ∷ [])

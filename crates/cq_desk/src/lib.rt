@@ -1,0 +1,8 @@
+//! The shard groups of a parallel block as one of its sessions reaches them: by its passes, in turns with the other sessions.
+#![tactic(auto)]
+
+mod desk;
+mod visits;
+
+pub use desk::Desk;
+pub use visits::{pick_at, read_at};
