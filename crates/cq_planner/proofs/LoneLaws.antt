@@ -9,7 +9,7 @@ use Rattle.cq_tree.specs.declared.expression.Cond.{Cond, Compare, Or}
 use Rattle.cq_meaning.specs.Chains.{halves, halved}
 use Rattle.cq_task_laws.specs.Partial.{columns_from}
 use Rattle.cq_one_plan.specs.Stays.{set_filter}
-use Rattle.cq_planner.specs.Lone.{IsHalved}
+use Rattle.cq_planner.specs.Made.{IsHalved}
 
 -- ---- columns
 
@@ -53,8 +53,8 @@ pub two_halved : (y : ℕ) (values first second : List Value) (k : ℕ) (a b : C
     IsHalved y first a → IsHalved y second b → IsHalved y values (Or a b)
 two_halved y values first second k a b many e f s l r = by_steps
   where
-    few_first : length first ≤ k
-    few_first = rw f (length-take-le k values)
+    few_first : length first ≡ k
+    few_first = rw f (length-take-le k values (omega (arith, e)))
 
     few_second : length second ≡ length values - k
     few_second = rw s (length-drop k values)

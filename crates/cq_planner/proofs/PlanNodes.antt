@@ -23,9 +23,10 @@ use Rattle.cq_one_plan.specs.declared.plan.Part.TheVariants.{Asks}
 use Rattle.cq_one_plan.specs.Stays.{leaves_in, leaves_of, leaves_of_all, from_staying, query_staying}
 use Rattle.cq_one_plan.specs.Plans.{output_set, plan_of, cte_plans, in_plans, parts_inside, parts_from}
 use Rattle.cq_planner.specs.declared.tables.Start.{Start}
-use Rattle.cq_planner.specs.Counting.{behind, leaves_each}
+use Rattle.cq_planner.specs.Counting.{leaves_each}
+use Rattle.cq_planner.specs.Made.{with_from}
 use Rattle.cq_planner.specs.Strategies.{strategy_of, plan_by}
-use Rattle.cq_planner.specs.Walks.{with_from, cte_plan_list, in_plan_list, parts_of_query, query_in_place}
+use Rattle.cq_planner.specs.Walks.{behind, cte_plan_list, in_plan_list, parts_of_query, query_in_place}
 use Rattle.cq_planner.proofs.CountLaws.{leaves_hidden}
 
 -- ---- lists of queries

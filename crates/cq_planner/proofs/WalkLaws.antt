@@ -1,17 +1,19 @@
 -- What each arm of the walk over a query puts together.
-use Rattle.std.proofs.Common.{◌≡◌, ℕ, ◌+◌, List, [], ◌∷◌, ◌++◌, map, Option, None, Some, sym, ap, subst, ◌∙◌, append_assoc}
+use Rattle.std.proofs.Common.{◌≡◌, ℕ, ◌+◌, List, [], ◌∷◌, ◌++◌, map, Bool, true, false, if◌then◌else◌, Option, None, Some, refl, sym, ap, subst, ◌∙◌, append_assoc, append-nil}
 use Rattle.cq_value.specs.declared.value.Value.{Value}
 use Rattle.cq_tree.specs.declared.expression.Cond.{Cond}
-use Rattle.cq_tree.specs.declared.query.FromTree.{FromTree, Sub, Cross, Inner, Left}
-use Rattle.cq_tree.specs.declared.query.Query.{Query, out-Query}
-use Rattle.cq_meaning.specs.Queries.{columns_in}
+use Rattle.cq_tree.specs.declared.query.FromTree.{FromTree, Sub, Result, Cross, Inner, Left}
+use Rattle.cq_tree.specs.declared.query.Query.{Query, Query', out-Query}
+use Rattle.cq_tree.specs.declared.plan.Planner.{Planner}
+use Rattle.cq_meaning.specs.Queries.{columns_in, outputs_of}
 use Rattle.cq_catalog.specs.Contents.{Contents}
 use Rattle.cq_planning.specs.Conjuncts.{conjuncts, conjuncts_of, equalities}
 use Rattle.cq_planning.specs.Classes.{first_of_class}
-use Rattle.cq_planning.specs.Relations.{OuterJoin, Relation}
+use Rattle.cq_planning.specs.Relations.{Distribution, OuterJoin, Relation}
 use Rattle.cq_planning.specs.ValueSets.{ValueSet, class_set, value_set, sets_said}
 use Rattle.cq_planning.specs.Pushable.{Pushable, pushable, distribution_by, relations}
 use Rattle.cq_planning.specs.Narrowing.{distribution_in, right_sets, sets_in, given_to}
+use Rattle.cq_planning.specs.Occurrences.{occurrences_in}
 use Rattle.cq_shape.specs.Labels.{label}
 use Rattle.cq_plan.specs.declared.sets.Begun.{Begun}
 use Rattle.cq_plan.specs.Begun.{set_at, set_of, sets_under, one_begun, begun, seen}
@@ -20,20 +22,23 @@ use Rattle.cq_plan.proofs.BegunLaws.{left_found}
 use Rattle.cq_plan.proofs.FromNodes.{distribution_sub, begun_sub, begun_cross, begun_inner, begun_left}
 use Rattle.cq_plan.proofs.WalkLaws.{free, under_is, as_one_is}
 use Rattle.cq_outline.specs.declared.outline.Leaving.{Leaving}
+use Rattle.cq_outline.specs.Leaving.{leaves_subquery, inside}
 use Rattle.cq_outline.specs.Tasking.{planner_of, leaving_by}
+use Rattle.cq_outline.specs.Outlines.{subquery_planner}
 use Rattle.cq_explain.specs.Pieces.{first_set}
 use Rattle.cq_one_plan.specs.declared.plan.Plan.{Plan}
 use Rattle.cq_one_plan.specs.declared.plan.Part.{Part}
-use Rattle.cq_one_plan.specs.declared.plan.Part.TheVariants.{Asks}
-use Rattle.cq_one_plan.specs.Stays.{query_staying}
-use Rattle.cq_one_plan.specs.Plans.{output_set, plan_of, parts_inside}
+use Rattle.cq_one_plan.specs.declared.plan.Part.TheVariants.{Leaves, Asks}
+use Rattle.cq_one_plan.specs.Stays.{query_staying, result_if, lone_query}
+use Rattle.cq_one_plan.specs.Plans.{output_set, lone_plan, plan_of, parts_inside}
 use Rattle.cq_planner.specs.declared.counting.Numbers.{Numbers}
 use Rattle.cq_planner.specs.declared.joins.Walked.{Walked}
 use Rattle.cq_planner.specs.declared.strategy.Strategy.{Strategy}
 use Rattle.cq_planner.specs.declared.tables.Start.{Start}
-use Rattle.cq_planner.specs.Counting.{behind, counts_among}
+use Rattle.cq_planner.specs.Counting.{counts_among}
+use Rattle.cq_planner.specs.Made.{with_from}
 use Rattle.cq_planner.specs.Strategies.{strategy_of, plan_by}
-use Rattle.cq_planner.specs.Walks.{IsWalked, with_from, cte_plan_list, in_plan_list, parts_of_query, query_in_place}
+use Rattle.cq_planner.specs.Walks.{behind, IsWalked, lone_subquery, alone, leaves_query, next_in, parts_of_query, query_in_place, cte_plan_list, in_plan_list}
 use Rattle.cq_planner.proofs.PlanNodes.{plan_is, inside_is, staying_is, Parts, Stays, stays_sub, stays_cross, stays_inner, stays_left, parts_sub, parts_cross, parts_inner, parts_left}
 
 -- ---- a FROM
@@ -121,6 +126,10 @@ module _ (c : Contents) (leaving : Leaving) (rels : List Relation) where
       (subst (λ X. Is X (Left a b on) start outer (walked (near.relations ++ as_one b high far.relations) (Left near.from far.from on)) f0 f2) (sym s)
       (left_here B a b on start outer near far f0 f1 f2 p' q'))
 
+  pub result_arm : (sets : ℕ → ValueSet) (number columns : ℕ) (start : Start) (outer : Option OuterJoin) (list : List Begun) (f0 : List Part) →
+      list ≡ one_begun start.column None None → Is sets (Result number columns) start outer (walked list (Result number columns)) f0 f0
+  result_arm sets number columns start outer list f0 l = record { found = l; stays = refl; parted = sym (append-nil f0) }
+
   -- the set of a subquery's distribution column
   set_is : (sets : ℕ → ValueSet) (start : ℕ) (way : Option Pushable) → set_of sets (distribution_by start way) ≡ output_set sets start way
   set_is sets start None i = None
@@ -138,6 +147,50 @@ module _ (c : Contents) (leaving : Leaving) (rels : List Relation) where
         stays = s ∙ sym (stays_sub c leaving rels start outer q);
         parted = f ∙ ap (λ (ps : List Part). f0 ++ ps) ((λ i. parts_of_query c leaving rels q start outer (g i) ((ap first_set l ∙ set_is S start.column (pushable c q)) i)) ∙ sym (parts_sub c leaving rels start outer S q));
       })
+
+-- ---- subqueries
+
+shown_is : (q : Query) → outputs_of q ≡ (out-Query q).shown
+unfolding out-Query denote.Hole.Carrier.out
+shown_is (Query' cs ctes ss subs from filter_ grouped keys aggs having items shown distinct order limit offset names) i = shown
+
+module _ (c : Contents) (leaving : Leaving) (rels : List Relation) (q : Query) (start : Start) (outer : Option OuterJoin) (given : List (ℕ × List Value)) (set : ValueSet) where
+  -- this is how the subquery can be pushed down, and whether it leaves
+  leaving_is : (way : Option Pushable) (d : Option Distribution) (b : Bool) → way ≡ pushable c q → d ≡ distribution_by start.column way →
+      b ≡ leaves_subquery leaving rels (record { start = start.column; distribution = d; outer = outer }) → b ≡ leaves_query c leaving rels q start outer
+  leaving_is way d b y e is = is ∙ ap (λ (x : Option Distribution). leaves_subquery leaving rels (record { start = start.column; distribution = x; outer = outer })) (e ∙ ap (distribution_by start.column) y)
+
+  -- what is done where it leaves, or not
+  abbrev placed : Bool → FromTree
+  placed b = result_if b start.relations (outputs_of q) (Sub (query_staying c (inside leaving) q (start.relations + 1)))
+
+  abbrev parted_if : Bool → List Part
+  parted_if b = if b then Leaves (alone c q start.relations (next_in start) (pushable c q) given set) ∷ [] else parts_inside c (inside leaving) q given start.ins (start.relations + 1)
+
+  module _ (way : Option Pushable) (d : Option Distribution) (b : Bool) (y : way ≡ pushable c q) (e : d ≡ distribution_by start.column way)
+      (is : b ≡ leaves_subquery leaving rels (record { start = start.column; distribution = d; outer = outer })) where
+    pub alone_place : b ≡ true → Result start.relations (out-Query q).shown ≡ query_in_place c leaving rels q start outer
+    alone_place t = ap (λ (k : ℕ). Result start.relations k) (sym (shown_is q)) ∙ ap placed (sym t ∙ leaving_is way d b y e is)
+
+    pub alone_parts : b ≡ true → Leaves (alone c q start.relations (next_in start) way given set) ∷ [] ≡ parts_of_query c leaving rels q start outer given set
+    alone_parts t = ap (λ x. Leaves (alone c q start.relations (next_in start) x given set) ∷ []) y ∙ ap parted_if (sym t ∙ leaving_is way d b y e is)
+
+    pub within_place : b ≡ false → Sub (query_staying c (inside leaving) q (start.relations + 1)) ≡ query_in_place c leaving rels q start outer
+    within_place t = ap placed (sym t ∙ leaving_is way d b y e is)
+
+    pub within_parts : b ≡ false → parts_inside c (inside leaving) q given start.ins (start.relations + 1) ≡ parts_of_query c leaving rels q start outer given set
+    within_parts t = ap parted_if (sym t ∙ leaving_is way d b y e is)
+
+-- a subquery that is planned by itself as a right side, by what code finds
+pub lone_arm : (c : Contents) (q : Query) (number : ℕ) (next : Numbers) (y : ℕ) (given said : List (ℕ × List Value)) (set set' : ValueSet) (planner : Planner) (leaving : Leaving) (column : ℕ) (parts : List Part) (stays query : Query) (f : FromTree) →
+    said ≡ given → planner ≡ subquery_planner c (occurrences_in c q said) → set ≡ set' → column ≡ y → leaving ≡ leaving_by planner → stays ≡ query_staying c leaving q next.relations →
+    parts ≡ parts_inside c leaving q given next.ins next.relations → f ≡ Sub stays → query ≡ lone_query f column set → lone_plan c number planner parts query ≡ lone_subquery c q number next y given set'
+lone_arm c q number next y given said set set' planner leaving column parts stays query f es ep et ec el ey er ef eq =
+    let p : planner ≡ subquery_planner c (occurrences_in c q given) = ep ∙ ap (λ x. subquery_planner c (occurrences_in c q x)) es in
+    let l : leaving ≡ leaving_by (subquery_planner c (occurrences_in c q given)) = el ∙ ap leaving_by p in
+    let made : query ≡ lone_query (Sub (query_staying c (leaving_by (subquery_planner c (occurrences_in c q given))) q next.relations)) y set' =
+    eq ∙ (λ i. lone_query ((ef ∙ ap Sub (ey ∙ ap (λ x. query_staying c x q next.relations) l)) i) (ec i) (et i)) in
+    λ i. lone_plan c number (p i) ((er ∙ ap (λ x. parts_inside c x q given next.ins next.relations) l) i) (made i)
 
 -- ---- queries
 

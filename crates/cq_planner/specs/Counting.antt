@@ -2,11 +2,9 @@
 use Rattle.std.specs.Prelude.{ℕ, ◌+◌, List, [], ◌∷◌}
 use Rattle.cq_tree.specs.declared.query.FromTree.{FromTree}
 use Rattle.cq_tree.specs.declared.query.Query.{Query}
-use Rattle.cq_meaning.specs.Queries.{columns_in}
 use Rattle.cq_meaning.specs.Results.{ins_in, ins_in_from}
 use Rattle.cq_one_plan.specs.Stays.{leaves_in, leaves_of}
 use Rattle.cq_planner.specs.declared.counting.Numbers.{Numbers}
-use Rattle.cq_planner.specs.declared.tables.Start.{Start}
 
 abbrev pub both : Numbers → Numbers → Numbers
 both a b = record { ins = a.ins + b.ins; relations = a.relations + b.relations }
@@ -28,7 +26,3 @@ leaves_each (q ∷ qs) = leaves_of q + leaves_each qs
 
 abbrev pub counts_among : List Query → Numbers
 counts_among qs = record { ins = ins_each qs; relations = leaves_each qs }
-
--- where what stands behind a part of a FROM begins
-abbrev pub behind : Start → FromTree → Start
-behind s f = record { column = s.column + columns_in f; ins = s.ins + ins_in_from f; relations = s.relations + leaves_in f }

@@ -1,5 +1,5 @@
 pub mod Counting
 pub mod Flaws
-pub mod Lone
+pub mod Made
 pub mod Strategies
 pub mod Walks

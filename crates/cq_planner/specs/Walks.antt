@@ -2,9 +2,9 @@
 use Rattle.std.specs.Prelude.{◌≡◌, ℕ, ◌+◌, List, [], ◌∷◌, ◌++◌, Bool, if◌then◌else◌, Option, is_some}
 use Rattle.cq_value.specs.declared.value.Value.{Value}
 use Rattle.cq_tree.specs.declared.query.FromTree.{FromTree, Sub}
-use Rattle.cq_tree.specs.declared.query.Query.{Query, out-Query, roll-Query}
-use Rattle.cq_meaning.specs.Queries.{outputs_of}
-use Rattle.cq_meaning.specs.Results.{ins_in}
+use Rattle.cq_tree.specs.declared.query.Query.{Query}
+use Rattle.cq_meaning.specs.Queries.{outputs_of, columns_in}
+use Rattle.cq_meaning.specs.Results.{ins_in, ins_in_from}
 use Rattle.cq_catalog.specs.Contents.{Contents}
 use Rattle.cq_catalog.specs.Placement.{place_at}
 use Rattle.cq_planning.specs.ValueSets.{ValueSet}
@@ -22,15 +22,15 @@ use Rattle.cq_explain.specs.Pieces.{planner_by}
 use Rattle.cq_one_plan.specs.declared.plan.Plan.{Plan}
 use Rattle.cq_one_plan.specs.declared.plan.Part.{Part}
 use Rattle.cq_one_plan.specs.declared.plan.Part.TheVariants.{Stays, Leaves}
-use Rattle.cq_one_plan.specs.Stays.{from_staying, query_staying, result_if, lone_query, leaves_of}
+use Rattle.cq_one_plan.specs.Stays.{from_staying, query_staying, result_if, lone_query, leaves_in, leaves_of}
 use Rattle.cq_one_plan.specs.Plans.{lone_plan, key_of, output_of, plan_of, parts_inside, parts_from}
 use Rattle.cq_planner.specs.declared.counting.Numbers.{Numbers}
 use Rattle.cq_planner.specs.declared.joins.Walked.{Walked}
 use Rattle.cq_planner.specs.declared.tables.Start.{Start}
 
--- a query with another FROM
-abbrev pub with_from : Query → FromTree → Query
-with_from q f = roll-Query (record (out-Query q) { from = f })
+-- where what stands behind a part of a FROM begins
+abbrev pub behind : Start → FromTree → Start
+behind s f = record { column = s.column + columns_in f; ins = s.ins + ins_in_from f; relations = s.relations + leaves_in f }
 
 -- a part of a FROM is walked over: its relations are found, what stays of it is made, and its parts stand last
 pub record IsWalked (c : Contents) (leaving : Leaving) (rels : List Relation) (sets : ℕ → ValueSet) (f : FromTree) (start : Start) (outer : Option OuterJoin) (w : Walked) (before after : List Part) : Type 0 where
@@ -61,18 +61,18 @@ module _ (c : Contents) (q : Query) (l : ℕ) (next : Numbers) where
   abbrev pub alone : Option Pushable → List (ℕ × List Value) → ValueSet → Plan
   alone way given set = if is_some way then lone_subquery (output_of way) given set else plan_of c l next.ins next.ins next.relations q
 
+-- the numbers behind that of a relation
+abbrev pub next_in : Start → Numbers
+next_in start = record { ins = start.ins; relations = start.relations + 1 }
+
 module _ (c : Contents) (leaving : Leaving) (rels : List Relation) (q : Query) (start : Start) (outer : Option OuterJoin) where
   -- whether a subquery of a FROM is planned by itself
   abbrev pub leaves_query : Bool
   leaves_query = leaves_subquery leaving rels (record { start = start.column; distribution = distribution_by start.column (pushable c q); outer = outer })
 
-  -- the numbers behind that of a relation
-  abbrev pub next_in : Numbers
-  next_in = record { ins = start.ins; relations = start.relations + 1 }
-
   abbrev pub parts_of_query : List (ℕ × List Value) → ValueSet → List Part
   parts_of_query given set =
-      if leaves_query then Leaves (alone c q start.relations next_in (pushable c q) given set) ∷ [] else parts_inside c (inside leaving) q given start.ins (start.relations + 1)
+      if leaves_query then Leaves (alone c q start.relations (next_in start) (pushable c q) given set) ∷ [] else parts_inside c (inside leaving) q given start.ins (start.relations + 1)
 
   -- what stays of it
   abbrev pub query_in_place : FromTree

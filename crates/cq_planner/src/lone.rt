@@ -4,7 +4,7 @@ ghost use Rattle.cq_tree.specs.declared.expression.Expr.{Column, Literal};
 ghost use Rattle.cq_tree.specs.declared.expression.Op.TheVariants.{Eq};
 ghost use Rattle.cq_task_laws.specs.Partial.{columns_from};
 ghost use Rattle.cq_one_plan.specs.Stays.{set_filter as set_filter_by_rule, lone_query as lone_query_by_rule};
-ghost use Rattle.cq_planner.specs.Lone.{IsHalved};
+ghost use Rattle.cq_planner.specs.Made.{IsHalved};
 
 use cq_explain::few;
 use cq_relations::count_columns;

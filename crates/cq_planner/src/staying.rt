@@ -1,6 +1,6 @@
 ghost use Rattle.std.specs.Prelude.{◌≡◌, IfOk};
 ghost use Rattle.cq_tree.specs.declared.query.FromTree.{Sub};
-ghost use Rattle.cq_planner.specs.Walks.{with_from as with_from_by_rule};
+ghost use Rattle.cq_planner.specs.Made.{with_from as with_from_by_rule};
 
 use cq_copies::CopyTree;
 use cq_tree::{FromTree, Query};

@@ -7,8 +7,7 @@ ghost use Rattle.cq_plan.specs.Begun.{seen};
 ghost use Rattle.cq_explain.specs.Pieces.{outer_by, first_set as first_set_by_rule};
 ghost use Rattle.cq_one_plan.specs.Plans.{key_of as key_by_rule};
 ghost use Rattle.cq_one_plan.specs.Stays.{result_if};
-ghost use Rattle.cq_planner.specs.Counting.{behind as behind_by_rule};
-ghost use Rattle.cq_planner.specs.Walks.{IsWalked, lone_touch, part_of_touch};
+ghost use Rattle.cq_planner.specs.Walks.{behind as behind_by_rule, IsWalked, lone_touch, part_of_touch};
 
 use crate::block::lone_plan;
 use crate::counting::count_from;

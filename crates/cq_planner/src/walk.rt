@@ -1,11 +1,13 @@
-ghost use Rattle.std.specs.Prelude.{◌≡◌, ◌+◌, [], ◌++◌, map, IfOk, OnOk};
-ghost use Rattle.cq_meaning.specs.Queries.{columns_in};
+ghost use Rattle.std.specs.Prelude.{◌≡◌, ◌+◌, [], ◌∷◌, ◌++◌, map, IfOk, OnOk};
+ghost use Rattle.cq_tree.specs.declared.query.FromTree.{Sub as sub_in, Result as result_in};
+ghost use Rattle.cq_tree.specs.declared.query.Query.{out-Query};
+ghost use Rattle.cq_outline.specs.Leaving.{inside as inside_by_rule};
 ghost use Rattle.cq_plan.specs.Begun.{seen};
 ghost use Rattle.cq_explain.specs.Pieces.{outer_by, first_set as first_set_by_rule};
-ghost use Rattle.cq_one_plan.specs.declared.plan.Part.TheVariants.{Asks};
+ghost use Rattle.cq_one_plan.specs.declared.plan.Part.TheVariants.{Leaves, Asks};
 ghost use Rattle.cq_one_plan.specs.Stays.{query_staying};
 ghost use Rattle.cq_one_plan.specs.Plans.{plan_of as plan_by_definition, parts_inside};
-ghost use Rattle.cq_planner.specs.Walks.{IsWalked, lone_subquery as lone_by_rule, alone as alone_by_rule, parts_of_query, query_in_place, cte_plan_list, in_plan_list};
+ghost use Rattle.cq_planner.specs.Walks.{IsWalked, lone_subquery as lone_by_rule, alone as alone_by_rule, next_in, parts_of_query, query_in_place, cte_plan_list, in_plan_list};
 
 use crate::block::{lone_plan, plan_by};
 use crate::counting::{Numbers, count_each, count_query, sum};
@@ -128,19 +130,21 @@ fn put_inside(
         said: said.as_slice(),
     };
     let ctes = count_each(q.ctes.as_slice())?;
+    let first = plus(next.relations, ctes.relations)?;
     let start = Start {
         column: 0,
         ins: next.ins,
-        relations: plus(next.relations, ctes.relations)?,
+        relations: first,
     };
     let end = behind(start, &q.from)?;
-    let Walked { relations: _, from } = walk(frame, nothing(), &q.from, start, false, found)?;
+    let walked = walk(frame, nothing(), &q.from, start, false, found)?;
     let rest = Numbers {
         ins: end.ins,
         relations: end.relations,
     };
     put_asked(alloc, catalog, q.subs.as_slice(), rest, found)?;
-    with_from(alloc, q, from)
+    let stays = with_from(alloc, q, walked.from)?;
+    Ok(stays)
 }
 
 /// Puts the parts of a FROM last, which may be the right side of a LEFT JOIN; and gives its relations with their value sets, and what stays of it.
@@ -187,13 +191,15 @@ fn walk(
             let end = behind(start, a.get())?;
             let near = walk(frame, nothing(), a.get(), start, false, found)?;
             let far = walk(frame, nothing(), b.get(), end, false, found)?;
-            crossed(frame.alloc, near, far)
+            let both = crossed(frame.alloc, near, far)?;
+            Ok(both)
         }
         FromTree::Inner(a, b, on) => {
             let end = behind(start, a.get())?;
             let near = walk(frame, nothing(), a.get(), start, false, found)?;
             let far = walk(frame, nothing(), b.get(), end, false, found)?;
-            joined_on(frame.alloc, near, far, on)
+            let both = joined_on(frame.alloc, near, far, on)?;
+            Ok(both)
         }
         FromTree::Left(a, b, on) => {
             let end = behind(start, a.get())?;
@@ -205,7 +211,8 @@ fn walk(
                 pairs: pairs.as_slice(),
             };
             let far = walk(frame, narrowing, b.get(), end, true, found)?;
-            left_joined(frame.alloc, near, far, b.get(), end.column, on)
+            let both = left_joined(frame.alloc, near, far, b.get(), end.column, on)?;
+            Ok(both)
         }
     }
 }
@@ -221,29 +228,69 @@ fn put_subquery(
     begun: &[Begun],
     found: &mut Parts,
 ) -> Result<FromTree, NoMemory>
-    ensures { IfOk result (λ f.
-        (f ≡ query_in_place frame.entry.catalog.now frame.entry.leaving frame.entry.relations.now q.now start outer)
-        × (found.new ≡ found.old ++ parts_of_query frame.entry.catalog.now frame.entry.leaving frame.entry.relations.now q.now start outer given (first_set_by_rule begun.now))) }
+    ensures stays { IfOk result (λ f. f ≡ query_in_place frame.entry.catalog.now frame.entry.leaving frame.entry.relations.now q.now start outer) }
+    ensures parts { OnOk result (found.new ≡ found.old ++ parts_of_query frame.entry.catalog.now frame.entry.leaving frame.entry.relations.now q.now start outer given (first_set_by_rule begun.now)) }
 {
     let way = pushable(frame.alloc, frame.catalog, q)?;
+    let distribution = distribution_by(start.column, way)?;
     let relation = Relation {
         start: start.column,
-        distribution: distribution_by(start.column, way)?,
+        distribution,
         outer,
     };
-    let next = Numbers {
+    if leaves_subquery(frame.leaving, frame.relations, &relation) {
+        put_alone(frame, q, start, way, given, begun, found)
+    } else {
+        put_within(frame, q, start, given, found)
+    }
+}
+
+/// The numbers behind that of a relation.
+fn behind_one(start: Start) -> Result<Numbers, NoMemory>
+    ensures { IfOk result (λ n. n ≡ next_in start) }
+{
+    Ok(Numbers {
         ins: start.ins,
         relations: plus(start.relations, 1)?,
-    };
-    if leaves_subquery(frame.leaving, frame.relations, &relation) {
-        let plan = alone(frame, q, start.relations, next, way, given, begun)?;
-        found.put(Part::Leaves(plan))?;
-        as_result(start.relations, q.shown)
-    } else {
-        let leaving = inside(frame.leaving);
-        let stays = put_inside(frame.alloc, frame.catalog, leaving, q, given, next, found)?;
-        sub(frame.alloc, stays)
-    }
+    })
+}
+
+/// Puts the plan of a subquery of a FROM last that is planned by itself; and gives the result that stands for it.
+#[cycle(planner)]
+fn put_alone(
+    frame: Frame<'_>,
+    q: &Query,
+    start: Start,
+    way: Option<Pushable>,
+    given: Items<Said>,
+    begun: &[Begun],
+    found: &mut Parts,
+) -> Result<FromTree, NoMemory>
+    ensures stays { IfOk result (λ f. f ≡ result_in start.relations (out-Query q.now).shown) }
+    ensures parts { OnOk result (found.new ≡ found.old ++ Leaves (alone_by_rule frame.entry.catalog.now q.now start.relations (next_in start) way given (first_set_by_rule begun.now)) ∷ []) }
+{
+    let next = behind_one(start)?;
+    let plan = alone(frame, q, start.relations, next, way, given, begun)?;
+    found.put(Part::Leaves(plan))?;
+    as_result(start.relations, q.shown)
+}
+
+/// Puts the parts of a subquery of a FROM last that stays in its block; and gives what stays of it.
+#[cycle(planner)]
+fn put_within(
+    frame: Frame<'_>,
+    q: &Query,
+    start: Start,
+    given: Items<Said>,
+    found: &mut Parts,
+) -> Result<FromTree, NoMemory>
+    ensures stays { IfOk result (λ f. f ≡ sub_in (query_staying frame.entry.catalog.now (inside_by_rule frame.entry.leaving) q.now (start.relations + 1))) }
+    ensures parts { OnOk result (found.new ≡ found.old ++ parts_inside frame.entry.catalog.now (inside_by_rule frame.entry.leaving) q.now given start.ins (start.relations + 1)) }
+{
+    let next = behind_one(start)?;
+    let leaving = inside(frame.leaving);
+    let stays = put_inside(frame.alloc, frame.catalog, leaving, q, given, next, found)?;
+    sub(frame.alloc, stays)
 }
 
 /// The plan of a subquery of a FROM that is planned by itself and becomes a result of this number.
@@ -285,6 +332,7 @@ fn lone_subquery(
     let leaving = leaving_by(planner);
     let mut parts = Parts::new(frame.alloc);
     let stays = put_inside(frame.alloc, frame.catalog, leaving, q, given, next, &mut parts)?;
-    let query = lone_query(frame.alloc, sub(frame.alloc, stays)?, column, &set)?;
+    let from = sub(frame.alloc, stays)?;
+    let query = lone_query(frame.alloc, from, column, &set)?;
     lone_plan(frame.alloc, frame.catalog, number, planner, parts, query)
 }
