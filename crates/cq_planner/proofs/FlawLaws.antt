@@ -48,12 +48,12 @@ module _ (repartition : Bool) where
   pub within_is : (p : Plan) → flaws_within repartition p ≡ either (flaws_among repartition (out-Plan p).subplans) (flaws_by repartition (out-Plan p).planner (out-Plan p).grounds)
   within_is p = ap (flaws_within repartition) (sym (roll-out-Plan p)) ∙ within_rolled (out-Plan p)
 
+  cut_rolled : (x : Plan-F Plan) → (grounds_in (roll-Plan x)).has_loose_cut ≡ x.grounds.has_loose_cut
+  unfolding roll-Plan denote.Hole.Carrier.roll
+  cut_rolled x = refl
+
   cut_is : (p : Plan) → (grounds_in p).has_loose_cut ≡ (out-Plan p).grounds.has_loose_cut
-  cut_is p = ap (λ (x : Plan). (grounds_in x).has_loose_cut) (sym (roll-out-Plan p)) ∙ rolled (out-Plan p)
-    where
-      rolled : (x : Plan-F Plan) → (grounds_in (roll-Plan x)).has_loose_cut ≡ x.grounds.has_loose_cut
-      unfolding roll-Plan denote.Hole.Carrier.roll
-      rolled x = refl
+  cut_is p = ap (λ (x : Plan). (grounds_in x).has_loose_cut) (sym (roll-out-Plan p)) ∙ cut_rolled (out-Plan p)
 
   pub refusal_found : (p : Plan) (flaws : Flaws) (r : Option Unsupported) → flaws ≡ flaws_within repartition p → r ≡ lowest flaws (out-Plan p).grounds.has_loose_cut → r ≡ refusal_in repartition p
   refusal_found p flaws r f is = is ∙ (λ i. lowest (f i) (sym (cut_is p) i))

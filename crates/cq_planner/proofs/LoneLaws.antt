@@ -1,6 +1,6 @@
 -- The query of a right side that is planned by itself, as code makes it.
 use Rattle.std.proofs.Common.{◌≡◌, ℕ, zero, suc, ◌+◌, ◌-◌, ◌/◌, ◌<◌, ◌≤◌, List, [], ◌∷◌, ◌++◌, map, length, take, drop, true, Some, refl, sym, ap, ◌∙◌, arith, add-one, add-zero, zero-add, length-drop}
-use Rattle.std.proofs.lemmas.List.{length-map, length-take-le}
+use Rattle.std.proofs.lemmas.List.{length-take-le}
 use Rattle.cq_value.specs.declared.value.Value.{Value}
 use Rattle.cq_value.specs.declared.value.Value.TheVariants.{Null}
 use Rattle.cq_tree.specs.declared.expression.Op.TheVariants.{Eq}
@@ -38,6 +38,10 @@ map_drop f zero xs = refl
 map_drop f (suc n) [] = refl
 map_drop f (suc n) (x ∷ xs) = map_drop f n xs
 
+long : (f : Value → Cond) (xs : List Value) → length (map f xs) ≡ length xs
+long f [] = refl
+long f (x ∷ xs) = ap suc (long f xs)
+
 abbrev half : List Cond → ℕ
 half cs = length cs - length cs / 2
 
@@ -46,12 +50,9 @@ in_halves most [] h = absurd (omega (arith, h))
 in_halves most (c ∷ []) h = absurd (omega (arith, h))
 in_halves most (c ∷ (d ∷ cs)) h = refl
 
-pub none_halved : (y : ℕ) (values : List Value) (c : Cond) → values ≡ [] → IsHalved y [] c → IsHalved y values c
-none_halved y values c e h = rw e h
-
 pub two_halved : (y : ℕ) (values first second : List Value) (k : ℕ) (a b : Cond) → 2 ≤ length values → k ≡ length values - length values / 2 → first ≡ take k values → second ≡ drop k values →
     IsHalved y first a → IsHalved y second b → IsHalved y values (Or a b)
-two_halved y values first second k a b many e f s l r = by_steps
+two_halved y values first second k a b many e f s l r = record { made = by_steps }
   where
     few_first : length first ≡ k
     few_first = rw f (length-take-le k values (omega (arith, e)))
@@ -63,12 +64,12 @@ two_halved y values first second k a b many e f s l r = by_steps
     by_steps zero few = absurd (omega (arith, many, few))
     by_steps (suc most) few =
         let cs : List Cond = map (equality y) values in
-        let count : length cs ≡ length values = length-map (equality y) values in
+        let count : length cs ≡ length values = long (equality y) values in
         let at : half cs ≡ k = (λ i. count i - count i / 2) ∙ sym e in
         let taken : take (half cs) cs ≡ map (equality y) first = ap (λ n. take n cs) at ∙ (map_take (equality y) k values ∙ ap (map (equality y)) (sym f)) in
         let left_out : drop (half cs) cs ≡ map (equality y) second = ap (λ n. drop n cs) at ∙ (map_drop (equality y) k values ∙ ap (map (equality y)) (sym s)) in
-        let made_first : a ≡ halves most true (map (equality y) first) = l most (omega (arith, many, few, e, few_first)) in
-        let made_second : b ≡ halves most true (map (equality y) second) = r most (omega (arith, many, few, e, few_second)) in
+        let made_first : a ≡ halves most true (map (equality y) first) = l.made most (omega (arith, many, few, e, few_first)) in
+        let made_second : b ≡ halves most true (map (equality y) second) = r.made most (omega (arith, many, few, e, few_second)) in
         (λ i. Or (made_first i) (made_second i))
         ∙ ((λ i. Or (halves most true (sym taken i)) (halves most true (sym left_out i)))
         ∙ sym (in_halves most cs (omega (arith, count, many))))
@@ -79,4 +80,4 @@ none_listed y (v ∷ vs) c n e = absurd (omega (arith, n))
 
 pub some_listed : (y : ℕ) (values : List Value) (c : Cond) → 0 < length values → IsHalved y values c → c ≡ set_filter y (Some values)
 some_listed y [] c n h = absurd (omega (arith, n))
-some_listed y (v ∷ vs) c n h = h (length (map (equality y) (v ∷ vs))) (omega (arith, length-map (equality y) (v ∷ vs)))
+some_listed y (v ∷ vs) c n h = h.made (length (map (equality y) (v ∷ vs))) (omega (arith, long (equality y) (v ∷ vs)))

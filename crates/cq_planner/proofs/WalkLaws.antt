@@ -9,7 +9,7 @@ use Rattle.cq_meaning.specs.Queries.{columns_in, outputs_of}
 use Rattle.cq_catalog.specs.Contents.{Contents}
 use Rattle.cq_planning.specs.Conjuncts.{conjuncts, conjuncts_of, equalities}
 use Rattle.cq_planning.specs.Classes.{first_of_class}
-use Rattle.cq_planning.specs.Relations.{Distribution, OuterJoin, Relation}
+use Rattle.cq_planning.specs.Relations.{OuterJoin, Relation}
 use Rattle.cq_planning.specs.ValueSets.{ValueSet, class_set, value_set, sets_said}
 use Rattle.cq_planning.specs.Pushable.{Pushable, pushable, distribution_by, relations}
 use Rattle.cq_planning.specs.Narrowing.{distribution_in, right_sets, sets_in, given_to}
@@ -156,9 +156,9 @@ shown_is (Query' cs ctes ss subs from filter_ grouped keys aggs having items sho
 
 module _ (c : Contents) (leaving : Leaving) (rels : List Relation) (q : Query) (start : Start) (outer : Option OuterJoin) (given : List (ℕ × List Value)) (set : ValueSet) where
   -- this is how the subquery can be pushed down, and whether it leaves
-  leaving_is : (way : Option Pushable) (d : Option Distribution) (b : Bool) → way ≡ pushable c q → d ≡ distribution_by start.column way →
-      b ≡ leaves_subquery leaving rels (record { start = start.column; distribution = d; outer = outer }) → b ≡ leaves_query c leaving rels q start outer
-  leaving_is way d b y e is = is ∙ ap (λ (x : Option Distribution). leaves_subquery leaving rels (record { start = start.column; distribution = x; outer = outer })) (e ∙ ap (distribution_by start.column) y)
+  leaving_is : (way : Option Pushable) (b : Bool) → way ≡ pushable c q →
+      b ≡ leaves_subquery leaving rels (record { start = start.column; distribution = distribution_by start.column way; outer = outer }) → b ≡ leaves_query c leaving rels q start outer
+  leaving_is way b y is = is ∙ ap (λ (x : Option Pushable). leaves_subquery leaving rels (record { start = start.column; distribution = distribution_by start.column x; outer = outer })) y
 
   -- what is done where it leaves, or not
   abbrev placed : Bool → FromTree
@@ -167,19 +167,19 @@ module _ (c : Contents) (leaving : Leaving) (rels : List Relation) (q : Query) (
   abbrev parted_if : Bool → List Part
   parted_if b = if b then Leaves (alone c q start.relations (next_in start) (pushable c q) given set) ∷ [] else parts_inside c (inside leaving) q given start.ins (start.relations + 1)
 
-  module _ (way : Option Pushable) (d : Option Distribution) (b : Bool) (y : way ≡ pushable c q) (e : d ≡ distribution_by start.column way)
-      (is : b ≡ leaves_subquery leaving rels (record { start = start.column; distribution = d; outer = outer })) where
+  module _ (way : Option Pushable) (b : Bool) (y : way ≡ pushable c q)
+      (is : b ≡ leaves_subquery leaving rels (record { start = start.column; distribution = distribution_by start.column way; outer = outer })) where
     pub alone_place : b ≡ true → Result start.relations (out-Query q).shown ≡ query_in_place c leaving rels q start outer
-    alone_place t = ap (λ (k : ℕ). Result start.relations k) (sym (shown_is q)) ∙ ap placed (sym t ∙ leaving_is way d b y e is)
+    alone_place t = ap (λ (k : ℕ). Result start.relations k) (sym (shown_is q)) ∙ ap placed (sym t ∙ leaving_is way b y is)
 
     pub alone_parts : b ≡ true → Leaves (alone c q start.relations (next_in start) way given set) ∷ [] ≡ parts_of_query c leaving rels q start outer given set
-    alone_parts t = ap (λ x. Leaves (alone c q start.relations (next_in start) x given set) ∷ []) y ∙ ap parted_if (sym t ∙ leaving_is way d b y e is)
+    alone_parts t = ap (λ x. Leaves (alone c q start.relations (next_in start) x given set) ∷ []) y ∙ ap parted_if (sym t ∙ leaving_is way b y is)
 
     pub within_place : b ≡ false → Sub (query_staying c (inside leaving) q (start.relations + 1)) ≡ query_in_place c leaving rels q start outer
-    within_place t = ap placed (sym t ∙ leaving_is way d b y e is)
+    within_place t = ap placed (sym t ∙ leaving_is way b y is)
 
     pub within_parts : b ≡ false → parts_inside c (inside leaving) q given start.ins (start.relations + 1) ≡ parts_of_query c leaving rels q start outer given set
-    within_parts t = ap parted_if (sym t ∙ leaving_is way d b y e is)
+    within_parts t = ap parted_if (sym t ∙ leaving_is way b y is)
 
 -- a subquery that is planned by itself as a right side, by what code finds
 pub lone_arm : (c : Contents) (q : Query) (number : ℕ) (next : Numbers) (y : ℕ) (given said : List (ℕ × List Value)) (set set' : ValueSet) (planner : Planner) (leaving : Leaving) (column : ℕ) (parts : List Part) (stays query : Query) (f : FromTree) →

@@ -9,8 +9,8 @@ use Rattle.cq_tree.specs.declared.query.Query.{Query, out-Query, roll-Query}
 use Rattle.cq_meaning.specs.Chains.{halves}
 
 -- a condition is the tree of halves of `y = value` for each of these values, however often it may be halved
-abbrev pub IsHalved : ℕ → List Value → Cond → Type 0
-IsHalved y values c = (most : ℕ) → length values ≤ suc most → c ≡ halves most true (map (λ v. Compare Eq (Column y) (Literal v)) values)
+pub record IsHalved (y : ℕ) (values : List Value) (c : Cond) : Type 0 where
+  pub made : (most : ℕ) → length values ≤ suc most → c ≡ halves most true (map (λ v. Compare Eq (Column y) (Literal v)) values)
 
 -- a query with another FROM
 abbrev pub with_from : Query → FromTree → Query

@@ -31,6 +31,7 @@ fn either(alloc: Global, a: Cond, b: Cond) -> Result<Cond, NoMemory>
 }
 
 /// `y = value` of one of some values, as a tree of halves.
+#[tactic(auto, using(crate::proofs::LoneLaws::two_halved))]
 fn equals_any(alloc: Global, column: u32, values: &[Value]) -> Result<Cond, NoMemory>
     ensures { IfOk result (λ c. IsHalved column values.now c) }
 {
@@ -40,18 +41,15 @@ fn equals_any(alloc: Global, column: u32, values: &[Value]) -> Result<Cond, NoMe
         [_, _, ..] => {
             let half = values.len() - values.len() / 2;
             let first = equals_any(alloc, column, &values[..half])?;
-            match equals_any(alloc, column, &values[half..]) {
-                Ok(second) => either(alloc, first, second),
-                Err(e) => {
-                    drop(first);
-                    Err(e)
-                }
-            }
+            let second = equals_any(alloc, column, &values[half..])?;
+            let all = either(alloc, first, second)?;
+            Ok(all)
         }
     }
 }
 
 /// `y IN (values)`, which is `y = NULL` where there are none; nothing where the set is all values.
+#[tactic(auto, using(crate::proofs::LoneLaws::none_listed, crate::proofs::LoneLaws::some_listed))]
 fn set_filter(alloc: Global, column: u32, set: &ValueSet) -> Result<Cond, NoMemory>
     ensures { IfOk result (λ c. c ≡ set_filter_by_rule column set.now) }
 {
@@ -61,7 +59,8 @@ fn set_filter(alloc: Global, column: u32, set: &ValueSet) -> Result<Cond, NoMemo
             if values.len() == 0 {
                 equals(alloc, column, &Value::Null)
             } else {
-                equals_any(alloc, column, values.as_slice())
+                let filter = equals_any(alloc, column, values.as_slice())?;
+                Ok(filter)
             }
         }
     }

@@ -1,7 +1,8 @@
 ghost use Rattle.std.specs.Prelude.{◌≡◌, ◌+◌, [], ◌∷◌, ◌++◌, map, IfOk, OnOk};
 ghost use Rattle.cq_tree.specs.declared.query.FromTree.{Sub as sub_in, Result as result_in};
 ghost use Rattle.cq_tree.specs.declared.query.Query.{out-Query};
-ghost use Rattle.cq_outline.specs.Leaving.{inside as inside_by_rule};
+ghost use Rattle.cq_outline.specs.Leaving.{inside as inside_by_rule, leaves_subquery as leaves_by_rule};
+ghost use Rattle.cq_planning.specs.Pushable.{distribution_by as distribution_by_rule};
 ghost use Rattle.cq_plan.specs.Begun.{seen};
 ghost use Rattle.cq_explain.specs.Pieces.{outer_by, first_set as first_set_by_rule};
 ghost use Rattle.cq_one_plan.specs.declared.plan.Part.TheVariants.{Leaves, Asks};
@@ -232,17 +233,29 @@ fn put_subquery(
     ensures parts { OnOk result (found.new ≡ found.old ++ parts_of_query frame.entry.catalog.now frame.entry.leaving frame.entry.relations.now q.now start outer given (first_set_by_rule begun.now)) }
 {
     let way = pushable(frame.alloc, frame.catalog, q)?;
-    let distribution = distribution_by(start.column, way)?;
-    let relation = Relation {
-        start: start.column,
-        distribution,
-        outer,
-    };
-    if leaves_subquery(frame.leaving, frame.relations, &relation) {
+    let leaves = leaves_at(frame, start.column, way, outer)?;
+    if leaves {
         put_alone(frame, q, start, way, given, begun, found)
     } else {
         put_within(frame, q, start, given, found)
     }
+}
+
+/// Whether a subquery from this column on, which can be pushed down so, doesn't stay in its block.
+fn leaves_at(
+    frame: Frame<'_>,
+    start: u64,
+    way: Option<Pushable>,
+    outer: Option<OuterJoin>,
+) -> Result<bool, NoMemory>
+    ensures { IfOk result (λ b. b ≡ leaves_by_rule frame.entry.leaving frame.entry.relations.now (record { start = start; distribution = distribution_by_rule start way; outer = outer })) }
+{
+    let relation = Relation {
+        start,
+        distribution: distribution_by(start, way)?,
+        outer,
+    };
+    Ok(leaves_subquery(frame.leaving, frame.relations, &relation))
 }
 
 /// The numbers behind that of a relation.

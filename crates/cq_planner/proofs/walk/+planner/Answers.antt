@@ -99,18 +99,18 @@ lone_subquery-returns t c =
     c.in_ok-from.ensures c.in_ok-query.ensures)
     c.lone_plan.ensures
 
-pub put_subquery-returns-then-leaves_subquery-clause-stays : goal.put_subquery-returns-then-leaves_subquery-clause-stays
-put_subquery-returns-then-leaves_subquery-clause-stays t c =
-    subst (λ x. IfOk c.put_alone.result (λ f. f ≡ x)) (alone_place c.args.frame.catalog.now c.args.frame.leaving c.args.frame.relations.now c.args.q.now c.args.start c.args.outer c.args.given (first_set c.args.begun.now) c.in_ok-way.way c.in_ok-distribution.distribution c.leaves_subquery.result c.in_ok-way.ensures c.in_ok-distribution.ensures c.leaves_subquery.ensures c.if-leaves_subquery.true) c.put_alone.ensures.stays
+pub put_subquery-returns-then-leaves-clause-stays : goal.put_subquery-returns-then-leaves-clause-stays
+put_subquery-returns-then-leaves-clause-stays t c =
+    subst (λ x. IfOk c.put_alone.result (λ f. f ≡ x)) (alone_place c.args.frame.catalog.now c.args.frame.leaving c.args.frame.relations.now c.args.q.now c.args.start c.args.outer c.args.given (first_set c.args.begun.now) c.in_ok-way.way c.in_ok-leaves.leaves c.in_ok-way.ensures c.in_ok-leaves.ensures c.if-leaves.true) c.put_alone.ensures.stays
 
-pub put_subquery-returns-then-leaves_subquery-clause-parts : goal.put_subquery-returns-then-leaves_subquery-clause-parts
-put_subquery-returns-then-leaves_subquery-clause-parts t c =
-    subst (λ x. OnOk c.put_alone.result (c.put_alone.new.found ≡ c.args.found.now ++ x)) (alone_parts c.args.frame.catalog.now c.args.frame.leaving c.args.frame.relations.now c.args.q.now c.args.start c.args.outer c.args.given (first_set c.args.begun.now) c.in_ok-way.way c.in_ok-distribution.distribution c.leaves_subquery.result c.in_ok-way.ensures c.in_ok-distribution.ensures c.leaves_subquery.ensures c.if-leaves_subquery.true) c.put_alone.ensures.parts
+pub put_subquery-returns-then-leaves-clause-parts : goal.put_subquery-returns-then-leaves-clause-parts
+put_subquery-returns-then-leaves-clause-parts t c =
+    subst (λ x. OnOk c.put_alone.result (c.put_alone.new.found ≡ c.args.found.now ++ x)) (alone_parts c.args.frame.catalog.now c.args.frame.leaving c.args.frame.relations.now c.args.q.now c.args.start c.args.outer c.args.given (first_set c.args.begun.now) c.in_ok-way.way c.in_ok-leaves.leaves c.in_ok-way.ensures c.in_ok-leaves.ensures c.if-leaves.true) c.put_alone.ensures.parts
 
-pub put_subquery-returns-else-leaves_subquery-clause-stays : goal.put_subquery-returns-else-leaves_subquery-clause-stays
-put_subquery-returns-else-leaves_subquery-clause-stays t c =
-    subst (λ x. IfOk c.put_within.result (λ f. f ≡ x)) (within_place c.args.frame.catalog.now c.args.frame.leaving c.args.frame.relations.now c.args.q.now c.args.start c.args.outer c.args.given (first_set c.args.begun.now) c.in_ok-way.way c.in_ok-distribution.distribution c.leaves_subquery.result c.in_ok-way.ensures c.in_ok-distribution.ensures c.leaves_subquery.ensures c.if-leaves_subquery.false) c.put_within.ensures.stays
+pub put_subquery-returns-else-leaves-clause-stays : goal.put_subquery-returns-else-leaves-clause-stays
+put_subquery-returns-else-leaves-clause-stays t c =
+    subst (λ x. IfOk c.put_within.result (λ f. f ≡ x)) (within_place c.args.frame.catalog.now c.args.frame.leaving c.args.frame.relations.now c.args.q.now c.args.start c.args.outer c.args.given (first_set c.args.begun.now) c.in_ok-way.way c.in_ok-leaves.leaves c.in_ok-way.ensures c.in_ok-leaves.ensures c.if-leaves.false) c.put_within.ensures.stays
 
-pub put_subquery-returns-else-leaves_subquery-clause-parts : goal.put_subquery-returns-else-leaves_subquery-clause-parts
-put_subquery-returns-else-leaves_subquery-clause-parts t c =
-    subst (λ x. OnOk c.put_within.result (c.put_within.new.found ≡ c.args.found.now ++ x)) (within_parts c.args.frame.catalog.now c.args.frame.leaving c.args.frame.relations.now c.args.q.now c.args.start c.args.outer c.args.given (first_set c.args.begun.now) c.in_ok-way.way c.in_ok-distribution.distribution c.leaves_subquery.result c.in_ok-way.ensures c.in_ok-distribution.ensures c.leaves_subquery.ensures c.if-leaves_subquery.false) c.put_within.ensures.parts
+pub put_subquery-returns-else-leaves-clause-parts : goal.put_subquery-returns-else-leaves-clause-parts
+put_subquery-returns-else-leaves-clause-parts t c =
+    subst (λ x. OnOk c.put_within.result (c.put_within.new.found ≡ c.args.found.now ++ x)) (within_parts c.args.frame.catalog.now c.args.frame.leaving c.args.frame.relations.now c.args.q.now c.args.start c.args.outer c.args.given (first_set c.args.begun.now) c.in_ok-way.way c.in_ok-leaves.leaves c.in_ok-way.ensures c.in_ok-leaves.ensures c.if-leaves.false) c.put_within.ensures.parts
