@@ -8,7 +8,7 @@ ghost use Rattle.cq_explain.specs.Pieces.{outer_by, first_set as first_set_by_ru
 ghost use Rattle.cq_one_plan.specs.declared.plan.Part.TheVariants.{Leaves, Asks};
 ghost use Rattle.cq_one_plan.specs.Stays.{query_staying};
 ghost use Rattle.cq_one_plan.specs.Plans.{plan_of as plan_by_definition, parts_inside};
-ghost use Rattle.cq_planner.specs.Walks.{IsWalked, lone_subquery as lone_by_rule, alone as alone_by_rule, next_in, parts_of_query, query_in_place, cte_plan_list, in_plan_list};
+ghost use Rattle.cq_planner.specs.Walks.{IsWalked, lone_subquery as lone_by_rule, alone as alone_by_rule, parts_of_query, query_in_place, cte_plan_list, in_plan_list};
 
 use crate::block::{lone_plan, plan_by};
 use crate::counting::{Numbers, count_each, count_query, sum};
@@ -234,10 +234,15 @@ fn put_subquery(
 {
     let way = pushable(frame.alloc, frame.catalog, q)?;
     let leaves = leaves_at(frame, start.column, way, outer)?;
+    let second = plus(start.relations, 1)?;
+    let next = Numbers {
+        ins: start.ins,
+        relations: second,
+    };
     if leaves {
-        put_alone(frame, q, start, way, given, begun, found)
+        put_alone(frame, q, start.relations, next, way, given, begun, found)
     } else {
-        put_within(frame, q, start, given, found)
+        put_within(frame, q, next, given, found)
     }
 }
 
@@ -258,34 +263,24 @@ fn leaves_at(
     Ok(leaves_subquery(frame.leaving, frame.relations, &relation))
 }
 
-/// The numbers behind that of a relation.
-fn behind_one(start: Start) -> Result<Numbers, NoMemory>
-    ensures { IfOk result (λ n. n ≡ next_in start) }
-{
-    Ok(Numbers {
-        ins: start.ins,
-        relations: plus(start.relations, 1)?,
-    })
-}
-
 /// Puts the plan of a subquery of a FROM last that is planned by itself; and gives the result that stands for it.
 #[cycle(planner)]
 fn put_alone(
     frame: Frame<'_>,
     q: &Query,
-    start: Start,
+    number: u64,
+    next: Numbers,
     way: Option<Pushable>,
     given: Items<Said>,
     begun: &[Begun],
     found: &mut Parts,
 ) -> Result<FromTree, NoMemory>
-    ensures stays { IfOk result (λ f. f ≡ result_in start.relations (out-Query q.now).shown) }
-    ensures parts { OnOk result (found.new ≡ found.old ++ Leaves (alone_by_rule frame.entry.catalog.now q.now start.relations (next_in start) way given (first_set_by_rule begun.now)) ∷ []) }
+    ensures stays { IfOk result (λ f. f ≡ result_in number (out-Query q.now).shown) }
+    ensures parts { OnOk result (found.new ≡ found.old ++ Leaves (alone_by_rule frame.entry.catalog.now q.now number next way given (first_set_by_rule begun.now)) ∷ []) }
 {
-    let next = behind_one(start)?;
-    let plan = alone(frame, q, start.relations, next, way, given, begun)?;
+    let plan = alone(frame, q, number, next, way, given, begun)?;
     found.put(Part::Leaves(plan))?;
-    as_result(start.relations, q.shown)
+    as_result(number, q.shown)
 }
 
 /// Puts the parts of a subquery of a FROM last that stays in its block; and gives what stays of it.
@@ -293,14 +288,13 @@ fn put_alone(
 fn put_within(
     frame: Frame<'_>,
     q: &Query,
-    start: Start,
+    next: Numbers,
     given: Items<Said>,
     found: &mut Parts,
 ) -> Result<FromTree, NoMemory>
-    ensures stays { IfOk result (λ f. f ≡ sub_in (query_staying frame.entry.catalog.now (inside_by_rule frame.entry.leaving) q.now (start.relations + 1))) }
-    ensures parts { OnOk result (found.new ≡ found.old ++ parts_inside frame.entry.catalog.now (inside_by_rule frame.entry.leaving) q.now given start.ins (start.relations + 1)) }
+    ensures stays { IfOk result (λ f. f ≡ sub_in (query_staying frame.entry.catalog.now (inside_by_rule frame.entry.leaving) q.now next.relations)) }
+    ensures parts { OnOk result (found.new ≡ found.old ++ parts_inside frame.entry.catalog.now (inside_by_rule frame.entry.leaving) q.now given next.ins next.relations) }
 {
-    let next = behind_one(start)?;
     let leaving = inside(frame.leaving);
     let stays = put_inside(frame.alloc, frame.catalog, leaving, q, given, next, found)?;
     sub(frame.alloc, stays)

@@ -1,6 +1,8 @@
-use Rattle.std.proofs.Common.{◌≡◌, ℕ, ◌+◌, ◌++◌, [], map, None, Some, IfOk, OnOk, ap, subst, ◌∙◌}
+use Rattle.std.proofs.Common.{◌≡◌, ℕ, ◌+◌, ◌++◌, ◌∷◌, [], map, None, Some, IfOk, OnOk, ap, subst, ◌∙◌}
 use Rattle.cq_tree.specs.declared.query.Query.{out-Query}
-use Rattle.cq_meaning.specs.Queries.{columns_in}
+use Rattle.cq_tree.specs.declared.query.FromTree.{Sub}
+use Rattle.cq_outline.specs.Leaving.{inside}
+use Rattle.cq_one_plan.specs.Stays.{query_staying}
 use Rattle.cq_planning.specs.ValueSets.{class_set}
 use Rattle.cq_planning.specs.Pushable.{relations}
 use Rattle.cq_planning.specs.Narrowing.{distribution_in}
@@ -10,11 +12,11 @@ use Rattle.cq_plan.specs.Touches.{as_one}
 use Rattle.cq_plan.proofs.FromNodes.{distribution_cross, distribution_inner, distribution_left}
 use Rattle.cq_plan.proofs.WalkLaws.{free, no_key}
 use Rattle.cq_explain.specs.Pieces.{outer_by, first_set}
-use Rattle.cq_one_plan.specs.declared.plan.Part.TheVariants.{Asks}
+use Rattle.cq_one_plan.specs.declared.plan.Part.TheVariants.{Leaves, Asks}
 use Rattle.cq_one_plan.specs.Plans.{plan_of, parts_inside}
 use Rattle.cq_planner.specs.declared.tables.Start.{Start}
 use Rattle.cq_planner.specs.Counting.{counts_among}
-use Rattle.cq_planner.specs.Walks.{behind, cte_plan_list, in_plan_list}
+use Rattle.cq_planner.specs.Walks.{alone, behind, cte_plan_list, in_plan_list}
 use Rattle.cq_planner.proofs.WalkLaws.{Is, join_by, cross_arm, inner_arm, left_arm, result_arm, sub_arm, alone_place, alone_parts, within_place, within_parts, lone_arm, plan_arm, inside_arm}
 use Rattle.cq_planner.proofs.walk.+planner.Goals as goal
 
@@ -105,12 +107,16 @@ put_subquery-returns-then-leaves-clause-stays t c =
 
 pub put_subquery-returns-then-leaves-clause-parts : goal.put_subquery-returns-then-leaves-clause-parts
 put_subquery-returns-then-leaves-clause-parts t c =
-    subst (λ x. OnOk c.put_alone.result (c.put_alone.new.found ≡ c.args.found.now ++ x)) (alone_parts c.args.frame.catalog.now c.args.frame.leaving c.args.frame.relations.now c.args.q.now c.args.start c.args.outer c.args.given (first_set c.args.begun.now) c.in_ok-way.way c.in_ok-leaves.leaves c.in_ok-way.ensures c.in_ok-leaves.ensures c.if-leaves.true) c.put_alone.ensures.parts
+    subst (λ x. OnOk c.put_alone.result (c.put_alone.new.found ≡ c.args.found.now ++ x)) (alone_parts c.args.frame.catalog.now c.args.frame.leaving c.args.frame.relations.now c.args.q.now c.args.start c.args.outer c.args.given (first_set c.args.begun.now) c.in_ok-way.way c.in_ok-leaves.leaves c.in_ok-way.ensures c.in_ok-leaves.ensures c.if-leaves.true)
+    (subst (λ n. OnOk c.put_alone.result (c.put_alone.new.found ≡ c.args.found.now ++ Leaves (alone c.args.frame.catalog.now c.args.q.now c.args.start.relations (record { ins = c.args.start.ins; relations = n }) c.in_ok-way.way c.args.given (first_set c.args.begun.now)) ∷ []))
+    c.in_ok-second.ensures c.put_alone.ensures.parts)
 
 pub put_subquery-returns-else-leaves-clause-stays : goal.put_subquery-returns-else-leaves-clause-stays
 put_subquery-returns-else-leaves-clause-stays t c =
-    subst (λ x. IfOk c.put_within.result (λ f. f ≡ x)) (within_place c.args.frame.catalog.now c.args.frame.leaving c.args.frame.relations.now c.args.q.now c.args.start c.args.outer c.args.given (first_set c.args.begun.now) c.in_ok-way.way c.in_ok-leaves.leaves c.in_ok-way.ensures c.in_ok-leaves.ensures c.if-leaves.false) c.put_within.ensures.stays
+    subst (λ x. IfOk c.put_within.result (λ f. f ≡ x)) (within_place c.args.frame.catalog.now c.args.frame.leaving c.args.frame.relations.now c.args.q.now c.args.start c.args.outer c.args.given (first_set c.args.begun.now) c.in_ok-way.way c.in_ok-leaves.leaves c.in_ok-way.ensures c.in_ok-leaves.ensures c.if-leaves.false)
+    (subst (λ n. IfOk c.put_within.result (λ f. f ≡ Sub (query_staying c.args.frame.catalog.now (inside c.args.frame.leaving) c.args.q.now n))) c.in_ok-second.ensures c.put_within.ensures.stays)
 
 pub put_subquery-returns-else-leaves-clause-parts : goal.put_subquery-returns-else-leaves-clause-parts
 put_subquery-returns-else-leaves-clause-parts t c =
-    subst (λ x. OnOk c.put_within.result (c.put_within.new.found ≡ c.args.found.now ++ x)) (within_parts c.args.frame.catalog.now c.args.frame.leaving c.args.frame.relations.now c.args.q.now c.args.start c.args.outer c.args.given (first_set c.args.begun.now) c.in_ok-way.way c.in_ok-leaves.leaves c.in_ok-way.ensures c.in_ok-leaves.ensures c.if-leaves.false) c.put_within.ensures.parts
+    subst (λ x. OnOk c.put_within.result (c.put_within.new.found ≡ c.args.found.now ++ x)) (within_parts c.args.frame.catalog.now c.args.frame.leaving c.args.frame.relations.now c.args.q.now c.args.start c.args.outer c.args.given (first_set c.args.begun.now) c.in_ok-way.way c.in_ok-leaves.leaves c.in_ok-way.ensures c.in_ok-leaves.ensures c.if-leaves.false)
+    (subst (λ n. OnOk c.put_within.result (c.put_within.new.found ≡ c.args.found.now ++ parts_inside c.args.frame.catalog.now (inside c.args.frame.leaving) c.args.q.now c.args.given c.args.start.ins n)) c.in_ok-second.ensures c.put_within.ensures.parts)
