@@ -1,5 +1,5 @@
 -- The flaws of a plan's blocks, as code gathers them.
-use Rattle.std.proofs.Common.{◌≡◌, Bool, false, ◌||◌, List, [], ◌∷◌, ◌++◌, Option, refl, sym, ap, ◌∙◌}
+use Rattle.std.proofs.Common.{◌≡◌, Bool, true, false, ◌||◌, List, [], ◌∷◌, ◌++◌, Option, refl, sym, ap, ◌∙◌}
 use Rattle.std.specs.List.{list_any}
 use Rattle.std.proofs.lemmas.List.Folds.{list_any-append}
 use denote.Hole.Carrier.{hidden}
@@ -13,7 +13,8 @@ use Rattle.cq_planner.specs.declared.refusing.Flaws.{Flaws}
 use Rattle.cq_planner.specs.Flaws.{no_flaws, either, flaws_by, flaws_within, flaws_among, lowest}
 
 or_false : (b : Bool) → (b || false) ≡ b
-or_false b = grind
+or_false true = refl
+or_false false = refl
 
 module _ (repartition : Bool) where
   -- those of blocks

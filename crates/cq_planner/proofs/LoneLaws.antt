@@ -1,6 +1,6 @@
 -- The query of a right side that is planned by itself, as code makes it.
 use Rattle.std.proofs.Common.{◌≡◌, ℕ, zero, suc, ◌+◌, ◌-◌, ◌/◌, ◌<◌, ◌≤◌, List, [], ◌∷◌, ◌++◌, map, length, take, drop, true, Some, refl, sym, ap, ◌∙◌, arith, add-one, add-zero, zero-add, length-drop}
-use Rattle.std.proofs.lemmas.List.{length-take-le}
+use Rattle.std.proofs.lemmas.List.{length-take-le, take_all}
 use Rattle.cq_value.specs.declared.value.Value.{Value}
 use Rattle.cq_value.specs.declared.value.Value.TheVariants.{Null}
 use Rattle.cq_tree.specs.declared.expression.Op.TheVariants.{Eq}
@@ -73,6 +73,9 @@ two_halved y values first second k a b many e f s l r = record { made = by_steps
         (λ i. Or (made_first i) (made_second i))
         ∙ ((λ i. Or (halves most true (sym taken i)) (halves most true (sym left_out i)))
         ∙ sym (in_halves most cs (omega (arith, count, many))))
+
+pub rest_taken : (k : ℕ) (values : List Value) → take (length values - k) (drop k values) ≡ drop k values
+rest_taken k values = take_all (length values - k) (drop k values) (omega (arith, length-drop k values))
 
 pub none_listed : (y : ℕ) (values : List Value) (c : Cond) → length values ≡ 0 → c ≡ equality y Null → c ≡ set_filter y (Some values)
 none_listed y [] c n e = e

@@ -6,12 +6,8 @@ use Rattle.cq_tree.specs.declared.query.Query.{Query}
 use Rattle.cq_catalog.specs.Contents.{Contents}
 use Rattle.cq_planning.specs.Routing.{fits_fast_path, fits_router}
 use Rattle.cq_planning.specs.Blocks.{is_taken_whole}
-use Rattle.cq_outline.specs.declared.joining.Joined.{Joined}
-use Rattle.cq_outline.specs.Tasking.{planner_of, parting_by, shares_rows}
-use Rattle.cq_one_plan.specs.declared.plan.Grounds.{Grounds}
-use Rattle.cq_one_plan.specs.Plans.{grounds_of}
-use Rattle.cq_planner.specs.declared.strategy.Strategy.{Strategy}
-use Rattle.cq_planner.specs.Strategies.{strategy_of, takes_whole}
+use Rattle.cq_outline.specs.Tasking.{planner_of}
+use Rattle.cq_planner.specs.Strategies.{takes_whole}
 
 chosen : (fast routed none several : Bool) → takes_whole (if fast then FastPath else (if routed then Router else (if none then Coordinator else (if several then Repartition else Pushdown)))) ≡ (fast || routed)
 chosen true routed none several = refl
@@ -23,13 +19,3 @@ chosen false false false false = refl
 -- the fast path and the router take a block whole
 pub taken_whole : (c : Contents) (q : Query) (planner : Planner) (whole : Bool) → planner ≡ planner_of c q → whole ≡ takes_whole planner → whole ≡ is_taken_whole c q
 taken_whole c q planner whole p w = w ∙ (ap takes_whole p ∙ chosen (fits_fast_path c q) (fits_router c q) _ _)
-
-abbrev decided : Planner → Joined → Bool → Grounds → Strategy
-decided planner parting shares grounds = record { planner = planner; parting = parting; shares = shares; grounds = grounds }
-
-pub strategy_found : (c : Contents) (q : Query) (planner : Planner) (parting : Joined) (shares : Bool) (grounds : Grounds) →
-    planner ≡ planner_of c q → parting ≡ parting_by c planner q → shares ≡ shares_rows parting.class q → grounds ≡ grounds_of c q →
-    record { planner = planner; parting = parting; shares = shares; grounds = grounds } ≡ strategy_of c q
-strategy_found c q planner parting shares grounds p t s g =
-    let t' : parting ≡ parting_by c (planner_of c q) q = t ∙ ap (λ x. parting_by c x q) p in
-    λ i. decided (p i) (t' i) ((s ∙ ap (λ (x : Joined). shares_rows x.class q) t') i) (g i)

@@ -24,5 +24,5 @@ rolled x = ap (λ (rest : List Touch). rest ++ x.touches) (all_hidden x.subplans
 pub touches_is : (p : Plan) → touches_in p ≡ flat_map touches_in (out-Plan p).subplans ++ (out-Plan p).touches
 touches_is p = ap touches_in (sym (roll-out-Plan p)) ∙ rolled (out-Plan p)
 
-pub groups_found : (c : Contents) (p : Plan) (all : List Touch) (groups v : List ℕ) → all ≡ touches_in p → groups ≡ flat_map (λ (t : Touch). t.1) all → v ≡ in_order c groups → v ≡ groups_touched c p
-groups_found c p all groups v t g is = is ∙ ap (in_order c) (g ∙ ap (flat_map (λ (t : Touch). t.1)) t)
+pub groups_found : (c : Contents) (p : Plan) (all : List Touch) (groups : List ℕ) → all ≡ touches_in p → groups ≡ flat_map (λ (t : Touch). t.1) all → in_order c groups ≡ groups_touched c p
+groups_found c p all groups t g = ap (in_order c) (g ∙ ap (flat_map (λ (t : Touch). t.1)) t)

@@ -31,7 +31,6 @@ fn either(alloc: Global, a: Cond, b: Cond) -> Result<Cond, NoMemory>
 }
 
 /// `y = value` of one of some values, as a tree of halves.
-#[tactic(auto, using(crate::proofs::LoneLaws::two_halved))]
 fn equals_any(alloc: Global, column: u32, values: &[Value]) -> Result<Cond, NoMemory>
     ensures { IfOk result (λ c. IsHalved column values.now c) }
 {

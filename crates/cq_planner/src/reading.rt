@@ -75,7 +75,6 @@ fn groups_of(alloc: Global, touches: &[Touch]) -> Result<Positions, NoMemory>
 /// The groups that a plan touches, in ascending order.
 ///
 /// Errors: want of memory.
-#[tactic(auto, using(crate::proofs::TouchLaws::groups_found))]
 pub fn groups_touched(
     alloc: Global,
     catalog: &Catalog,
