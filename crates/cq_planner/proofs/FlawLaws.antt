@@ -7,10 +7,10 @@ use Rattle.cq_tree.specs.declared.unsupported.Unsupported.{Unsupported}
 use Rattle.cq_one_plan.specs.declared.plan.Plan.{Plan, out-Plan, roll-Plan, roll-out-Plan, Row_of-Plan, end_of-Plan, more_of-Plan, items-the_row-Plan, items_hidden-the_row-Plan-0}
 use Rattle.cq_one_plan.specs.declared.plan.Plan.TheBlock.{hidden-the_row-Plan-0}
 use Rattle.cq_one_plan.specs.declared.plan.Plan.TheOpen.{Plan-F}
-use Rattle.cq_one_plan.specs.Reading.{blocks_in_order, blocks_of_all, touches_in, touches_of_all}
+use Rattle.cq_one_plan.specs.Reading.{blocks_in_order, blocks_of_all}
 use Rattle.cq_one_plan.specs.Refusing.{grounds_in, needs_repartition, refusal_in}
 use Rattle.cq_planner.specs.declared.refusing.Flaws.{Flaws}
-use Rattle.cq_planner.specs.Flaws.{no_flaws, either, flaws_by, flaws_within, flaws_among, lowest}
+use Rattle.cq_planner.specs.Flaws.{either, flaws_by, flaws_within, flaws_among, lowest}
 
 or_false : (b : Bool) → (b || false) ≡ b
 or_false true = refl

@@ -6,7 +6,7 @@ use Rattle.cq_value.specs.declared.value.Value.TheVariants.{Null}
 use Rattle.cq_tree.specs.declared.expression.Op.TheVariants.{Eq}
 use Rattle.cq_tree.specs.declared.expression.Expr.{Literal, Column}
 use Rattle.cq_tree.specs.declared.expression.Cond.{Cond, Compare, Or}
-use Rattle.cq_meaning.specs.Chains.{halves, halved}
+use Rattle.cq_meaning.specs.Chains.{halves}
 use Rattle.cq_task_laws.specs.Partial.{columns_from}
 use Rattle.cq_one_plan.specs.Stays.{set_filter}
 use Rattle.cq_planner.specs.Made.{IsHalved}

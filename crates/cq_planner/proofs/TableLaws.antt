@@ -4,12 +4,11 @@ use Rattle.cq_value.specs.declared.value.Value.{Value}
 use Rattle.cq_tree.specs.declared.query.FromTree.{FromTree, Table}
 use Rattle.cq_catalog.specs.Contents.{Contents}
 use Rattle.cq_catalog.specs.Placement.{place_at}
-use Rattle.cq_planning.specs.ValueSets.{ValueSet, class_set}
+use Rattle.cq_planning.specs.ValueSets.{ValueSet}
 use Rattle.cq_planning.specs.Relations.{OuterJoin, Relation, distribution_at}
-use Rattle.cq_planning.specs.Occurrences.{occurrence_of, key_values}
-use Rattle.cq_shape.specs.Labels.{label}
+use Rattle.cq_planning.specs.Occurrences.{occurrence_of}
 use Rattle.cq_plan.specs.declared.sets.Begun.{Begun}
-use Rattle.cq_plan.specs.Begun.{one_begun, set_at, set_of, sets_under, seen}
+use Rattle.cq_plan.specs.Begun.{one_begun, set_of, seen}
 use Rattle.cq_plan.specs.Touches.{touches}
 use Rattle.cq_plan.proofs.WalkLaws.{key_is}
 use Rattle.cq_outline.specs.declared.outline.Leaving.{Leaving}

@@ -113,5 +113,13 @@ pub fn lone_plan(
     ensures { IfOk result (λ p. p ≡ lone_by_rule catalog.now number planner parts query) }
 {
     let strategy = lone_strategy(alloc, planner);
-    plan_by(alloc, catalog, number, strategy, Plans::new(alloc), parts, query)
+    plan_by(
+        alloc,
+        catalog,
+        number,
+        strategy,
+        Plans::new(alloc),
+        parts,
+        query,
+    )
 }

@@ -28,11 +28,7 @@ fn put_touches(alloc: Global, plan: &Plan, found: &mut Touches) -> Result<(), No
 }
 
 #[cycle(touches)]
-fn put_touches_of_all(
-    alloc: Global,
-    plans: &[Plan],
-    found: &mut Touches,
-) -> Result<(), NoMemory>
+fn put_touches_of_all(alloc: Global, plans: &[Plan], found: &mut Touches) -> Result<(), NoMemory>
     ensures { OnOk result (found.new ≡ found.old ++ flat_map touches_in plans.now) }
 {
     for plan in plans {
@@ -75,11 +71,7 @@ fn groups_of(alloc: Global, touches: &[Touch]) -> Result<Positions, NoMemory>
 /// The groups that a plan touches, in ascending order.
 ///
 /// Errors: want of memory.
-pub fn groups_touched(
-    alloc: Global,
-    catalog: &Catalog,
-    plan: &Plan,
-) -> Result<Positions, NoMemory>
+pub fn groups_touched(alloc: Global, catalog: &Catalog, plan: &Plan) -> Result<Positions, NoMemory>
     ensures { IfOk result (λ v. v ≡ groups_by_rule catalog.now plan.now) }
 {
     let all = touches(alloc, plan)?;

@@ -13,21 +13,21 @@ pub count_from-returns-in_ok-count_from-in-Cross-2 : goal.count_from-returns-in_
 count_from-returns-in_ok-count_from-in-Cross-2 t c =
     subst (λ x. IfOk c.sum-in-Cross.result (λ n. n ≡ x))
     (cross_found c.in-Cross.a c.in-Cross.b c.in_ok-count_from-in-Cross.field-0 c.in_ok-count_from-in-Cross-2.field-0 (c.in_ok-count_from-in-Cross.ensures ∙ ap counts_in c.get-in-Cross.ensures) (c.in_ok-count_from-in-Cross-2.ensures ∙ ap counts_in c.get-in-Cross-2.ensures)
-        ∙ ap counts_in (sym c.in-Cross.is))
+    ∙ ap counts_in (sym c.in-Cross.is))
     c.sum-in-Cross.ensures
 
 pub count_from-returns-in_ok-count_from-in-Inner-2 : goal.count_from-returns-in_ok-count_from-in-Inner-2
 count_from-returns-in_ok-count_from-in-Inner-2 t c =
     subst (λ x. IfOk c.sum-in-Inner.result (λ n. n ≡ x))
     (inner_found c.in-Inner.a c.in-Inner.b c.in-Inner.field-2 c.in_ok-count_from-in-Inner.field-0 c.in_ok-count_from-in-Inner-2.field-0 (c.in_ok-count_from-in-Inner.ensures ∙ ap counts_in c.get-in-Inner.ensures) (c.in_ok-count_from-in-Inner-2.ensures ∙ ap counts_in c.get-in-Inner-2.ensures)
-        ∙ ap counts_in (sym c.in-Inner.is))
+    ∙ ap counts_in (sym c.in-Inner.is))
     c.sum-in-Inner.ensures
 
 pub count_from-returns-in_ok-count_from-in-Left-2 : goal.count_from-returns-in_ok-count_from-in-Left-2
 count_from-returns-in_ok-count_from-in-Left-2 t c =
     subst (λ x. IfOk c.sum-in-Left.result (λ n. n ≡ x))
     (left_found c.in-Left.a c.in-Left.b c.in-Left.field-2 c.in_ok-count_from-in-Left.field-0 c.in_ok-count_from-in-Left-2.field-0 (c.in_ok-count_from-in-Left.ensures ∙ ap counts_in c.get-in-Left.ensures) (c.in_ok-count_from-in-Left-2.ensures ∙ ap counts_in c.get-in-Left-2.ensures)
-        ∙ ap counts_in (sym c.in-Left.is))
+    ∙ ap counts_in (sym c.in-Left.is))
     c.sum-in-Left.ensures
 
 pub count_query-returns : goal.count_query-returns

@@ -1,4 +1,4 @@
-use Rattle.std.proofs.Common.{◌≡◌, sym, ap, ◌∙◌}
+use Rattle.std.proofs.Common.{sym, ap, ◌∙◌}
 use Rattle.cq_planner.specs.Flaws.{either, flaws_among}
 use Rattle.cq_planner.proofs.FlawLaws.{within_is}
 use Rattle.cq_planner.proofs.refusing.+flaws.Goals as goal
