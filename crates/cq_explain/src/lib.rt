@@ -18,9 +18,12 @@ mod rows;
 mod shards;
 mod tasking;
 
+pub use component::few;
 pub use explaining::explain;
-pub use joining::parting_of;
+pub use joining::{nothing as nothing_joined, parting_of};
+pub use leaving::{inside, leaves, leaves_subquery, leaving_by};
 pub use lines::Lines;
-pub use planner::planner_of;
+pub use pieces::{copy_said, outer_of, table_planner};
+pub use planner::{planner_of, subquery_planner};
 pub use rows::rows_of;
-pub use tasking::{combine_by, shares_rows};
+pub use tasking::{combine_by, shares_rows, shown_planner, tasks_of};

@@ -67,7 +67,7 @@ fn is_one(relations: &[Begun]) -> bool
 }
 
 /// The planner of a table that is planned by itself.
-fn table_planner(
+pub fn table_planner(
     alloc: Global,
     catalog: &Catalog,
     table: u32,

@@ -10,4 +10,5 @@ mod pairs;
 mod refusals;
 
 pub use cuts::has_loose_cut;
+pub use flaws::{Flaws, flaws_of};
 pub use refusals::refusal_of;
