@@ -1,5 +1,5 @@
 -- The calls of a move of a group that is held alone.
-use Rattle.std.proofs.Common.{◌≡◌, ◌≢◌, ◌∙◌, ◌<◌, ◌≤◌, ℕ, zero, suc, List, [], ◌∷◌, ◌++◌, length, refl, sym, ap, subst, Some, slice_get, append-nil, get_or, length-set, vec_capacity, Result, Ok, Err, OnOk, OnErr, IfOk, IfErr}
+use Rattle.std.proofs.Common.{◌≡◌, ◌∙◌, ◌<◌, ◌≤◌, ℕ, List, [], ◌∷◌, ◌++◌, length, refl, sym, ap, subst, Some, slice_get, append-nil, get_or, length-set, vec_capacity, Result, Ok, Err, OnOk, OnErr, IfOk, IfErr}
 use Rattle.std.specs.List.{AllZip, flat_map}
 use Rattle.std.specs.declared.vec.Vec.{Vec}
 use Rattle.std.specs.declared.alloc.Global.{Global}
@@ -30,7 +30,7 @@ use Rattle.cq_reach.proofs.Growth.{got_at, got_below, one_item, set_beside, set_
 use Rattle.cq_reach.proofs.Failing.{fails_in}
 use Rattle.cq_move_calls.specs.Held.{AreKept, GoesOnAt, GroupsAreSteady, HasFailedBy, RestsAt, seen_in}
 use Rattle.cq_move_calls.specs.Moving.{AreSteadyOn, ComesIn, CouldStart, IsMover, RefusesStart, TellsChanges, TellsExchanged, TellsStart, Told, kinds_on}
-use Rattle.cq_move_calls.proofs.Keeping.{exchanged_steady}
+use Rattle.cq_move_calls.specs.Keeping.{exchanged_steady}
 
 -- nobody else entered anything
 told_alone : {X : Type 0} (comes : Entry → Type 0) (who : Who) (kinds : List EntryKind) (fact : Seen → Type 0) (g h : GroupState X) → fact (seen_of g) → outlines h ≡ outlines g → h.nodes ≡ g.nodes → h.journal.group ≡ g.journal.group → h.journal.opening ≡ g.journal.opening →

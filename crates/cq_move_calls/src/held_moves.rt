@@ -1,4 +1,4 @@
-ghost use Rattle.cq_move_calls.proofs.Keeping.{kept_none, kept_steady, kept_twice, went_none, went_twice};
+ghost use Rattle.cq_move_calls.specs.Keeping.{kept_none, kept_steady, kept_twice, went_none, went_twice};
 ghost use Rattle.cq_move_calls.specs.Held.{seen_in, RestsAt, AreKept, GoesOnAt, HasFailedBy, GroupsAreSteady};
 ghost use Rattle.std.specs.Prelude.{◌≡◌, ◌<◌, ℕ, length, slice_get, IfOk, IfErr, OnOk, OnErr};
 ghost use Rattle.std.specs.List.{AllZip};

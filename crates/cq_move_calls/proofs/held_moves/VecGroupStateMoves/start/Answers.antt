@@ -1,7 +1,5 @@
-use Rattle.std.proofs.Common.{◌<◌, ◌∙◌, IfOk, OnOk, ap, subst}
+use Rattle.std.proofs.Common.{IfOk, OnOk}
 use Rattle.cq_tree.specs.declared.journal.EntryKind.TheVariants.{MoveStart}
-use Rattle.cq_journal.specs.Stations.{node_of}
-use Rattle.cq_reach.specs.Seen.{Seen}
 use Rattle.cq_move_calls.specs.Moving.{ComesIn, IsMover, TellsStart, Told, kinds_on}
 use Rattle.cq_move_calls.proofs.CallLaws as laws
 use Rattle.cq_move_calls.proofs.held_moves.VecGroupStateMoves.start.Goals as goal
