@@ -2,3 +2,5 @@ pub mod EnterLaws
 pub mod RoundLaws
 pub mod PassLaws
 pub mod LoopLaws
+pub mod BeginLaws
+pub mod EndLaws

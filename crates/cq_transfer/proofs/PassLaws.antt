@@ -18,7 +18,8 @@ use Rattle.cq_group.specs.Calls.{GoesOn, Lifted}
 use Rattle.cq_group.specs.Moves.{is_of_move, parted, upto_move, changed_since}
 use Rattle.cq_group.specs.Incoming.{IsIncoming, IsSettled, arriving, rows_in}
 use Rattle.cq_group.proofs.MoveLaws.{station_push, move_push}
-use Rattle.cq_reach.specs.Seen.{Seen, with_kinds}
+use Rattle.cq_reach.specs.Seen.{Seen}
+use Rattle.cq_reach.specs.Outlook.{IsGrown}
 use Rattle.cq_move_calls.specs.Moving.{Told, ComesAside, ComesIn, CouldStart, IsMover, TellsAnything, TellsChanges, kinds_on}
 use Rattle.cq_move.specs.declared.mover.MoveReport.{MoveReport}
 use Rattle.cq_transfer.specs.Entering.{Catches, Enters, HasCaught, HasMoved, HasStopped, HasTried, IsBehind, Tries}
@@ -66,6 +67,14 @@ module _ (comes : Entry → Type 0) (who : Who) where
     tables = ap (λ (v : Seen). v.tables) (told_is m);
     node = ap (λ (v : Seen). node_of v.journal) ((told_is m) ∙ sym (more_none (with_more m.grown.more s)))
         ∙ ap (λ (v : Station). v.node) (station_aside s m.grown.more (all_weaker (ComesAside comes) (λ (e : Entry). is_of_move e.kind ≡ false) (λ e c. c.1) m.grown.more m.grown.all));
+  }
+
+  -- others' entries do so too
+  pub found_stays : (s f : Seen) → IsGrown (ComesAside comes) s f → Stays s f
+  found_stays s f g = record {
+    tables = ap (λ (v : Seen). v.tables) g.is;
+    node = ap (λ (v : Seen). node_of v.journal) g.is
+        ∙ ap (λ (v : Station). v.node) (station_aside s g.more (all_weaker (ComesAside comes) (λ (e : Entry). is_of_move e.kind ≡ false) (λ e c. c.1) g.more g.all));
   }
 
 pub stays_none : (s : Seen) → Stays s s

@@ -146,12 +146,11 @@ fn finish<S: Store, M: Moves<S>, G: Gate>(
 ) -> Result<Moved<S>, NotMoved<S>>
     requires ready { M.ready moves.old order.who order.group }
     requires moving { IsMoving S.state order.who (M.seen moves.old order.group) incoming }
-    requires distributed { 0 < node_of (M.seen moves.old order.group).journal }
     ensures ready { M.ready moves.new order.who order.group }
     ensures keeps { M.keeps order.group moves.old moves.new }
     ensures copied { IfOk result (λ m. m.report.copied ≡ incoming.due) }
     ensures finished { IfOk result (λ m. Finishes (M.comes moves.old order.who) order.who m.report (M.seen moves.old order.group) (M.seen moves.new order.group)) }
-    ensures old { IfOk result (λ m. AreOf S.state (node_of (M.seen moves.old order.group).journal) (length (M.seen moves.old order.group).tables) m.stores.items) }
+    ensures old { IfOk result (λ m. 0 < node_of (M.seen moves.old order.group).journal → AreOf S.state (node_of (M.seen moves.old order.group).journal) (length (M.seen moves.old order.group).tables) m.stores.items) }
     ensures steady { IfOk result (λ m. (node : ℕ) → M.steady moves.old node → AreSteadyOn S.state node (arriving incoming) → M.steady moves.new node × AreSteadyOn S.state node m.stores.items) }
     ensures begun { IfErr result (λ e. e.begun ≡ true) }
     ensures stopped { OnErr result (GivesUp (M.comes moves.old order.who) order.who (M.seen moves.old order.group) (M.seen moves.new order.group)) }
@@ -200,7 +199,7 @@ pub fn transfer<S: Store, M: Moves<S>, G: Gate>(
     ensures ready { M.ready moves.new order.who order.group }
     ensures keeps { M.keeps order.group moves.old moves.new }
     ensures moved { IfOk result (λ m. HasMoved (M.comes moves.old order.who) order.who order.from order.to m.report (M.seen moves.old order.group) (M.seen moves.new order.group)) }
-    ensures old { IfOk result (λ m. AreOf S.state order.from (length stores.items) m.stores.items) }
+    ensures old { IfOk result (λ m. 0 < order.from → AreOf S.state order.from (length stores.items) m.stores.items) }
     ensures steady { IfOk result (λ m. (node : ℕ) → M.steady moves.old node → AreSteadyOn S.state node stores.items → M.steady moves.new node × AreSteadyOn S.state node m.stores.items) }
     ensures refused { IfErr result (λ e. e.begun ≡ false → IsRefused (M.comes moves.old order.who) (λ why. M.failed order.who order.group why moves.old moves.new) order.who order.from order.to stores.items e (M.seen moves.old order.group) (M.seen moves.new order.group)) }
     ensures stopped { IfErr result (λ e. e.begun ≡ true → IsGivenUp S.state (M.comes moves.old order.who) order.who order.from order.to stores.items e (M.seen moves.old order.group) (M.seen moves.new order.group)) }
