@@ -10,9 +10,9 @@ ghost use Rattle.cq_move.specs.Outcomes.{IsTried};
 ghost use Rattle.cq_transfer.specs.Carrying.{AreOf, CanStop, CatchesOnce, Finishes, GivesUp, IsGivenUp, IsMoving, IsRefused, IsUnderWay, TriesOnce};
 ghost use Rattle.cq_move.specs.Steps.{IsToldBy};
 
-use crate::mover::{MoveReport, Moved, NotMoved};
+use cq_move::{MoveReport, Moved, NotMoved};
 use cq_group::{Exchanged, Gate, GroupError, Incoming, MoveRefused, Point, why_of};
-use cq_reach::Moves;
+use cq_move_calls::Moves;
 use cq_store::Store;
 use cq_tree::Who;
 use cq_value::NoMemory;
