@@ -57,13 +57,13 @@ module _ {X : Type 0} (state : X → StoreState) where
 
   -- ---- steady stores
 
-  module _ (R : StoreState → StoreState → Type 0) (node : ℕ) (on : (s t : StoreState) → R s t → t.node ≡ s.node) (as : (s t : StoreState) → R s t → t.steady ≡ s.steady) where
+  module _ (R : StoreState → StoreState → Type 0) (node : ℕ) (on : (s t : StoreState) → R s t → t.node ≡ s.node) (still : (s t : StoreState) → R s t → t.steady ≡ s.steady) where
     steady_then : (xs ys : List X) → AllZip (Lifted state R) xs ys → AreSteadyOn state node xs → AreSteadyOn state node ys
     steady_then [] [] h all = tt
     steady_then [] (y ∷ ys) h all = absurd h
     steady_then (x ∷ xs) [] h all = absurd h
     steady_then (x ∷ xs) (y ∷ ys) h all =
-        ((λ there. subst IsTrue (sym (as (state x) (state y) h.0)) (all.0 (sym (on (state x) (state y) h.0) ∙ there))), steady_then xs ys h.1 all.1)
+        ((λ there. subst IsTrue (sym (still (state x) (state y) h.0)) (all.0 (sym (on (state x) (state y) h.0) ∙ there))), steady_then xs ys h.1 all.1)
 
   pub go_on_steady : (node : ℕ) (xs ys : List X) → AllZip (Lifted state GoesOn) xs ys → AreSteadyOn state node xs → AreSteadyOn state node ys
   go_on_steady node = steady_then GoesOn node (λ s t h. ap (λ (v : StoreState). v.node) h.state) (λ s t h. ap (λ (v : StoreState). v.steady) h.state)
