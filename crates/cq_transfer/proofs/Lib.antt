@@ -2,5 +2,3 @@ pub mod EnterLaws
 pub mod RoundLaws
 pub mod PassLaws
 pub mod LoopLaws
-pub mod BeginLaws
-pub mod EndLaws
