@@ -78,10 +78,10 @@ module _ (comes : Entry → Type 0) (who : Who) where
         is = told_is m ∙ more_twice m.grown.more (entries_by who (kind ∷ [])) s;
       };
       own = sym (
-        steps_append who s.journal m.grown.more (entries_by who (kind ∷ []))
-        ∙ ap (λ (v : List Step). v ++ steps_after who (with_more m.grown.more s).journal (entries_by who (kind ∷ []))) (steps_others who s.journal m.grown.more (not_own m.grown.more m.grown.all))
-        ∙ steps_own who (with_more m.grown.more s).journal (kind ∷ [])
-      );
+          steps_append who s.journal m.grown.more (entries_by who (kind ∷ []))
+          ∙ ap (λ (v : List Step). v ++ steps_after who (with_more m.grown.more s).journal (entries_by who (kind ∷ []))) (steps_others who s.journal m.grown.more (not_own m.grown.more m.grown.all))
+          ∙ steps_own who (with_more m.grown.more s).journal (kind ∷ [])
+          );
     }
 
 -- what may come since may come before

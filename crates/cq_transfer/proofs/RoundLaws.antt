@@ -50,9 +50,9 @@ since_aside p (e ∷ es) h =
 pub changed_behind : (es more : List Entry) → parted es ≡ record { upto = es; since = [] } → AllByRecursion (λ (e : Entry). is_of_move e.kind ≡ false) more → changed_since (es ++ more) ≡ rows more
 changed_behind es more all aside =
     ap (λ (v : List Entry). sum_by (λ (e : Entry). rows_changed e.kind) v) (
-      ap (λ (p : Parted). p.since) (fold-append with_entry (record { upto = []; since = [] }) es more)
-      ∙ since_aside (parted es) more aside
-      ∙ ap (λ (p : Parted). p.since ++ more) all
+    ap (λ (p : Parted). p.since) (fold-append with_entry (record { upto = []; since = [] }) es more)
+    ∙ since_aside (parted es) more aside
+    ∙ ap (λ (p : Parted). p.since ++ more) all
     )
     ∙ sum_same more
 
