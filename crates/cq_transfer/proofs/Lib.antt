@@ -1,0 +1,4 @@
+pub mod EnterLaws
+pub mod RoundLaws
+pub mod PassLaws
+pub mod LoopLaws
