@@ -98,6 +98,7 @@ fault_text (faults.Value row column) = codes "28 value in row " ++ decimal row +
 fault_text (faults.Encoding row) = codes "29 encoding in row " ++ decimal row
 fault_text faults.Duplicate = codes "30 duplicate key"
 fault_text faults.ValueOutOfRange = codes "31 value out of range"
+fault_text faults.NotInBlock = codes "32 not in a block"
 fault_text (faults.Limit what number) = codes "33 limit " ++ what_text what ++ codes " " ++ decimal number
 fault_text (faults.NoNode node) = codes "34 no node " ++ decimal node
 fault_text (faults.Unsupported why) = unsupported_text why

@@ -148,6 +148,7 @@ pub(crate) fn push_fault(out: &mut Vec<u8>, fault: &Fault) -> Result<(), AllocEr
         Fault::Encoding { row } => push_with(out, b"29 encoding in row ", *row),
         Fault::Duplicate => push_words(out, b"30 duplicate key"),
         Fault::ValueOutOfRange => push_words(out, b"31 value out of range"),
+        Fault::NotInBlock => push_words(out, b"32 not in a block"),
         Fault::Limit { what, number } => push_limit(out, *what, *number),
         Fault::NoNode { node } => push_with(out, b"34 no node ", u64::from(*node)),
         Fault::Unsupported(why) => push_unsupported(out, *why),
