@@ -191,6 +191,7 @@ impl Reader {
     ///
     /// Errors: where the piece is out of its place, or passes a limit of the script; for want of memory. Then the reader
     /// stands as before.
+    #[tactic(auto, using(crate::proofs::ReaderLaws::keeps_reading, crate::proofs::ReaderLaws::tells_phase))]
     pub fn take(&mut self, alloc: Global, piece: Piece) -> Result<Items<Placed>, Unread>
         requires { IsReading self.old }
         ensures tells { Tells (with_piece self.old piece) self.old self.new result }
