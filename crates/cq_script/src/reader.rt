@@ -116,7 +116,12 @@ impl Reader {
         }
     }
 
-    fn take_statement(&mut self, alloc: Global, line: u64, item: Item) -> Result<Items<Placed>, Unread>
+    fn take_statement(
+        &mut self,
+        alloc: Global,
+        line: u64,
+        item: Item,
+    ) -> Result<Items<Placed>, Unread>
         requires { IsReading self.old }
         ensures { Tells (with_statement self.old.read self.old.draft line item) self.old self.new result }
     {
@@ -173,14 +178,21 @@ impl Reader {
         }
     }
 
-    fn take_directive(&mut self, alloc: Global, line: u64, directive: Option<Directive>) -> Result<Items<Placed>, Unread>
+    fn take_directive(
+        &mut self,
+        alloc: Global,
+        line: u64,
+        directive: Option<Directive>,
+    ) -> Result<Items<Placed>, Unread>
         requires { IsReading self.old }
         ensures { Tells (with_directive self.old.read self.old.draft line directive) self.old self.new result }
     {
         match directive {
             Some(Directive::Parallel) => self.open(alloc, line),
             Some(Directive::Session(session)) => self.choose(alloc, line, session),
-            Some(Directive::HighSession) if self.draft.is_some() => Err(Unread::Halt(Halt::TooManySessions)),
+            Some(Directive::HighSession) if self.draft.is_some() => Err(Unread::Halt(
+                Halt::TooManySessions,
+            )),
             Some(Directive::End) => self.end(line),
             Some(Directive::HighSession) | None => Err(misplaced(line)),
         }
@@ -191,7 +203,7 @@ impl Reader {
     ///
     /// Errors: where the piece is out of its place, or passes a limit of the script; for want of memory. Then the reader
     /// stands as before.
-    #[tactic(auto, using(crate::proofs::ReaderLaws::keeps_reading, crate::proofs::ReaderLaws::tells_phase))]
+    #[tactic(auto, using(crate::proofs::ReaderLaws::tells_phase))]
     pub fn take(&mut self, alloc: Global, piece: Piece) -> Result<Items<Placed>, Unread>
         requires { IsReading self.old }
         ensures tells { Tells (with_piece self.old piece) self.old self.new result }
@@ -200,7 +212,11 @@ impl Reader {
     {
         match piece {
             Piece::Statement { line, item } => self.take_statement(alloc, line, item),
-            Piece::Directive { line, text } => self.take_directive(alloc, line, read_directive(text.as_slice())),
+            Piece::Directive { line, text } => self.take_directive(
+                alloc,
+                line,
+                read_directive(text.as_slice()),
+            ),
             Piece::Crowded { line } => Err(misplaced(line)),
         }
     }

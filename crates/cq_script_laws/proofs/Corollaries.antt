@@ -6,7 +6,7 @@ use Rattle.cq_script.specs.declared.reader.Reader.{Reader}
 use Rattle.cq_script.specs.declared.reader.Halt.{Halt}
 use Rattle.cq_script.specs.Pieces.{with_last}
 use Rattle.cq_script.specs.Scripts.{first, cut, one, last, pieces, pieces_in}
-use Rattle.cq_script.specs.Directives.{Taken, goes_on, with_piece, read_from, nothing_read, read, at_end, IsBegun, IsWhole}
+use Rattle.cq_script.specs.Directives.{Taken, Read, goes_on, with_piece, read_from, nothing_read, read, at_end, IsBegun, IsWhole}
 use Rattle.cq_script.proofs.ReaderLaws.{read_halted}
 use Rattle.cq_script_laws.proofs.Sound.{up_to_crowded, IsCutAs, script_cut}
 use Rattle.cq_script_laws.proofs.Whole.{script_of}
