@@ -1,4 +1,4 @@
-ghost use Rattle.std.specs.Prelude.{◌≡◌, ◌≤◌, ◌++◌, [], ◌∷◌, length, None, IfOk, OnOk, MatchOption};
+ghost use Rattle.std.specs.Prelude.{◌≡◌, true, ◌≤◌, ◌++◌, [], ◌∷◌, length, None, IfOk, OnOk, MatchOption};
 ghost use Rattle.std.specs.List.{prefix_len, count_by};
 ghost use Rattle.cq_script.specs.Scripts.{first, goes, statement, gives, in_text, begins, in_gap, in_dash, in_rest, keeps, in_data, in_directive, line_behind as line_at, step, cut, last, Gives};
 ghost use Rattle.cq_script.specs.declared.cutter.Piece.TheVariants as piece;

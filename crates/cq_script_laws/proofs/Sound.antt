@@ -1,7 +1,6 @@
 -- What the cutter cuts is the script's pieces, up to the first crowded line.
 use Rattle.std.proofs.Common.{◌≡◌, ℕ, Bool, true, false, Option, Some, None, List, [], ◌∷◌, ◌++◌, refl, sym, ◌∙◌, ap, ap₂, subst, append-nil}
 use Rattle.cq_script.specs.Streams.{counted}
-use Rattle.cq_script.specs.declared.cutter.Item.{Item}
 use Rattle.cq_script.specs.declared.cutter.Piece.{Piece}
 use Rattle.cq_script.specs.declared.cutter.Piece.TheVariants.{Statement, Directive, Crowded}
 use Rattle.cq_script.specs.declared.cutter.Line.TheVariants.{Start}
