@@ -1,5 +1,5 @@
 -- A run of bytes cuts as its bytes do one by one.
-use Rattle.std.proofs.Common.{Bool, true, false, not, ◌&&◌, cond, eqb, ◌≡◌, ◌+◌, ◌-◌, ◌≤◌, ◌<◌, ℕ, zero, suc, None, List, [], ◌∷◌, ◌++◌, length, get_or, take, drop, fold, min, refl, sym, ◌∙◌, ap, subst, arith, append_assoc, append-nil, if◌then◌else◌}
+use Rattle.std.proofs.Common.{Bool, true, false, not, ◌&&◌, cond, eqb, ◌≡◌, ◌+◌, ◌-◌, ◌≤◌, ℕ, zero, suc, None, List, [], ◌∷◌, ◌++◌, length, get_or, take, drop, min, refl, sym, ◌∙◌, ap, subst, arith, append_assoc, append-nil, if◌then◌else◌}
 use Rattle.std.specs.Prelude.{◌==◌}
 use Rattle.std.specs.List.{prefix_len, count_by}
 use Rattle.std.proofs.lemmas.List.Sums.{sum_by-cons, prefix_len_is}
