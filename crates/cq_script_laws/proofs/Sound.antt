@@ -79,15 +79,15 @@ gap_cut : {bytes : List ℕ} → IsGap bytes → (before : List ℕ) (m : ℕ) �
 gap_cut (IsGap.blank b h) before m = (
   m,
   then_one (at (Gap (starts_line before)) (line_at before) m [] []) _ _ b [] [] (blank_step (starts_line before) (line_at before) m b h) refl
-  ∙ ap₂ (gapped [] m) (sym (line_from_append true before (b ∷ []))) (sym (number_append 1 before (b ∷ []))),
+      ∙ ap₂ (gapped [] m) (sym (line_from_append true before (b ∷ []))) (sym (number_append 1 before (b ∷ []))),
 )
 gap_cut (IsGap.comment text h) before m =
     let bytes = 45 ∷ 45 ∷ text ++ 10 ∷ [] in
     let n = line_at before in (
       n,
       comment_ends (starts_line before) n m text h
-      ∙ ap₂ (gapped [] n) (sym (line_from_append true before bytes ∙ line_from_append (line_from (starts_line before) (45 ∷ 45 ∷ [])) text (10 ∷ [])))
-      (sym (number_append 1 before bytes ∙ number_append n text (10 ∷ []) ∙ ap counted (number_in_line n text h))),
+          ∙ ap₂ (gapped [] n) (sym (line_from_append true before bytes ∙ line_from_append (line_from (starts_line before) (45 ∷ 45 ∷ [])) text (10 ∷ [])))
+          (sym (number_append 1 before bytes ∙ number_append n text (10 ∷ []) ∙ ap counted (number_in_line n text h))),
     )
 
 pub record CutsOne (before : List ℕ) (m : ℕ) (bytes : List ℕ) (p : Piece) : Type 0 where
@@ -103,7 +103,7 @@ cuts_piece before bytes m k n p t whole is fresh number = record {
       subst (λ (x : Bool). Stands x (before ++ bytes) (from_gap before m bytes).begun) (sym whole) (
         k,
         ap (λ (c : Cut). c.begun) is
-        ∙ ap₂ (λ (s : Bool) (l : ℕ). at (Gap s) l k [] []) (sym (line_from_append true before bytes ∙ fresh)) (sym (number_append 1 before bytes ∙ number)),
+            ∙ ap₂ (λ (s : Bool) (l : ℕ). at (Gap s) l k [] []) (sym (line_from_append true before bytes ∙ fresh)) (sym (number_append 1 before bytes ∙ number)),
       );
 }
 
@@ -161,7 +161,7 @@ more_out before bytes h =
     let o = out_cut c bytes h in (
       o.0,
       more_bytes before bytes c (record { pieces = []; begun = o.0 }) refl o.1
-      ∙ ap (λ (v : List Piece). let x : Cut = record { pieces = v; begun = o.0 } in x) (append-nil (cut first before).pieces),
+          ∙ ap (λ (v : List Piece). let x : Cut = record { pieces = v; begun = o.0 } in x) (append-nil (cut first before).pieces),
       o.2,
     )
 
