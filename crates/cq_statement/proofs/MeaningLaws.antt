@@ -9,7 +9,6 @@ use Rattle.cq_tree.specs.declared.statement.Statement.{Statement}
 use Rattle.cq_catalog.specs.declared.info.TableInfo.{TableInfo}
 use Rattle.cq_grammar.specs.declared.statement.Ast.{Ast}
 use Rattle.cq_grammar.specs.Verdicts.{Complaint, syntax, depth, Accepted, verdict}
-use Rattle.cq_grammar.specs.Statements.{max_depth}
 use Rattle.cq_grammar.proofs.Whole.{accepted, accepts, refused, deep as too_deep}
 use Rattle.cq_grammar.proofs.Alone.{refuses, deepens}
 use Rattle.cq_reading.specs.declared.error.BindError.{BindError}

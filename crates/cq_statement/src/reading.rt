@@ -1,7 +1,6 @@
-ghost use Rattle.std.specs.Prelude.{◌≡◌, length, Result, Ok, Err, IfOk, IfErr};
+ghost use Rattle.std.specs.Prelude.{◌≡◌, Result, Ok, Err, IfOk, IfErr};
 ghost use Rattle.cq_token.specs.Tokens as lexed;
 ghost use Rattle.cq_tree.specs.declared.statement.Statement.{Statement};
-ghost use Rattle.cq_grammar.specs.Verdicts.{verdict};
 ghost use Rattle.cq_reading.specs.Statements as statements;
 ghost use Rattle.cq_answer.specs.declared.fault.Fault.{Fault};
 ghost use Rattle.cq_statement.specs.Blocks as blocks;
