@@ -1,11 +1,10 @@
 -- Counts of faults of groups, as a block comes.
-use Rattle.std.proofs.Common.{◌≡◌, ◌⊎◌, ◌<◌, ◌≤◌, inl, inr, ℕ, zero, suc, true, false, Bool, List, [], ◌∷◌, ◌++◌, length, filter, refl, sym, ◌∙◌, ap, subst, arith, Some, None, slice_get}
+use Rattle.std.proofs.Common.{◌≡◌, ◌⊎◌, ◌<◌, ◌≤◌, inl, inr, ℕ, zero, suc, true, Bool, List, [], ◌∷◌, ◌++◌, filter, refl, sym, subst, arith, Some, slice_get}
 use Rattle.std.specs.Prelude.{nat_eq, nat_lt}
 use Rattle.std.specs.List.{AllByRecursion, AllZip}
 use Rattle.std.proofs.lemmas.Bool.{le-ltb, lt-ltb}
 use Rattle.cq_value.proofs.Lists.{all_weaker, all_append, all_filtered, got}
 use Rattle.cq_value.proofs.Truths.{two_ways}
-use Rattle.cq_catalog.specs.Contents.{Contents}
 use Rattle.cq_answer.specs.declared.answered.Answered.{Answered}
 use Rattle.cq_store.specs.Stores.{StoreState, Rose}
 use Rattle.cq_history.specs.Phases.{phase_in}
@@ -13,10 +12,10 @@ use Rattle.cq_history.specs.Faults.{AccountsFor, Climbs, NamesBelow, Range, rang
 use Rattle.cq_history.proofs.Lists.{filter_all, got_below}
 use Rattle.cq_group.specs.declared.group.GroupState.{GroupState}
 use Rattle.cq_group.specs.Groups.{stores_of, entries_of}
-use Rattle.cq_cluster.specs.Accounts.{moved_by, behind, AreAccounted}
+use Rattle.cq_cluster.specs.Accounts.{moved_by, behind}
 use Rattle.cq_block_laws.specs.Accounts.{AccountsByPhases, later_phases, AreOfPhases, TellsOf}
 use Rattle.cq_block_laws.proofs.Accounts.{climbs_from, serial_accounts, staying_accounts, moved_accounts}
-use Rattle.cq_block_accounts.specs.Accounts.{AreAccountedByPhases, AreToldOf, IsToldOf, BlockIsAccounted, SerialIsAccounted}
+use Rattle.cq_block_accounts.specs.Accounts.{IsToldOf, BlockIsAccounted, SerialIsAccounted}
 
 -- ---- answers of phases of their own
 
