@@ -1,0 +1,6 @@
+use Rattle.cq_turn_laws.proofs.Spare.{still_spare, moved_took, moved_gave, retired_took, retired_gave}
+use Rattle.cq_turn_laws.proofs.Turns.{turns_go_on, turns_keep, turns_are_laid, turns_are_legal, turns_number, turns_enter}
+use Rattle.cq_turn_laws.proofs.turn_laws.Goals as goal
+
+pub returns : goal.returns
+returns c = record { goes_on = turns_go_on; keep = turns_keep; laid = turns_are_laid; legal = turns_are_legal; number = turns_number; enter = turns_enter; phase = ?; consistent = ?; eras = ? }
