@@ -1,2 +1,4 @@
 pub mod Turns
 pub mod Spare
+pub mod Leaving
+pub mod Judging

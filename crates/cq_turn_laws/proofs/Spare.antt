@@ -60,6 +60,13 @@ pub record Shifts (c : Contents) (bound : Option Statement) (at before after : �
 less_free : (s x y r m : ℕ) → y ≤ x + m → s - x - r ≤ (s - y - r) + m
 less_free s x y r m l = omega (arith, l)
 
+-- where each group is on the same node
+pub same_free : (run : Run) (c : Contents) (retired : List ℕ) (nodes others : ℕ → ℕ) (at : ℕ) → ((g : ℕ) → g < c.groups → others g ≡ nodes g) → free_at run c retired others at ≡ free_at run c retired nodes at
+same_free run c retired nodes others at same =
+    ap (λ n. run.stores at - n - retired_of (at + 1) retired)
+    (same_sum (λ g. cond (is_on (nodes g) (at + 1)) (length (tables_in c g)) 0) (λ g. cond (is_on (others g) (at + 1)) (length (tables_in c g)) 0) 0 c.groups
+    (λ g l m. ap (λ n. cond (is_on n (at + 1)) (length (tables_in c g)) 0) (same g (omega (arith, m)))))
+
 module _ (run : Run) (c : Contents) (old new : List Journal) where
   abbrev pub StaysAt : ℕ → Type 0
   StaysAt g = node_of (journal_in new g) ≡ node_of (journal_in old g)
@@ -71,8 +78,7 @@ module _ (run : Run) (c : Contents) (old new : List Journal) where
   same_weight node g same = ap (λ n. cond (is_on n node) (length (tables_in c g)) 0) same
 
   pub still_spare : (retired : List ℕ) (at : ℕ) → ((g : ℕ) → g < c.groups → StaysAt g) → spare run c retired new at ≡ spare run c retired old at
-  still_spare retired at same =
-      ap (λ n. run.stores at - n - retired_of (at + 1) retired) (same_sum (weight old (at + 1)) (weight new (at + 1)) 0 c.groups (λ g l m. same_weight (at + 1) g (same g (omega (arith, m)))))
+  still_spare retired at same = same_free run c retired (λ g. node_of (journal_in old g)) (λ g. node_of (journal_in new g)) at same
 
   on_node : (m n : ℕ) → 1 ≤ m → is_on m n ≡ nat_eq m n
   on_node m n low = rw (ne_eqb m 0 (λ is. omega (arith, is, low))) refl

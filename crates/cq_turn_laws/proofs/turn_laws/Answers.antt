@@ -1,4 +1,5 @@
-use Rattle.cq_turn_laws.proofs.Spare.{still_spare, moved_took, moved_gave, retired_took, retired_gave}
+use Rattle.cq_turn_laws.proofs.Judging.{judged}
+use Rattle.cq_turn_laws.proofs.Leaving.{shifts}
 use Rattle.cq_turn_laws.proofs.Turns.{turns_go_on, turns_keep, turns_are_laid, turns_are_legal, turns_number, turns_enter}
 use Rattle.cq_turn_laws.proofs.turn_laws.Goals as goal
 
