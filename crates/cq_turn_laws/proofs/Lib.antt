@@ -2,3 +2,4 @@ pub mod Turns
 pub mod Spare
 pub mod Leaving
 pub mod Judging
+pub mod Phasing
