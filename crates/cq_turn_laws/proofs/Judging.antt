@@ -1,5 +1,5 @@
 -- The answer of a statement that ran alone, judged beside the other statements of its block.
-use Rattle.std.proofs.Common.{◌≡◌, ◌+◌, ◌<◌, ◌≤◌, inl, inr, ℕ, List, [], ◌∷◌, length, refl, sym, ◌∙◌, arith, Some, None, Option}
+use Rattle.std.proofs.Common.{◌≡◌, ◌≤◌, ℕ, List, length, refl, ◌∙◌, arith, Some, None, Option}
 use Rattle.std.specs.Prelude.{◌-◌}
 use Rattle.cq_tree.specs.declared.failure.StoreFailure.{StoreFailure}
 use Rattle.cq_tree.specs.declared.write.ShardOp.{ShardOp}
@@ -21,7 +21,7 @@ use Rattle.cq_history.specs.Run.{Run, Environment}
 use Rattle.cq_history.specs.Phases.{MayBeInBlock}
 use Rattle.cq_history.specs.Journals.{journal_in}
 use Rattle.cq_history.specs.Moves.{start_fault}
-use Rattle.cq_history.specs.Room.{free_at, IsRoom}
+use Rattle.cq_history.specs.Room.{IsRoom}
 use Rattle.cq_history.specs.Refusals.{rules}
 use Rattle.cq_history.specs.Standing.{View, IsMadeIn, IsRefusedIn, LacksIdsIn, IsFaultIn, IsReadFault, IsWriteFault, Moves, MovesUnless, IsMovedIn, Runs, RunsUnless, StandsIn}
 use Rattle.cq_history.specs.Deeds.{Deed, Phase, alone, in_deed}

@@ -1,6 +1,6 @@
 -- Where groups are, and how many stores of workers are spare, behind a statement of a block that ran alone.
-use Rattle.std.proofs.Common.{zero, suc, cond, ◌≡◌, ◌≢◌, ◌+◌, ◌<◌, ◌≤◌, inl, inr, ℕ, Bool, true, false, List, [], ◌∷◌, ◌++◌, length, filter, refl, sym, ◌∙◌, ap, subst, arith, Some, None, Option, append-nil, eq-eqb, ne_eqb}
-use Rattle.std.specs.Prelude.{nat_eq, nat_lt, nat_le, fold, option_map, ◌||◌, ◌-◌, ⊤}
+use Rattle.std.proofs.Common.{cond, ◌≡◌, ◌≢◌, ◌+◌, ◌<◌, ◌≤◌, inl, inr, ℕ, Bool, true, List, [], ◌∷◌, ◌++◌, length, filter, refl, sym, ◌∙◌, ap, subst, arith, Some, None, Option, append-nil, eq-eqb, ne_eqb}
+use Rattle.std.specs.Prelude.{nat_eq, nat_lt, fold, option_map, ◌||◌, ◌-◌, ⊤}
 use Rattle.std.specs.List.{AllByRecursion}
 use Rattle.std.proofs.lemmas.Bool.{lt-ltb, le-leb}
 use Rattle.std.proofs.lemmas.Bool.Decides.{eqb_tells}

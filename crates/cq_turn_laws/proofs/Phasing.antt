@@ -1,6 +1,6 @@
 -- Statements of a block that ran one after the other are one phase of the log.
 use Rattle.std.proofs.Common.{◌≡◌, ◌≢◌, ◌⊎◌, ◌+◌, ◌<◌, ◌≤◌, inl, inr, ℕ, Bool, true, false, List, [], ◌∷◌, ◌++◌, length, map, filter, refl, sym, ◌∙◌, ap, subst, arith, Option, append-nil, append_assoc, length-append, eq-eqb, ne_eqb}
-use Rattle.std.specs.Prelude.{nat_eq, ◌&&◌, not}
+use Rattle.std.specs.Prelude.{nat_eq, not}
 use Rattle.std.specs.List.{AllByRecursion, sum_by}
 use Rattle.std.proofs.lemmas.Bool.{eqb-true}
 use Rattle.std.proofs.lemmas.Bool.Decides.{eqb_tells}
@@ -18,13 +18,13 @@ use Rattle.cq_journal.specs.Records.{Journal}
 use Rattle.cq_journal.specs.Stations.{node_of}
 use Rattle.cq_planning.specs.Touched.{among}
 use Rattle.cq_history.specs.Run.{Run, Environment, environment_from, Continues}
-use Rattle.cq_history.specs.Phases.{who_of, is_beside, beside_in, StandsBefore, AreInScriptOrder, MayBeInBlock, AreComplete}
+use Rattle.cq_history.specs.Phases.{who_of, is_beside, StandsBefore, AreInScriptOrder, MayBeInBlock, AreComplete}
 use Rattle.cq_history.specs.Journals.{journal_in, made_by}
 use Rattle.cq_history.specs.Legality.{IsLegal}
 use Rattle.cq_history.specs.Room.{stores_to, stores_from, IsRoom}
 use Rattle.cq_history.specs.Refusals.{rules}
 use Rattle.cq_history.specs.Deeds.{Deed, Phase, alone, Does, IsFresh, MayCome, Visits}
-use Rattle.cq_history.specs.Log.{Era, no_era, joined, last_of, IsLaidOut, IsConsistent, AreConsistent, GoesOnBy, IsAnswered, AreServed, of_session, IsSession, phase_of, IsNext, IsPhase}
+use Rattle.cq_history.specs.Log.{no_era, joined, last_of, IsLaidOut, IsConsistent, AreConsistent, GoesOnBy, IsAnswered, AreServed, of_session, IsSession, phase_of, IsNext, IsPhase}
 use Rattle.cq_history.specs.Laws.{idle}
 use Rattle.cq_history.proofs.Entries.{with_list, steps_others}
 use Rattle.cq_history.proofs.Eras.{eras_go_on}

@@ -1,5 +1,5 @@
 -- Spare stores of workers, before and after a statement.
-use Rattle.std.proofs.Common.{zero, suc, cond, ◌≡◌, ◌≢◌, ◌+◌, ◌<◌, ◌≤◌, inl, inr, ℕ, Bool, true, false, List, [], ◌∷◌, ◌++◌, length, filter, refl, sym, ◌∙◌, ap, subst, arith, Some, Option, length-append, ne_eqb}
+use Rattle.std.proofs.Common.{zero, suc, cond, ◌≡◌, ◌≢◌, ◌+◌, ◌<◌, ◌≤◌, inl, inr, ℕ, Bool, true, false, List, [], ◌∷◌, ◌++◌, length, filter, refl, sym, ◌∙◌, ap, subst, arith, Option, length-append, ne_eqb}
 use Rattle.std.specs.Prelude.{nat_eq, ◌-◌}
 use Rattle.std.specs.List.{sum_by}
 use Rattle.std.proofs.lemmas.Bool.Decides.{eqb_tells}
