@@ -3,3 +3,4 @@ pub mod Spare
 pub mod Leaving
 pub mod Judging
 pub mod Phasing
+pub mod Examples
