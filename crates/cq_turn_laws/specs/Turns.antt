@@ -1,4 +1,4 @@
--- Statements that run one after the other, and those of a block.
+-- Statements that run one after the other, and the answers of a block.
 use Rattle.std.specs.Prelude.{◌≡◌, ◌+◌, ◌<◌, ◌≤◌, ℕ, List, [], ◌∷◌, length, map}
 use Rattle.std.specs.List.{AllByRecursion}
 use Rattle.cq_answer.specs.declared.answered.Answered.{Answered}
@@ -14,7 +14,7 @@ AreInTurns rules run e old [] last new = (last ≡ e) × (new ≡ old)
 AreInTurns rules run e old (a ∷ more) last new =
     (next : Environment) × (mid : List Journal) × IsAnswered rules run e next (who_of a) old mid a.bound a.answer × AreInTurns rules run next mid more last new
 
--- an answer of a block of so many statements, the first of which has this number, under these settings
+-- an answer of a block whose statements are numbered from `first` on and are `count`, under the settings `given`
 pub record IsOfBlock (first count : ℕ) (given : Settings) (a : Answered) : Type 0 where
   pub session : 1 ≤ a.session
   pub phase : a.phase ≡ first
