@@ -73,18 +73,30 @@ def lines_of(output: bytes) -> list[str]:
 
 
 def answers(lines: Sequence[str], statements: Sequence[Statement]) -> Iterator[Answer]:
-    """Parts an output, not of a run under --csv, into the answers of the statements, as far as they go."""
+    """Parts an output, not of a run under --csv, into the answers of the statements, in the order of the answers, as far as they go."""
     at = 0
-    for statement, behind in zip(statements, [*statements[1:], None]):
-        end = answer_end(lines, at, statement, behind)
+    heads = [head_of(before, statement) for before, statement in zip([None, *statements], statements)]
+    for statement, head, next_head, behind in zip(statements, heads, [*heads[1:], None], [*statements[1:], None]):
+        if head is not None:
+            if at >= len(lines) or lines[at] != head:
+                return
+            at += 1
+        end = answer_end(lines, at, statement, next_head, behind)
         if end is None:
             return
         yield Answer(statement, lines[at:end])
         at = end
 
 
-def answer_end(lines: Sequence[str], at: int, statement: Statement, behind: Optional[Statement]) -> Optional[int]:
-    """The index behind the answer that begins at a line, or none where there is no whole answer."""
+def head_of(before: Optional[Statement], statement: Statement) -> Optional[str]:
+    """The line in front of the answers of a session of a block, where the answer before is of another session or phase."""
+    if statement.session == 0 or (before and (before.phase, before.session) == (statement.phase, statement.session)):
+        return None
+    return f"-- session {statement.session}"
+
+
+def answer_end(lines: Sequence[str], at: int, statement: Statement, head: Optional[str], behind: Optional[Statement]) -> Optional[int]:
+    """The index behind the answer that begins at a line, or none where there is no whole answer. Words: what comes behind it, a session's line or an answer."""
     if not may_begin(lines, at, statement):
         return None
     if statement.first_word not in QUERIES or lines[at].startswith("ERROR "):
@@ -92,7 +104,7 @@ def answer_end(lines: Sequence[str], at: int, statement: Statement, behind: Opti
     has_one_column = "|" not in lines[at]
     for end in range(at + 1, len(lines)):
         # a text may look like the line that counts the rows, but then the rest looks like no further answer
-        if is_count(lines[end], end - at - 1) and not (has_one_column and is_row(lines, end + 1, behind)):
+        if is_count(lines[end], end - at - 1) and not (has_one_column and is_row(lines, end + 1, head, behind)):
             return end + 1
     return None
 
@@ -102,10 +114,12 @@ def is_count(line: str, rows: int) -> bool:
     return found is not None and int(found[1] or 1) == rows
 
 
-def is_row(lines: Sequence[str], at: int, behind: Optional[Statement]) -> bool:
+def is_row(lines: Sequence[str], at: int, head: Optional[str], behind: Optional[Statement]) -> bool:
     """Whether what stands at a line, behind a table or in it, is surely in it."""
     if at == len(lines) or lines[at] == "journal" or lines[at].startswith("FATAL "):
         return False
+    if head is not None:
+        return lines[at] != head
     return behind is None or not may_begin(lines, at, behind)
 
 

@@ -16,6 +16,8 @@ DATA_END = re.compile(rb"^\\\.(?:\n|\Z)", re.MULTILINE)
 BYTE_ORDER_MARK = b"\xef\xbb\xbf"
 MOST_BYTES = 16_777_216
 MOST_STATEMENTS = 20_000
+MOST_SESSIONS = 8
+DIRECTIVE = re.compile(rb"\\(?:(parallel|end)|session[ \t\r]+(\d+))[ \t\r]*")
 
 
 @dataclass(frozen=True)
@@ -29,12 +31,15 @@ class CopyData:
 
 @dataclass(frozen=True)
 class Statement:
-    """A statement: its number from 1, the offset of its first token, its text up to the `;`, and a COPY's data."""
+    """A statement: its number from 1, the offset of its first token, its text up to the `;`, a COPY's data, its session in a block, 0 outside, and
+    the number of the first statement of its phase, which is a serial statement or a block."""
 
     number: int
     start: int
     text: bytes
     data: Optional[CopyData] = None
+    session: int = 0
+    phase: int = 0
 
     @property
     def bare(self) -> bytes:
@@ -63,34 +68,85 @@ class Statement:
         return self.is_csv and re.search(rb"(?i)\bheader\b", self.bare) is not None
 
 
+@dataclass
+class Block:
+    """A block that is read: the offset of its `\\parallel`, the number of its first statement, and the session of what follows."""
+
+    start: int
+    phase: int
+    session: Optional[int] = None
+
+
 @dataclass(frozen=True)
 class Cut:
-    """The statements of a script, and the offset at which a line out of its place stops the reading."""
+    """The statements of a script in the order of their texts, the offset at which something out of its place stops the reading, and what it is."""
 
     statements: list[Statement]
     stop: Optional[int] = None
+    why: str = ""
+    open_phase: Optional[int] = None
+
+    @property
+    def answered(self) -> list[Statement]:
+        """The statements that run, in the order of their answers: those of a block by session."""
+        run = (statement for statement in self.statements if statement.phase != self.open_phase)
+        return sorted(run, key=lambda statement: (statement.phase, statement.session))
 
 
 def cut(script: bytes) -> Cut:
     """Cuts a script into its statements, as many as are answered and one more."""
     statements: list[Statement] = []
+    block: Optional[Block] = None
     at = 0
+
+    def stopped(stop: Optional[int], why: str) -> Cut:
+        return Cut(statements, stop, why, block.phase if block else None)
+
     while True:
         at = skip_front(script, at)
-        if at == len(script) or len(statements) > MOST_STATEMENTS:
-            return Cut(statements)
+        if len(statements) > MOST_STATEMENTS:
+            return stopped(None, "")
+        if at == len(script):
+            return stopped(block.start, r"no \end closes this block, and nothing of it runs") if block else Cut(statements)
         if script[at : at + 1] == b"\\" and is_line_start(script, at):
-            return Cut(statements, at)
-        end = statement_end(script, at)
-        statement = Statement(len(statements) + 1, at, script[at:end])
-        at = min(end + 1, len(script))
+            end = line_end(script, at)
+            found = DIRECTIVE.fullmatch(script, at, end)
+            why = misplaced(found, block)
+            if why or not found:
+                return stopped(at, why)
+            if found[1] == b"parallel":
+                block = Block(at, len(statements) + 1)
+            elif found[1] == b"end":
+                block = None
+            elif block:
+                block.session = int(found[2])
+            at = min(end + 1, len(script))
+            continue
+        if block and block.session is None:
+            return stopped(at, r"this statement of a block has no session: a line \session 1 goes before it")
+        number = len(statements) + 1
+        place = (block.session or 0, block.phase) if block else (0, number)
+        start, at = at, statement_end(script, at)
+        statement = Statement(number, start, script[start:at], None, *place)
+        at = min(at + 1, len(script))
         if statement.first_word == "COPY":
             rest = line_end(script, at)
             if script[at:rest].strip(BLANKS):
-                return Cut(statements, at)
+                return stopped(at, "behind the semicolon of a COPY its line is blank, and the data begin with the next one")
             data, at = copy_data(script, min(rest + 1, len(script)))
-            statement = Statement(statement.number, statement.start, statement.text, data)
+            statement = Statement(number, start, statement.text, data, *place)
         statements.append(statement)
+
+
+def misplaced(found: Optional[re.Match[bytes]], block: Optional[Block]) -> str:
+    """Why a line that begins with a backslash is out of its place, or nothing."""
+    if found is None or (found[2] and int(found[2]) == 0):
+        return r"this line is none of \parallel, \session N and \end, and psql's commands aren't there"
+    if found[1] == b"parallel":
+        return r"a block is open: \end closes it" if block else ""
+    if block is None:
+        return r"no block is open: \parallel opens one"
+    return f"a block has at most {MOST_SESSIONS} sessions" if found[2] and int(found[2]) > MOST_SESSIONS else ""
 
 
 def is_line_start(script: bytes, at: int) -> bool:
