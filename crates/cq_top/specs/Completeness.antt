@@ -5,23 +5,23 @@ use Rattle.cq_answer.specs.declared.answered.Answered.{Answered}
 use Rattle.cq_store.specs.Stores.{StoreState}
 use Rattle.cq_store.specs.declared.worker.Worker.{Worker}
 use Rattle.cq_cluster.specs.Steady.{NamesNode}
-use Rattle.cq_script.specs.declared.cutter.Item.{Item}
+use Rattle.cq_script.specs.Directives.{Read}
 use Rattle.cq_script.specs.Generating.{IsGenerated}
 use Rattle.cq_script.specs.Streams.{SourceState, SinkState, Rose}
 use Rattle.cq_words.specs.declared.settled.Settled.{Settled}
 use Rattle.cq_top.specs.declared.status.Status.{Status}
 use Rattle.cq_top.specs.declared.status.Status.TheVariants.{Done, Stopped, Memory}
-use Rattle.cq_top.specs.Scripts.{most_bytes, most_statements, IsReached, FailsLast}
+use Rattle.cq_top.specs.Scripts.{most_bytes, IsReached, FailsLast}
 use Rattle.cq_top.specs.Runs.{IsMisused, asked}
 
 -- no store that was handed in ever fails
 abbrev pub AllSteady : {X : Type 0} → (X → StoreState) → List (Worker X) → Type 0
 AllSteady {X} state entry = AllByRecursion (λ (w : Worker X). AllByRecursion (λ (x : X). IsTrue (state x).steady) w.stores.items) entry
 
--- a script is within the limits, and however far it is taken, no line is out of its place
+-- a script is within the limits, and however far it is taken, nothing is out of its place
 pub record KeepsLimits (script : List ℕ) : Type 0 where
   pub size : length script ≤ most_bytes
-  pub statements : (taken : ℕ) (found : List Item) (line : Option ℕ) → IsReached script taken found line → (length found ≤ most_statements) × (line ≡ None)
+  pub reads : (taken : ℕ) (r : Read) → IsReached script taken r → r.halt ≡ None
 
 -- so is the script of a source that tells its bytes, or the one that is made
 abbrev pub ScriptKeepsLimits : Option (ℕ × ℕ) → SourceState → Type 0
