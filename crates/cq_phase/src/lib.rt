@@ -1,0 +1,8 @@
+//! A phase of a script is run: a statement outside blocks, or a block's statements, session after session.
+#![tactic(auto)]
+
+mod block;
+mod phase;
+mod statement;
+
+pub use phase::run_phase;
