@@ -20,6 +20,10 @@ pub on_ok : {T E : Type 0} (P : Type 0) (r : Result T E) → P → OnOk r P
 on_ok P (Ok x) p = p
 on_ok P (Err e) p = tt
 
+pub ok_so : {T E : Type 0} (P Q : Type 0) (r : Result T E) → (P → Q) → OnOk r P → OnOk r Q
+ok_so P Q (Ok x) f h = f h
+ok_so P Q (Err e) f h = tt
+
 pub err_so : {T E : Type 0} (P Q : E → Type 0) (r : Result T E) → ((e : E) → P e → Q e) → IfErr r P → IfErr r Q
 err_so P Q (Ok x) f h = tt
 err_so P Q (Err e) f h = f e h
