@@ -7,11 +7,13 @@ use Rattle.cq_answer.specs.declared.answered.Answered.{Answered}
 use Rattle.cq_store.specs.Stores.{StoreState}
 use Rattle.cq_store.specs.declared.worker.Worker.{Worker}
 use Rattle.cq_cluster.specs.Steady.{WorkersAreSteady}
+use Rattle.cq_phase.specs.Steady.{NameNoSteady}
+use Rattle.cq_script.specs.declared.reader.Halt.{Halt}
 use Rattle.cq_script.specs.Streams.{SourceState, SinkState, Rose}
 use Rattle.cq_words.specs.declared.settled.Settled.{Settled}
 use Rattle.cq_top.specs.declared.log.RunLog.{RunLog}
 use Rattle.cq_top.specs.declared.ending.Ending.{Ending}
-use Rattle.cq_top.specs.declared.ending.Ending.TheVariants.{Done, Usage, ReadFault, Stopped, WriteFault, Memory, Bytes, Statements, Line}
+use Rattle.cq_top.specs.declared.ending.Ending.TheVariants.{Done, Usage, ReadFault, Stopped, WriteFault, Memory, Bytes, Halted}
 use Rattle.cq_top.specs.declared.status.Status.{Status}
 use Rattle.cq_top.specs.declared.status.Status.TheVariants as statuses
 use Rattle.cq_top.specs.Chunks.{IsCountEnd}
@@ -20,22 +22,19 @@ use Rattle.cq_top.specs.Outputs.{status_of}
 use Rattle.cq_top.specs.Runs.{HasRun, IsMisused, ServesWords, answers_of, asked}
 use Rattle.cq_top.specs.Scripts.{IsAnswered, IsHalted, ServesBy}
 use Rattle.cq_top.specs.Serving.{EndsWith}
-use Rattle.cq_top.specs.Steady.{NameNoSteady}
 
--- no limit ended it, nor a line
+-- no limit ended it, nor a line out of its place
 abbrev EndsWithin : Ending → Type 0
 EndsWithin Bytes = ⊥
-EndsWithin Statements = ⊥
-EndsWithin (Line line) = ⊥
+EndsWithin (Halted halt) = ⊥
 EndsWithin ending = ⊤
 
-no_line : (line : ℕ) → Some line ≡ None → ⊥
-no_line line e = cc
+no_halt : (halt : Halt) → Some halt ≡ None → ⊥
+no_halt halt e = cc
 
 kept : (s : Settled) (ending : Ending) (bytes : List ℕ) (taken : ℕ) (answers : List Answered) → KeepsLimits bytes → IsAnswered s ending bytes taken answers → EndsWithin ending
 kept s Bytes bytes taken answers k a = absurd (omega (arith, k.size, a.0))
-kept s Statements bytes taken answers k a = let few = k.statements taken a.0 a.1 a.2 in absurd (omega (arith, few.0, a.3))
-kept s (Line line) bytes taken answers k a = let none = k.statements taken a.0 (Some line) a.1 in absurd (no_line line none.1)
+kept s (Halted halt) bytes taken answers k a = absurd (no_halt halt (sym a.2 ∙ k.reads taken a.0 a.1))
 kept s Done bytes taken answers k a = tt
 kept s Usage bytes taken answers k a = tt
 kept s ReadFault bytes taken answers k a = tt
@@ -46,10 +45,8 @@ kept s Memory bytes taken answers k a = tt
 kept_count : (ending : Ending) → ((ending ≡ Usage) ⊎ IsCountEnd ending) → EndsWithin ending
 kept_count Bytes (inl e) = cc
 kept_count Bytes (inr end) = end
-kept_count Statements (inl e) = cc
-kept_count Statements (inr end) = end
-kept_count (Line line) (inl e) = cc
-kept_count (Line line) (inr end) = end
+kept_count (Halted halt) (inl e) = cc
+kept_count (Halted halt) (inr end) = end
 kept_count Done h = tt
 kept_count Usage h = tt
 kept_count ReadFault h = tt
@@ -75,8 +72,7 @@ by_ending s Stopped status answers within usage read write halted e = inr (inl (
 by_ending s WriteFault status answers within usage read write halted e = absurd (write e)
 by_ending s Memory status answers within usage read write halted e = inr (inr e)
 by_ending s Bytes status answers within usage read write halted e = absurd within
-by_ending s Statements status answers within usage read write halted e = absurd within
-by_ending s (Line line) status answers within usage read write halted e = absurd within
+by_ending s (Halted halt) status answers within usage read write halted e = absurd within
 
 by_status : (s : Settled) (ending : Ending) (status : Status) (answers : List Answered) → EndsWithin ending → (ending ≡ Usage → ⊥) → (ending ≡ ReadFault → ⊥) → (status ≡ statuses.WriteFault → ⊥) → IsHalted s ending answers → EndsWith ending status →
     IsComplete s.stop status answers

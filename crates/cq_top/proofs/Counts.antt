@@ -5,16 +5,17 @@ use Rattle.std.proofs.lemmas.List.{take-append-drop}
 use Rattle.cq_answer.specs.declared.answered.Answered.{Answered}
 use Rattle.cq_script.specs.declared.sink.SinkError.{SinkError}
 use Rattle.cq_script.specs.declared.sink.SinkError.TheVariants as errors
+use Rattle.cq_script.specs.Directives.{most_statements}
 use Rattle.cq_script.specs.Streams.{SourceState, SinkState, Rose, Wrote, WrotePart}
 use Rattle.cq_words.specs.declared.settled.Settled.{Settled}
 use Rattle.cq_top.specs.declared.log.RunLog.{RunLog}
 use Rattle.cq_top.specs.declared.status.Status.{Status}
 use Rattle.cq_top.specs.declared.status.Status.TheVariants as statuses
 use Rattle.cq_top.specs.declared.ending.Ending.{Ending}
-use Rattle.cq_top.specs.declared.ending.Ending.TheVariants.{Done, Usage, ReadFault, Stopped, WriteFault, Memory, Bytes, Statements, Line}
+use Rattle.cq_top.specs.declared.ending.Ending.TheVariants.{Done, Usage, ReadFault, Stopped, WriteFault, Memory, Bytes, Halted}
 use Rattle.cq_top.specs.Chunks.{count_text, IsCountEnd, HasCounted}
 use Rattle.cq_top.specs.Outputs.{status_of, ending_of, stop_by, IsPart}
-use Rattle.cq_top.specs.Scripts.{most_statements, IsHalted}
+use Rattle.cq_top.specs.Scripts.{IsHalted}
 use Rattle.cq_top.specs.Runs.{IsMisused, HasRun, ServesWords, asked, answers_of, journals_by, pieces_by}
 use Rattle.cq_top.specs.Serving.{Writes, EndsWith}
 use Rattle.cq_top.proofs.Answering.{calm_first}
@@ -92,8 +93,7 @@ halted s Usage answers end none = absurd end
 halted s ReadFault answers end none = absurd end
 halted s Stopped answers end none = absurd end
 halted s Bytes answers end none = absurd end
-halted s Statements answers end none = absurd end
-halted s (Line line) answers end none = absurd end
+halted s (Halted halt) answers end none = absurd end
 
 -- a run that counts
 pub counted_run : {X : Type 0} (words : List (List ℕ)) (workers : ℕ) (q : ℕ × ℕ × ℕ) (st : Status) (log : RunLog X) (source : SourceState) (sink sink_end : SinkState) → (IsMisused words workers → ⊥) → (asked words).chunks ≡ Some q →

@@ -2,9 +2,9 @@
 use Rattle.std.proofs.Common.{◌≡◌, ◌≤◌, inl, inr, List, Ok, Err, Result, OnOk, refl, sym, ◌∙◌, ap, subst, arith}
 use Rattle.std.specs.Prelude.{IfErr}
 use Rattle.cq_answer.specs.declared.answered.Answered.{Answered}
-use Rattle.cq_script.specs.declared.cutter.Item.{Item}
 use Rattle.cq_script.specs.declared.sink.SinkError.{SinkError}
 use Rattle.cq_script.specs.declared.sink.SinkError.TheVariants as errors
+use Rattle.cq_script.specs.Directives.{Read}
 use Rattle.cq_script.specs.Streams.{SinkState, PutRefused}
 use Rattle.cq_words.specs.declared.settled.Settled.{Settled}
 use Rattle.cq_top.specs.declared.stop.Stop.{Stop}
@@ -19,6 +19,10 @@ use Rattle.cq_top.proofs.Showing.{part_whole}
 pub on_ok : {T E : Type 0} (P : Type 0) (r : Result T E) → P → OnOk r P
 on_ok P (Ok x) p = p
 on_ok P (Err e) p = tt
+
+pub ok_so : {T E : Type 0} (P Q : Type 0) (r : Result T E) → (P → Q) → OnOk r P → OnOk r Q
+ok_so P Q (Ok x) f h = f h
+ok_so P Q (Err e) f h = tt
 
 pub err_so : {T E : Type 0} (P Q : E → Type 0) (r : Result T E) → ((e : E) → P e → Q e) → IfErr r P → IfErr r Q
 err_so P Q (Ok x) f h = tt
@@ -48,17 +52,17 @@ refused_blames old new errors.Memory stop is h = blames_cut errors.Memory stop o
 
 -- ---- what a stop says there
 
-pub cut_stops : (s : Settled) (stop : Stop) (found : List Item) (answers : List Answered) → IsCutOff stop → AnswersFirst s found answers → StopsAmong s stop found answers
-cut_stops s stops.WriteFault found answers c h = h
-cut_stops s stops.Memory found answers c h = h
-cut_stops s stops.Statements found answers c h = absurd c
-cut_stops s stops.Stopped found answers c h = absurd c
+pub cut_stops : (s : Settled) (stop : Stop) (r : Read) (answers : List Answered) → IsCutOff stop → AnswersFirst s r.phases answers → StopsAmong s stop r answers
+cut_stops s stops.WriteFault r answers c h = h
+cut_stops s stops.Memory r answers c h = h
+cut_stops s stops.Stopped r answers c h = absurd c
+cut_stops s (stops.Halted halt) r answers c h = absurd c
 
 pub cut_halts : (s : Settled) (stop : Stop) (answers : List Answered) → IsCutOff stop → IsCalm s answers → HaltsBy s stop answers
 cut_halts s stops.WriteFault answers c h = may_fail_same s answers answers h refl
 cut_halts s stops.Memory answers c h = may_fail_same s answers answers h refl
-cut_halts s stops.Statements answers c h = absurd c
 cut_halts s stops.Stopped answers c h = absurd c
+cut_halts s (stops.Halted halt) answers c h = absurd c
 
 pub passed_shows : (s : Settled) (old mid new : SinkState) (answers more : List Answered) → new.written ≡ mid.written → ShowsMore s old mid answers more → ShowsMore s old new answers more
 passed_shows s old mid new answers more e f = λ before shown. e ∙ f before shown
@@ -66,5 +70,5 @@ passed_shows s old mid new answers more e f = λ before shown. e ∙ f before sh
 pub cut_shows : (s : Settled) (stop : Stop) (old new : SinkState) (answers more : List Answered) → IsCutOff stop → ShowsMore s old new answers more → ShowsBy s stop old new answers more
 cut_shows s stops.WriteFault old new answers more c f = λ before shown. (texts s.csv more, f before shown, part_whole s.csv more)
 cut_shows s stops.Memory old new answers more c f = λ before shown. (texts s.csv more, f before shown, part_whole s.csv more)
-cut_shows s stops.Statements old new answers more c f = f
 cut_shows s stops.Stopped old new answers more c f = f
+cut_shows s (stops.Halted halt) old new answers more c f = f

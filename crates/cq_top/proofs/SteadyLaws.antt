@@ -1,15 +1,14 @@
--- A run's answers name no node whose stores were all handed in steady: at its start, and after one more.
-use Rattle.std.proofs.Common.{◌≡◌, List, [], ◌∷◌, ◌++◌, sym, subst}
+-- A run's answers name no node whose stores were all handed in steady: before the first.
+use Rattle.std.proofs.Common.{◌≡◌, List, [], sym, subst}
 use Rattle.std.specs.List.{AllByRecursion}
-use Rattle.cq_value.proofs.Lists.{all_more}
 use Rattle.cq_answer.specs.declared.answered.Answered.{Answered}
 use Rattle.cq_store.specs.Stores.{StoreState}
 use Rattle.cq_store.specs.declared.worker.Worker.{Worker}
 use Rattle.cq_group.specs.declared.group.GroupState.{GroupState}
 use Rattle.cq_cluster.specs.declared.cluster.Cluster.{Cluster}
 use Rattle.cq_cluster.specs.declared.retired.Retired.{Retired}
-use Rattle.cq_cluster.specs.Steady.{GroupsAreSteady, NamesNode, RetiredAreSteady, SparesSteady, WorkersAreSteady}
-use Rattle.cq_top.specs.Steady.{IsSteadySoFar, NameNoSteady}
+use Rattle.cq_cluster.specs.Steady.{GroupsAreSteady, NamesNode, RetiredAreSteady, WorkersAreSteady}
+use Rattle.cq_phase.specs.Steady.{IsSteadySoFar, NameNoSteady}
 
 module _ {X : Type 0} (state : X → StoreState) (entry : List (Worker X)) where
   -- none is named where none is answered
@@ -24,10 +23,4 @@ module _ {X : Type 0} (state : X → StoreState) (entry : List (Worker X)) where
       workers = subst (λ (ws : List (Worker X)). WorkersAreSteady state node ws) (sym workers) steady;
       retired = subst (λ (rs : List (Retired X)). RetiredAreSteady state node rs) (sym retired) tt;
     };
-  }
-
-  pub steady_more : (old new : Cluster X) (answers : List Answered) (a : Answered) → SparesSteady state a.answer old new → IsSteadySoFar state entry old answers → IsSteadySoFar state entry new (answers ++ a ∷ [])
-  steady_more old new answers a spares so = record {
-    names = λ node steady. all_more (λ (b : Answered). NamesNode b.answer node → ⊥) answers a (so.names node steady) (λ is. spares.names node (so.keeps node steady) is);
-    keeps = λ node steady. spares.keeps node (so.keeps node steady);
   }
