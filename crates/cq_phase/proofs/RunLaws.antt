@@ -1,5 +1,5 @@
 -- What stands between two phases stands behind the next one.
-use Rattle.std.proofs.Common.{Some, slice_get, ◌≡◌, ◌≢◌, inl, inr, ℕ, ◌+◌, ◌<◌, ◌≤◌, Option, List, [], ◌∷◌, ◌++◌, length, refl, sym, ap, subst, ◌∙◌, arith, append_assoc}
+use Rattle.std.proofs.Common.{Some, slice_get, ◌≡◌, ◌≢◌, inl, inr, ℕ, ◌+◌, ◌≤◌, Option, List, [], ◌∷◌, ◌++◌, length, refl, sym, ap, subst, ◌∙◌, arith, append_assoc}
 use Rattle.std.specs.Prelude.{⊤, Result, Ok, Err, OnOk, OnErr}
 use Rattle.std.specs.List.{AllByRecursion, AllZip}
 use Rattle.cq_value.proofs.Lists.{all_weaker, all_both, all_more, append_nil}
@@ -11,7 +11,7 @@ use Rattle.cq_answer.specs.declared.answered.Answered.{Answered}
 use Rattle.cq_answer.specs.declared.answered.Settings.{Settings}
 use Rattle.cq_bound_laws.proofs.Columns.{columns_stand}
 use Rattle.cq_history.specs.Journals.{journal_in}
-use Rattle.cq_history.specs.Log.{IsConsistent, IsAnswered, next_who, answered_by}
+use Rattle.cq_history.specs.Log.{IsConsistent, IsAnswered}
 use Rattle.cq_history.specs.Phases.{who_of, IsOf, StandsBefore, AreInScriptOrder, AreComplete}
 use Rattle.cq_history.specs.Refusals.{rules}
 use Rattle.cq_history.proofs.Script.{answers_go_on}

@@ -5,7 +5,6 @@ use Rattle.cq_value.proofs.Lists.{all_append, append_nil}
 use Rattle.cq_answer.specs.declared.answered.Answered.{Answered}
 use Rattle.cq_answer.specs.declared.answered.Settings.{Settings}
 use Rattle.cq_catalog.specs.Contents.{Contents}
-use Rattle.cq_catalog.specs.declared.info.TableInfo.{TableInfo}
 use Rattle.cq_bound_laws.specs.Laws.{HasColumns}
 use Rattle.cq_history.specs.Legality.{IsKeyed}
 use Rattle.cq_history.specs.Phases.{MayBeInBlock}

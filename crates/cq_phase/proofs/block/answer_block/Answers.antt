@@ -1,4 +1,4 @@
-use Rattle.std.proofs.Common.{◌≡◌, ◌+◌, ◌<◌, ◌≤◌, ◌∙◌, List, length, take, sym, subst, arith}
+use Rattle.std.proofs.Common.{◌≡◌, ◌∙◌, List, take, sym, subst, arith}
 use Rattle.cq_value.proofs.Lists.{append_nil}
 use Rattle.cq_script.specs.declared.reader.Placed.{Placed}
 use Rattle.cq_phase.specs.Phases.{of_session, sessions}
