@@ -7,3 +7,4 @@ pub mod WrittenLaws
 pub mod DrawLaws
 pub mod Examples
 pub mod Directives
+pub mod ReaderLaws

@@ -1,5 +1,5 @@
 -- A run of bytes cuts as its bytes do one by one.
-use Rattle.std.proofs.Common.{Bool, true, false, not, ◌&&◌, cond, eqb, ◌≡◌, ◌+◌, ◌-◌, ◌≤◌, ◌<◌, ℕ, zero, suc, None, List, [], ◌∷◌, ◌++◌, length, get_or, take, drop, fold, min, refl, sym, ◌∙◌, ap, subst, arith, append_assoc, append-nil, if◌then◌else◌}
+use Rattle.std.proofs.Common.{Bool, true, false, not, ◌&&◌, cond, eqb, ◌≡◌, ◌+◌, ◌-◌, ◌≤◌, ℕ, zero, suc, None, List, [], ◌∷◌, ◌++◌, length, get_or, take, drop, min, refl, sym, ◌∙◌, ap, subst, arith, append_assoc, append-nil, if◌then◌else◌}
 use Rattle.std.specs.Prelude.{◌==◌}
 use Rattle.std.specs.List.{prefix_len, count_by}
 use Rattle.std.proofs.lemmas.List.Sums.{sum_by-cons, prefix_len_is}
@@ -13,7 +13,7 @@ use Rattle.cq_script.specs.declared.cutter.Line.TheVariants.{Start, Slash, End, 
 use Rattle.cq_script.specs.declared.cutter.Place.{Place}
 use Rattle.cq_script.specs.declared.cutter.Place.TheVariants.{Gap, GapDash, GapComment, Text, Rest, Data, Directive, Out}
 use Rattle.cq_script.specs.declared.cutter.Cutter.{Cutter}
-use Rattle.cq_script.specs.Scripts.{Stepped, is_copy, next, ends, step, goes, gives, cut}
+use Rattle.cq_script.specs.Scripts.{Stepped, is_copy, next, ends, step, goes, statement, gives, cut}
 use Rattle.cq_script.specs.Runs.{is_plain_code, is_plain_quoted, is_plain_data, is_line_end, run_len, data_line, number_behind, with_run}
 use Rattle.cq_script.proofs.CuttingLaws.{cut_none}
 
@@ -31,7 +31,7 @@ abbrev on_line : Bool → Place → Cutter → Cutter
 on_line n at c = record c { at = at; line = cond n (counted c.line) c.line }
 
 code_by : (c : Cutter) (b : ℕ) (q d s n : Bool) → ((not q && not d) && not s) && not n ≡ true
-    → goes_on (Text Code) c b ≡ (if s then (if is_copy c.text then goes Rest (on_line n (Text Code) c) else gives (Gap false) (on_line n (Text Code) c))
+    → goes_on (Text Code) c b ≡ (if s then (if is_copy c.text then goes Rest (on_line n (Text Code) c) else gives (statement (on_line n (Text Code) c)) (Gap false) (on_line n (Text Code) c))
     else goes (Text (if q then Quote else (if d then Dash else Code))) (record (on_line n (Text Code) c) { text = c.text ++ b ∷ [] }))
 code_by c b true d s n e = absurd (let h : false ≡ true = e in cc)
 code_by c b false true s n e = absurd (let h : false ≡ true = e in cc)

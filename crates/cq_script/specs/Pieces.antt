@@ -1,20 +1,15 @@
 -- The pieces of a script, one after the other, with blanks and comments between them: statements, each up to a semicolon outside quotes and
--- comments, and that of a COPY with its data up to a line \. alone; and directives, which are lines that begin with a backslash.
+-- comments, and that of a COPY with its data up to a line \. alone; and directives, which are lines that begin with a backslash. A COPY with
+-- more than blanks behind its semicolon is a crowded line. Each has the number of the line in which it begins, a crowded line its own.
 use Rattle.std.specs.Prelude.{◌≡◌, ◌≢◌, ◌&&◌, ◌||◌, ◌==◌, ℕ, Bool, true, false, Option, Some, None, List, [], ◌∷◌, ◌++◌, fold, codes}
 use Rattle.std.specs.List.{AllByRecursion}
 use Rattle.cq_token.specs.Bytes.{is_blank}
 use Rattle.cq_token.specs.Tokens.{begins_comment}
-use Rattle.cq_script.specs.declared.cutter.Item.{Item}
+use Rattle.cq_script.specs.declared.cutter.Piece.{Piece}
+use Rattle.cq_script.specs.declared.cutter.Piece.TheVariants.{Statement, Directive, Crowded}
 use Rattle.cq_script.specs.Runs.{number_behind}
 use Rattle.cq_script.specs.Scripts.{is_copy}
 use Rattle.cq_script.specs.Written.{IsData}
-
--- a statement or a directive, with the number of the line in which it begins; or a COPY with more than blanks behind its semicolon, with the
--- number of that line
-pub data Piece : Type 0 where
-  Statement : ℕ → Item → Piece
-  Directive : ℕ → List ℕ → Piece
-  Crowded : ℕ → Piece
 
 -- ---- where bytes stand
 
@@ -110,31 +105,6 @@ pub record IsScript (bytes : List ℕ) (whole : List Piece) (last : Option Piece
   pub cut : AreCut before whole
   pub rest : IsLeft before left last
 
--- ---- what is answered of them
-
 abbrev pub with_last : List Piece → Option Piece → List Piece
 with_last whole None = whole
 with_last whole (Some p) = whole ++ p ∷ []
-
--- there are no blocks: each directive is out of its place, as a crowded line is, and the statements before the first of them are answered
-abbrev pub statements_of : List Piece → List Item
-statements_of [] = []
-statements_of (Statement line item ∷ more) = item ∷ statements_of more
-statements_of (Directive line text ∷ more) = []
-statements_of (Crowded line ∷ more) = []
-
--- the line that is out of its place
-abbrev pub misplaced_of : List Piece → Option ℕ
-misplaced_of [] = None
-misplaced_of (Statement line item ∷ more) = misplaced_of more
-misplaced_of (Directive line text ∷ more) = Some line
-misplaced_of (Crowded line ∷ more) = Some line
-
--- a script that begins with these bytes: its statements that are whole in them, and the line that is out of its place there
-abbrev pub IsBegun : List ℕ → List Item → Option ℕ → Type 0
-IsBegun bytes found line = (whole : List Piece) × (last : Option Piece) × IsScript bytes whole last × (found ≡ statements_of whole) × (line ≡ misplaced_of whole)
-
--- a script of these bytes: all its statements, and the line that is out of its place
-abbrev pub IsWhole : List ℕ → List Item → Option ℕ → Type 0
-IsWhole bytes found line =
-    (whole : List Piece) × (last : Option Piece) × IsScript bytes whole last × (found ≡ statements_of (with_last whole last)) × (line ≡ misplaced_of (with_last whole last))

@@ -140,10 +140,15 @@ text_under true (Tag tag) = text_of (Tag tag)
 text_under true (Table names rows) = csv_table names rows
 text_under true (Failed fault) = text_of (Failed fault)
 
+-- the line before the answers of a session of a block
+unfoldable pub session_line : ℕ → List ℕ
+session_line session = codes "-- session " ++ decimal session ++ codes "\n"
+
 -- the last line of a run that stops early
 unfoldable pub fatal_line : Fatal → List ℕ
 fatal_line ends.Usage = codes "FATAL usage\n"
 fatal_line ends.Read = codes "FATAL read\n"
 fatal_line ends.LimitBytes = codes "FATAL limit bytes 16777216\n"
 fatal_line ends.LimitStatements = codes "FATAL limit statements 20000\n"
+fatal_line ends.LimitSessions = codes "FATAL limit sessions 8\n"
 fatal_line (ends.Line line) = codes "FATAL directive at line " ++ decimal line ++ codes "\n"

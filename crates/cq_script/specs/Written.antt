@@ -1,10 +1,13 @@
--- Scripts as they are written from items. Cutting gives these items back (`items_written` in proofs/WrittenLaws.antt).
+-- Scripts as they are written from items. Cutting gives these items back (`pieces_written` in proofs/WrittenLaws.antt).
 use Rattle.std.specs.Prelude.{◌≡◌, ◌≢◌, ◌||◌, ◌==◌, ⊤, ℕ, true, false, List, [], ◌∷◌, ◌++◌, flat_map, codes, if◌then◌else◌}
 use Rattle.std.specs.List.{AllByRecursion}
 use Rattle.cq_token.specs.Bytes.{is_blank}
 use Rattle.cq_script.specs.declared.scan.Scan.{Scan}
 use Rattle.cq_script.specs.declared.scan.Scan.TheVariants.{Code}
 use Rattle.cq_script.specs.declared.cutter.Item.{Item}
+use Rattle.cq_script.specs.declared.cutter.Piece.{Piece}
+use Rattle.cq_script.specs.declared.cutter.Piece.TheVariants.{Statement}
+use Rattle.cq_script.specs.Runs.{number_behind}
 use Rattle.cq_script.specs.Scripts.{next, ends, is_copy}
 
 -- the first byte is no blank, semicolon (59), dash (45) or backslash (92)
@@ -47,3 +50,8 @@ pub record IsItem (item : Item) : Type 0 where
 -- an item on lines of its own
 abbrev pub written : Item → List ℕ
 written item = item.text ++ (codes ";\n" ++ (if is_copy item.text then item.copied ++ codes "\\.\n" else []))
+
+-- the pieces of items that are written one after the other, of which the first begins in this line
+abbrev pub pieces_of : ℕ → List Item → List Piece
+pieces_of line [] = []
+pieces_of line (item ∷ more) = Statement line item ∷ pieces_of (number_behind line (written item)) more

@@ -1,6 +1,8 @@
-ghost use Rattle.std.specs.Prelude.{◌≡◌, ◌≤◌, ◌++◌, [], ◌∷◌, length, None, IfOk, OnOk, MatchOption};
+ghost use Rattle.std.specs.Prelude.{◌≡◌, true, ◌≤◌, ◌++◌, [], ◌∷◌, length, None, IfOk, OnOk, MatchOption};
 ghost use Rattle.std.specs.List.{prefix_len, count_by};
-ghost use Rattle.cq_script.specs.Scripts.{first, goes, gives, in_text, in_gap, in_dash, in_rest, keeps, in_data, line_behind as line_at, step, cut, last, misplaced, misplaced_at_end, Gives};
+ghost use Rattle.cq_script.specs.Scripts.{first, goes, statement, gives, in_text, begins, in_gap, in_dash, in_rest, keeps, in_data, in_directive, line_behind as line_at, step, cut, last, Gives};
+ghost use Rattle.cq_script.specs.declared.cutter.Piece.TheVariants as piece;
+ghost use Rattle.cq_script.specs.declared.cutter.Place.TheVariants as places;
 ghost use Rattle.cq_script.specs.Runs.{is_plain_code, is_plain_quoted, is_plain_data, is_line_end, run_len, data_line, number_behind as number_behind_bytes, with_run};
 ghost use Rattle.cq_token.specs.Bytes.{is_blank as is_blank_byte, is_in_line};
 
@@ -21,6 +23,17 @@ pub type Bytes = Items<u8>;
 pub struct Item {
     pub text: Bytes,
     pub copied: Bytes,
+}
+
+/// What a script is cut into, with the number of its line.
+#[derive(Debug, Drop)]
+pub enum Piece {
+    /// A statement, by the line in which it begins.
+    Statement { line: u64, item: Item },
+    /// A line that begins with a backslash where no statement has begun, without its newline.
+    Directive { line: u64, text: Bytes },
+    /// The line of a COPY whose statement is followed there by more than blanks. The script is cut no further.
+    Crowded { line: u64 },
 }
 
 /// Where a line of a COPY's data stands: at its start, behind a backslash there, behind `\.` there, or farther on.
@@ -49,23 +62,24 @@ pub enum Place {
     Data(Line),
     /// In a line that begins with a backslash where no statement has begun.
     Directive,
-    /// Behind a line that is out of its place: nothing follows.
+    /// Behind a crowded line: nothing follows.
     Out,
 }
 
-/// An item that bytes ended, and the bytes behind it.
+/// A piece that bytes ended, and the bytes behind it.
 #[derive(Debug, Drop)]
 pub struct Step<'a> {
-    pub item: Item,
+    pub piece: Piece,
     pub left: &'a [u8],
 }
 
-/// Cuts a script that comes in parts into items. It holds where the script stands, the number of the line, from 1, and
-/// what was begun.
+/// Cuts a script that comes in parts into pieces. It holds where the script stands, the number of the line, from 1, that
+/// of the line in which what was begun began, and what was begun.
 #[derive(Debug, Drop)]
 pub struct Cutter {
     at: Place,
     line: u64,
+    begun: u64,
     text: Bytes,
     copied: Bytes,
 }
@@ -77,18 +91,13 @@ pub(crate) fn is_blank(b: u8) -> bool
 }
 
 /// The number of the line of the byte behind this one.
-fn line_behind(at: Place, line: u64, b: u8) -> u64
-    ensures { result ≡ line_at at line b }
+fn line_behind(line: u64, b: u8) -> u64
+    ensures { result ≡ line_at line b }
 {
-    match at {
-        Place::Directive | Place::Out => line,
-        _ => {
-            if b == b'\n' {
-                line.saturating_add(1)
-            } else {
-                line
-            }
-        }
+    if b == b'\n' {
+        line.saturating_add(1)
+    } else {
+        line
     }
 }
 
@@ -209,54 +218,93 @@ impl Cutter {
         Cutter {
             at: Place::Gap { fresh: true },
             line: 1,
+            begun: 1,
             text: Items::new(alloc),
             copied: Items::new(alloc),
         }
     }
 
-    fn goes(&mut self, place: Place) -> Option<Item>
+    fn goes(&mut self, place: Place) -> Option<Piece>
         ensures { (result, self.new) ≡ goes place self.old }
     {
         self.at = place;
         None
     }
 
-    fn gives(&mut self, alloc: Global, place: Place) -> Option<Item>
-        ensures { (result, self.new) ≡ gives place self.old }
+    /// Takes out the text and the data that were begun.
+    fn take_item(&mut self, alloc: Global) -> Item
+        ensures item { result ≡ record { text = self.old.text; copied = self.old.copied } }
+        ensures rest { self.new ≡ record self.old { text = []; copied = [] } }
     {
-        self.at = place;
         let text = std::mem::replace(&mut self.text, Items::new(alloc));
         let copied = std::mem::replace(&mut self.copied, Items::new(alloc));
-        Some(Item { text, copied })
+        Item { text, copied }
     }
 
-    fn in_text(&mut self, alloc: Global, scan: Scan, b: u8) -> Result<Option<Item>, NoMemory>
-        ensures { IfOk result (λ item. (item, self.new) ≡ in_text scan self.old b) }
+    fn gives_statement(&mut self, alloc: Global, place: Place) -> Option<Piece>
+        ensures { (result, self.new) ≡ gives (statement self.old) place self.old }
+    {
+        self.at = place;
+        let item = self.take_item(alloc);
+        Some(Piece::Statement {
+            line: self.begun,
+            item,
+        })
+    }
+
+    fn gives_directive(&mut self, alloc: Global) -> Option<Piece>
+        ensures { (result, self.new) ≡ gives (piece.Directive self.old.begun self.old.text) (places.Gap true) self.old }
+    {
+        self.at = Place::Gap { fresh: true };
+        let Item { text, .. } = self.take_item(alloc);
+        Some(Piece::Directive {
+            line: self.begun,
+            text,
+        })
+    }
+
+    fn in_text(&mut self, alloc: Global, scan: Scan, b: u8) -> Result<Option<Piece>, NoMemory>
+        ensures { IfOk result (λ piece. (piece, self.new) ≡ in_text scan self.old b) }
     {
         if scan.ends(b) {
             if is_copy(self.text.as_slice()) {
                 return Ok(self.goes(Place::Rest));
             }
-            return Ok(self.gives(alloc, Place::Gap { fresh: false }));
+            return Ok(self.gives_statement(alloc, Place::Gap { fresh: false }));
         }
         put(alloc, &mut self.text, b)?;
         Ok(self.goes(Place::Text(scan.next(b))))
     }
 
-    fn in_gap(&mut self, alloc: Global, fresh: bool, b: u8) -> Result<Option<Item>, NoMemory>
-        ensures { IfOk result (λ item. (item, self.new) ≡ in_gap fresh self.old b) }
+    /// A byte with which a comment, a directive or a statement begins.
+    fn begins(&mut self, alloc: Global, fresh: bool, b: u8) -> Result<Option<Piece>, NoMemory>
+        ensures { IfOk result (λ piece. (piece, self.new) ≡ begins fresh self.old b) }
     {
         match b {
-            b'\n' => Ok(self.goes(Place::Gap { fresh: true })),
-            b' ' | b'\t' | b'\r' | b';' => Ok(self.goes(Place::Gap { fresh: false })),
             b'-' => Ok(self.goes(Place::GapDash)),
-            b'\\' if fresh => Ok(self.goes(Place::Directive)),
+            b'\\' if fresh => {
+                put(alloc, &mut self.text, b)?;
+                Ok(self.goes(Place::Directive))
+            }
             _ => self.in_text(alloc, Scan::Code, b),
         }
     }
 
-    fn in_dash(&mut self, alloc: Global, b: u8) -> Result<Option<Item>, NoMemory>
-        ensures { IfOk result (λ item. (item, self.new) ≡ in_dash self.old b) }
+    fn in_gap(&mut self, alloc: Global, fresh: bool, b: u8) -> Result<Option<Piece>, NoMemory>
+        ensures { IfOk result (λ piece. (piece, self.new) ≡ in_gap fresh self.old b) }
+    {
+        match b {
+            b'\n' => Ok(self.goes(Place::Gap { fresh: true })),
+            b' ' | b'\t' | b'\r' | b';' => Ok(self.goes(Place::Gap { fresh: false })),
+            _ => {
+                self.begun = self.line;
+                self.begins(alloc, fresh, b)
+            }
+        }
+    }
+
+    fn in_dash(&mut self, alloc: Global, b: u8) -> Result<Option<Piece>, NoMemory>
+        ensures { IfOk result (λ piece. (piece, self.new) ≡ in_dash self.old b) }
     {
         if b == b'-' {
             return Ok(self.goes(Place::GapComment));
@@ -265,7 +313,7 @@ impl Cutter {
         self.in_text(alloc, Scan::Dash, b)
     }
 
-    fn in_rest(&mut self, b: u8) -> Option<Item>
+    fn in_rest(&mut self, b: u8) -> Option<Piece>
         ensures { (result, self.new) ≡ in_rest self.old b }
     {
         if b == b'\n' {
@@ -274,11 +322,12 @@ impl Cutter {
         if is_blank(b) {
             return self.goes(Place::Rest);
         }
-        self.goes(Place::Out)
+        self.at = Place::Out;
+        Some(Piece::Crowded { line: self.line })
     }
 
-    fn keeps(&mut self, alloc: Global, held: &[u8], b: u8) -> Result<Option<Item>, NoMemory>
-        ensures { IfOk result (λ item. (item, self.new) ≡ keeps held.now self.old b) }
+    fn keeps(&mut self, alloc: Global, held: &[u8], b: u8) -> Result<Option<Piece>, NoMemory>
+        ensures { IfOk result (λ piece. (piece, self.new) ≡ keeps held.now self.old b) }
     {
         put_all(alloc, &mut self.copied, held)?;
         self.copied.put(b)?;
@@ -290,25 +339,35 @@ impl Cutter {
         Ok(self.goes(Place::Data(line)))
     }
 
-    fn in_data(&mut self, alloc: Global, line: Line, b: u8) -> Result<Option<Item>, NoMemory>
-        ensures { IfOk result (λ item. (item, self.new) ≡ in_data line self.old b) }
+    fn in_data(&mut self, alloc: Global, line: Line, b: u8) -> Result<Option<Piece>, NoMemory>
+        ensures { IfOk result (λ piece. (piece, self.new) ≡ in_data line self.old b) }
     {
         match line {
             Line::Start if b == b'\\' => Ok(self.goes(Place::Data(Line::Slash))),
             Line::Slash if b == b'.' => Ok(self.goes(Place::Data(Line::End))),
-            Line::End if b == b'\n' => Ok(self.gives(alloc, Place::Gap { fresh: true })),
+            Line::End if b == b'\n' => Ok(self.gives_statement(alloc, Place::Gap { fresh: true })),
             Line::Start | Line::Within => self.keeps(alloc, b"", b),
             Line::Slash => self.keeps(alloc, b"\\", b),
             Line::End => self.keeps(alloc, b"\\.", b),
         }
     }
 
+    fn in_directive(&mut self, alloc: Global, b: u8) -> Result<Option<Piece>, NoMemory>
+        ensures { IfOk result (λ piece. (piece, self.new) ≡ in_directive self.old b) }
+    {
+        if b == b'\n' {
+            return Ok(self.gives_directive(alloc));
+        }
+        put(alloc, &mut self.text, b)?;
+        Ok(self.goes(Place::Directive))
+    }
+
     /// What a byte ends; the cutter goes on behind it.
     #[tactic(auto, unfolding(crate::specs::Scripts::step))]
-    fn step(&mut self, alloc: Global, b: u8) -> Result<Option<Item>, NoMemory>
-        ensures { IfOk result (λ item. (item, self.new) ≡ step self.old b) }
+    fn step(&mut self, alloc: Global, b: u8) -> Result<Option<Piece>, NoMemory>
+        ensures { IfOk result (λ piece. (piece, self.new) ≡ step self.old b) }
     {
-        self.line = line_behind(self.at, self.line, b);
+        self.line = line_behind(self.line, b);
         match self.at {
             Place::Gap { fresh } => self.in_gap(alloc, fresh, b),
             Place::GapDash => self.in_dash(alloc, b),
@@ -316,7 +375,7 @@ impl Cutter {
             Place::Text(scan) => self.in_text(alloc, scan, b),
             Place::Rest => Ok(self.in_rest(b)),
             Place::Data(line) => self.in_data(alloc, line, b),
-            Place::Directive if b == b'\n' => Ok(self.goes(Place::Out)),
+            Place::Directive => self.in_directive(alloc, b),
             at => Ok(self.goes(at)),
         }
     }
@@ -345,8 +404,8 @@ impl Cutter {
         Ok(left)
     }
 
-    /// Takes bytes up to the first that ends an item, and gives the item and the bytes left; or takes all of them, if
-    /// they end none.
+    /// Takes bytes up to the first that ends a piece, and gives the piece and the bytes left; or takes all of them, if
+    /// they end none. Behind a crowded line it gives none.
     ///
     /// Errors: for want of memory; nothing is said of the cutter then.
     #[tactic(auto, using(crate::proofs::CuttingLaws::cut_none, crate::proofs::CuttingLaws::gives_at))]
@@ -355,62 +414,40 @@ impl Cutter {
         alloc: Global,
         bytes: &'a [u8],
     ) -> Result<Option<Step<'a>>, NoMemory>
-        ensures { IfOk result (λ step. MatchOption step (cut self.old bytes.now ≡ record { items = []; begun = self.new }) (λ s. Gives self.old bytes.now s.item self.new s.left.now)) }
+        ensures { IfOk result (λ step. MatchOption step (cut self.old bytes.now ≡ record { pieces = []; begun = self.new }) (λ s. Gives self.old bytes.now s.piece self.new s.left.now)) }
     {
         let mut left = bytes;
         'bytes: while let [b, rest @ ..] = left {
-            if let Some(item) = self.step(alloc, *b)? {
-                return Ok(Some(Step { item, left: rest }));
+            if let Some(piece) = self.step(alloc, *b)? {
+                return Ok(Some(Step { piece, left: rest }));
             }
             left = self.take_run(alloc, rest)?;
         }
         Ok(None)
     }
 
-    /// What the end of the script makes an item.
+    /// What the end of the script makes a piece: a directive in its last line needs no newline.
     ///
     /// Errors: for want of memory.
     #[tactic(auto, unfolding(crate::specs::Scripts::last))]
-    pub fn finish(self) -> Result<Option<Item>, NoMemory>
-        ensures { IfOk result (λ item. item ≡ last self) }
+    pub fn finish(self) -> Result<Option<Piece>, NoMemory>
+        ensures { IfOk result (λ piece. piece ≡ last self) }
     {
         let Cutter {
             at,
+            begun: line,
             mut text,
             mut copied,
             ..
         } = self;
         match at {
-            Place::Gap { .. } | Place::GapComment | Place::Directive | Place::Out => {
-                return Ok(None);
-            }
+            Place::Gap { .. } | Place::GapComment | Place::Out => return Ok(None),
+            Place::Directive => return Ok(Some(Piece::Directive { line, text })),
             Place::GapDash => text.put(b'-')?,
             Place::Data(Line::Slash) => copied.put(b'\\')?,
             Place::Text(_) | Place::Rest | Place::Data(_) => {}
         }
-        Ok(Some(Item { text, copied }))
-    }
-
-    /// The number of the line that is out of its place, if there was one: a directive, or the line of a COPY whose
-    /// statement is followed there by more than blanks.
-    #[tactic(auto, unfolding(crate::specs::Scripts::misplaced))]
-    pub fn misplaced(&self) -> Option<u64>
-        ensures { result ≡ misplaced self.now }
-    {
-        match self.at {
-            Place::Out => Some(self.line),
-            _ => None,
-        }
-    }
-
-    /// As `misplaced`, where the script ends here: a directive in its last line needs no newline.
-    #[tactic(auto, unfolding(crate::specs::Scripts::misplaced_at_end))]
-    pub fn misplaced_at_end(&self) -> Option<u64>
-        ensures { result ≡ misplaced_at_end self.now }
-    {
-        match self.at {
-            Place::Directive | Place::Out => Some(self.line),
-            _ => None,
-        }
+        let item = Item { text, copied };
+        Ok(Some(Piece::Statement { line, item }))
     }
 }

@@ -23,6 +23,8 @@ pub enum Fatal {
     LimitBytes,
     /// The script has more than `MOST_STATEMENTS` statements.
     LimitStatements,
+    /// A session of a block has a number above `MOST_SESSIONS`.
+    LimitSessions,
     /// The line of this number is out of its place.
     Line(u64),
 }
@@ -44,6 +46,7 @@ fn push_fatal(out: &mut Vec<u8>, fatal: Fatal) -> Result<(), AllocError>
         Fatal::Read => push_words(out, b"FATAL read\n"),
         Fatal::LimitBytes => push_words(out, b"FATAL limit bytes 16777216\n"),
         Fatal::LimitStatements => push_words(out, b"FATAL limit statements 20000\n"),
+        Fatal::LimitSessions => push_words(out, b"FATAL limit sessions 8\n"),
         Fatal::Line(line) => push_line(out, line),
     }
 }

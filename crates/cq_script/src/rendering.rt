@@ -1,6 +1,6 @@
 ghost use Rattle.std.specs.Prelude.{◌≡◌, ℕ, List, ◌∷◌, ◌++◌, map, flat_map, true, IfOk, OnOk};
 ghost use Rattle.std.specs.List.{join_with_byte};
-ghost use Rattle.cq_script.specs.Texts.{escaped, value_text, fields_line, row_line, count_line, tag_text, text_of, text_under};
+ghost use Rattle.cq_script.specs.Texts.{escaped, value_text, fields_line, row_line, count_line, tag_text, text_of, text_under, session_line};
 
 use crate::csv_table::csv_table;
 use crate::fault::push_fault;
@@ -187,4 +187,26 @@ pub fn render(alloc: Global, answer: &Answer, csv: bool) -> Result<Vec<u8>, NoMe
     } else {
         render_plain(alloc, answer)
     }
+}
+
+/// The line before the answers of a session of a block.
+///
+/// Errors: for want of memory.
+#[tactic(auto, unfolding(crate::specs::Texts::session_line))]
+pub fn session_line(alloc: Global, session: u32) -> Result<Vec<u8>, NoMemory>
+    ensures { IfOk result (λ line. line.items ≡ session_line session) }
+{
+    let mut out = Vec::new(alloc);
+    match push_session(&mut out, session) {
+        Ok(()) => Ok(out),
+        Err(_) => Err(NoMemory),
+    }
+}
+
+#[tactic(auto, unfolding(crate::specs::Texts::session_line))]
+fn push_session(out: &mut Vec<u8>, session: u32) -> Result<(), AllocError>
+    ensures { OnOk result (out.new.items ≡ out.old.items ++ session_line session) }
+{
+    push_with(out, b"-- session ", u64::from(session))?;
+    push_words(out, b"\n")
 }

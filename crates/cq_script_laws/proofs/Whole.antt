@@ -5,7 +5,8 @@ use Rattle.std.proofs.Common.{◌≡◌, ◌≤◌, ◌+◌, ◌⊎◌, inl, inr
 use Rattle.cq_value.proofs.Truths.{two_ways}
 use Rattle.cq_token.specs.Bytes.{is_blank}
 use Rattle.cq_token.specs.Tokens.{begins_comment}
-use Rattle.cq_script.specs.Pieces.{Piece, HasNo, BeginsText, IsText, AreBlank, IsCopyLine, IsGap, IsPiece, AreCut, IsLastData, IsLeft, IsScript, starts_line}
+use Rattle.cq_script.specs.declared.cutter.Piece.{Piece}
+use Rattle.cq_script.specs.Pieces.{HasNo, BeginsText, IsText, AreBlank, IsCopyLine, IsGap, IsPiece, AreCut, IsLastData, IsLeft, IsScript, starts_line}
 use Rattle.cq_script.specs.Scripts.{is_copy}
 use Rattle.cq_script.specs.Written.{IsLine, IsData, whole_line}
 use Rattle.cq_script.proofs.WrittenLaws.{nat_same}

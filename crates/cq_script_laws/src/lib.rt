@@ -4,7 +4,7 @@
 
 ghost use Rattle.cq_script_laws.specs.Laws.{AllAreScripts, BegunAsCut, WholeAsCut};
 
-/// Each script is pieces, one after the other, in one way, and the cutter gives its statements and the line that is out of its place: of the
+/// Each script is pieces, one after the other, and however it is one, what is read of them is read of the pieces that the cutter gives: of the
 /// bytes so far, and of all of them. Does nothing.
 pub fn script_laws()
     ensures scripts { AllAreScripts }
