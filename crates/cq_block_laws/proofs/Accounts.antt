@@ -19,7 +19,7 @@ climbs_on : (low : ℕ) (rs : List Range) (n m : ℕ) → n ≤ m → Climbs low
 climbs_on low [] n m le h = omega (arith, le, h)
 climbs_on low (r ∷ rs) n m le h = (h.0, h.1, climbs_on r.1 rs n m le h.2)
 
-climbs_from : (low high : ℕ) (rs : List Range) (n : ℕ) → low ≤ high → Climbs high rs n → Climbs low rs n
+pub climbs_from : (low high : ℕ) (rs : List Range) (n : ℕ) → low ≤ high → Climbs high rs n → Climbs low rs n
 climbs_from low high [] n le h = omega (arith, le, h)
 climbs_from low high (r ∷ rs) n le h = ((let l = h.0 in omega (arith, le, l)), h.1, h.2)
 

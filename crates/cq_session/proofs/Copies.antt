@@ -1,5 +1,5 @@
 -- A text with its data: what it stands for, and how its answer is written.
-use Rattle.std.proofs.Common.{nat_lt, ◌≡◌, ◌⊎◌, inl, inr, ℕ, Bool, true, false, List, [], ◌∷◌, ◌++◌, Option, None, Some, Result, Ok, Err, refl, sym, ◌∙◌, ap, subst}
+use Rattle.std.proofs.Common.{nat_eq, ◌≡◌, ◌⊎◌, inl, inr, ℕ, zero, suc, Bool, true, false, List, [], ◌∷◌, ◌++◌, Option, None, Some, Result, Ok, Err, refl, sym, ◌∙◌, ap, subst}
 use Rattle.std.specs.Prelude.{slice_get}
 use Rattle.std.specs.List.{AllByRecursion}
 use Rattle.cq_value.proofs.Truths.{two_ways}
@@ -33,7 +33,7 @@ use Rattle.cq_history.proofs.Copying.{copy_is_answered}
 use Rattle.cq_store.specs.Stores.{StoreState}
 use Rattle.cq_group.specs.declared.group.GroupState.{GroupState}
 use Rattle.cq_group.specs.Groups.{stores_of, entries_of}
-use Rattle.cq_cluster.specs.Accounts.{moved_by, later_than, AreAccounted, Retires}
+use Rattle.cq_cluster.specs.Accounts.{moved_by, behind, AreAccounted, Retires}
 use Rattle.cq_cluster.specs.declared.retired.Retired.{Retired}
 use Rattle.cq_bound_laws.specs.Laws.{HasColumns}
 use Rattle.cq_bound_laws.proofs.Statements.{copies_are_there}
@@ -223,13 +223,15 @@ below_tagged next true (answer.Tag t) h = tt
 below_tagged next true (answer.Table names rows) h = h
 below_tagged next true (answer.Failed f) h = h
 
--- the answers to later statements, with one behind them or another to the same
-later_with : (n : ℕ) (answers : List Answered) (a b : Answered) → a.statement ≡ b.statement → (rest : List Answered) × (later_than n (answers ++ a ∷ []) ≡ rest ++ later_than n (a ∷ [])) × (later_than n (answers ++ b ∷ []) ≡ rest ++ later_than n (b ∷ []))
-later_with n [] a b same = ([], refl, refl)
-later_with n (c ∷ answers) a b same = elim (two_ways (nat_lt n c.statement)) [
-  | inl y ↦ (let r = later_with n answers a b same in (c ∷ r.0, rw y (ap (λ (v : List Answered). c ∷ v) r.1), rw y (ap (λ (v : List Answered). c ∷ v) r.2)))
-  | inr f ↦ (let r = later_with n answers a b same in (r.0, rw f r.1, rw f r.2))
-]
+-- the answers behind that to a statement, with one behind them all or another to the same: either is among them, or none of the two
+abbrev AreBehind : ℕ → List Answered → Answered → Answered → Type 0
+AreBehind n answers a b =
+    ((rest : List Answered) × (behind n (answers ++ a ∷ []) ≡ rest ++ a ∷ []) × (behind n (answers ++ b ∷ []) ≡ rest ++ b ∷ [])) ⊎ (behind n (answers ++ a ∷ []) ≡ behind n (answers ++ b ∷ []))
+
+behind_with : (n : ℕ) (answers : List Answered) (a b : Answered) → a.statement ≡ b.statement → AreBehind n answers a b
+behind_with zero answers a b same = inl (answers, refl, refl)
+behind_with (suc n) [] a b same = inr (rw same refl)
+behind_with (suc n) (c ∷ answers) a b same = elim (two_ways (nat_eq c.statement (suc n))) [ inl y ↦ rw y (inl (answers, refl, refl)) | inr f ↦ rw f (behind_with (suc n) answers a b same) ]
 
 module _ (answers : List Answered) (a b : Answered) where
   -- the ranges of the answers with the one behind them or the other
@@ -262,25 +264,17 @@ accounted_with {X = X} state c answers a copied given groups is h =
     let b : Answered = record a { answer = given } in
     let same : (node shard : ℕ) → range_in node shard a.answer ≡ range_in node shard given = λ node shard. ap (range_in node shard) is ∙ range_tagged node shard copied given in
     record {
-      stores = λ i g at. later_accounts (moved_by (entries_of g)) (stores_of g) (h.stores i g at);
+      stores = λ i g at. behind_accounts (moved_by (entries_of g)) (stores_of g) (h.stores i g at);
       below = below_with answers a b c.next_shard answers (λ k. subst (NamesBelow c.next_shard) (sym is) (below_tagged c.next_shard copied given k)) h.below;
     }
   where
-    later_accounts : (n : ℕ) (stores : List X) → AllByRecursion (λ (x : X). AccountsFor (later_than n (answers ++ record a { answer = given } ∷ [])) (state x)) stores → AllByRecursion (λ (x : X). AccountsFor (later_than n (answers ++ a ∷ [])) (state x)) stores
-    later_accounts n stores all =
+    behind_accounts : (n : ℕ) (stores : List X) → AllByRecursion (λ (x : X). AccountsFor (behind n (answers ++ record a { answer = given } ∷ [])) (state x)) stores → AllByRecursion (λ (x : X). AccountsFor (behind n (answers ++ a ∷ [])) (state x)) stores
+    behind_accounts n stores all =
         let b : Answered = record a { answer = given } in
-        let r = later_with n answers a b refl in
-        elim (two_ways (nat_lt n a.statement)) [
-          | inl y ↦
-              (let more : later_than n (answers ++ a ∷ []) ≡ r.0 ++ a ∷ [] = rw y at r.1 in
-              let one : later_than n (answers ++ b ∷ []) ≡ r.0 ++ b ∷ [] = rw y at r.2 in
-              subst (λ (v : List Answered). AllByRecursion (λ (x : X). AccountsFor v (state x)) stores) (sym more)
-              (all_with r.0 a b state stores (λ node shard. ap (range_in node shard) is ∙ range_tagged node shard copied given)
-              (subst (λ (v : List Answered). AllByRecursion (λ (x : X). AccountsFor v (state x)) stores) one all)))
-          | inr f ↦
-              (let more : later_than n (answers ++ a ∷ []) ≡ r.0 ++ [] = rw f at r.1 in
-              let one : later_than n (answers ++ b ∷ []) ≡ r.0 ++ [] = rw f at r.2 in
-              subst (λ (v : List Answered). AllByRecursion (λ (x : X). AccountsFor v (state x)) stores) (one ∙ sym more) all)
+        let For : List Answered → Type 0 = λ v. AllByRecursion (λ (x : X). AccountsFor v (state x)) stores in
+        elim (behind_with n answers a b refl) [
+          | inl r ↦ subst For (sym r.1) (all_with r.0 a b state stores (λ node shard. ap (range_in node shard) is ∙ range_tagged node shard copied given) (subst For r.2 all))
+          | inr same ↦ subst For (sym same) all
         ]
 
 -- and so do the retired stores

@@ -55,7 +55,7 @@ pub returns-in-Ok-clause-accounted : goal.returns-in-Ok-clause-accounted
 returns-in-Ok-clause-accounted g c = λ answers a is next all.
     let new = c.answer-answer.new.self in
     accounted_with g.S.Store.state new.cluster.catalog answers a c.in-Ok.read.is_copy c.answer-answer.result new.cluster.groups.items (is ∙ c.tagged.ensures)
-    (c.answer-answer.ensures.accounted answers (record a { answer = c.answer-answer.result }) refl (record { is = next.is; answered = next.answered; moved = next.moved }) all)
+    (c.answer-answer.ensures.accounted answers (record a { answer = c.answer-answer.result }) refl (record { is = next.is; low = next.low; answered = next.answered; moved = next.moved }) all)
 
 pub returns-in-Ok-clause-retires : goal.returns-in-Ok-clause-retires
 returns-in-Ok-clause-retires g c = subst (λ (a : Answer). Retires c.args.who a c.args.coordinator.now.cluster.retired.items c.answer-answer.new.self.cluster.retired.items) (sym c.tagged.ensures)
