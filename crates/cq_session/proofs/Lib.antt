@@ -1,3 +1,4 @@
 pub mod ReadingLaws
 pub mod Naming
 pub mod Copies
+pub mod BlockLaws

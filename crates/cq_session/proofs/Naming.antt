@@ -1,5 +1,6 @@
 -- The refusals of a text and of its data are those of reading, which name no store.
-use Rattle.std.proofs.Common.{◌≡◌, ℕ, Bool, true, List, [], length, subst, refl, Ok, Err, Result, None, Some, Option, slice_get}
+use Rattle.std.proofs.Common.{◌≡◌, ℕ, zero, suc, Bool, true, false, if◌then◌else◌, List, length, subst, refl, Ok, Err, Result, None, Some, Option, slice_get}
+use Rattle.std.specs.Prelude.{IfErr}
 use Rattle.cq_token.specs.declared.token.Token.{Token}
 use Rattle.cq_token.specs.declared.error.LexError.{LexError}
 use Rattle.cq_token.specs.declared.error.LexError.TheVariants as lexing
@@ -19,7 +20,8 @@ use Rattle.cq_answer.specs.Faults.{fault_of_lexing}
 use Rattle.cq_reading.specs.declared.error.Limited.{Limited as BindLimit}
 use Rattle.cq_reading.specs.declared.error.Limited.TheVariants as bind_limit
 use Rattle.cq_reading.specs.Faults.{what_of_bind, fault_of_bind}
-use Rattle.cq_statement.specs.Reading.{fault_of_complaint, of_reading, of_verdict, of_tokens, reading_of}
+use Rattle.cq_statement.specs.Blocks.{may_be_in_block}
+use Rattle.cq_statement.specs.Reading.{fault_of_complaint, of_verdict, of_tokens, tree_of, in_block, of_reading, of_tree, reading_of, reading_in_block}
 use Rattle.cq_statement.specs.Finding.{Reads}
 use Rattle.cq_history.specs.Faults.{NamesNoStore, is_limit_of_texts, IsOfReading}
 use Rattle.cq_cluster.specs.Accounts.{NamesNone}
@@ -28,7 +30,7 @@ use Rattle.cq_copy.specs.declared.error.CopyError.{CopyError}
 use Rattle.cq_copy.specs.declared.error.CopyError.TheVariants as copying
 use Rattle.cq_copy.specs.Rows.{Row}
 use Rattle.cq_copy.specs.Data.{rows_of}
-use Rattle.cq_session.specs.Responses.{fault_of_copy, insertion, insertion_into, with_data, reading_with}
+use Rattle.cq_session.specs.Responses.{fault_of_copy, insertion, insertion_into, with_data, reading_for, reading_with}
 use Rattle.cq_session.proofs.Copies.{by_cases}
 
 lexing_named : (e : LexError) → IsOfReading (fault_of_lexing e)
@@ -72,26 +74,44 @@ binding_named (binding.Value row column) = refl
 binding_named (binding.Limit limited number) = limit_named limited
 binding_named binding.Memory = refl
 
-same_error : {T : Type 0} (f g : Fault) → Path (Result T Fault) (Err f) (Err g) → f ≡ g
-same_error f g e = cc
+-- what is refused, is for a fault of reading
+abbrev FailsInReading : {A : Type 0} → Result A Fault → Type 0
+FailsInReading r = IfErr r IsOfReading
 
-reading_named : (r : Result Statement BindError) (f : Fault) → of_reading r ≡ Err f → IsOfReading f
-reading_named (Ok s) f e = absurd (cc)
-reading_named (Err b) f e = subst IsOfReading (same_error (fault_of_bind b) f e) (binding_named b)
+reading_named : (r : Result Statement BindError) → FailsInReading (of_reading r)
+reading_named (Ok s) = tt
+reading_named (Err e) = binding_named e
 
-verdict_named : (v : Result Ast Complaint) (tables : List TableInfo) (f : Fault) → of_verdict v tables ≡ Err f → IsOfReading f
-verdict_named (Ok a) tables f e = reading_named (reading tables a) f e
-verdict_named (Err c) tables f e = subst IsOfReading (same_error (fault_of_complaint c) f e) (complaint_named c)
+verdict_named : (v : Result Ast Complaint) → FailsInReading (of_verdict v)
+verdict_named (Ok a) = tt
+verdict_named (Err c) = complaint_named c
 
-tokens_named : (r : Result (List Token) LexError) (end : ℕ) (tables : List TableInfo) (f : Fault) → of_tokens r end tables ≡ Err f → IsOfReading f
-tokens_named (Ok ts) end tables f e = verdict_named (verdict ts end) tables f e
-tokens_named (Err l) end tables f e = subst IsOfReading (same_error (fault_of_lexing l) f e) (lexing_named l)
+tokens_named : (r : Result (List Token) LexError) (end : ℕ) → FailsInReading (of_tokens r end)
+tokens_named (Ok ts) end = verdict_named (verdict ts end)
+tokens_named (Err e) end = lexing_named e
 
-text_named : (text : List ℕ) (tables : List TableInfo) (f : Fault) → reading_of text tables ≡ Err f → IsOfReading f
-unfolding reading_of
-text_named text tables f e = tokens_named (tokens text) (length text) tables f e
+text_named : (text : List ℕ) → FailsInReading (tree_of text)
+unfolding tree_of
+text_named text = tokens_named (tokens text) (length text)
 
--- nor do those of a COPY's data
+allowed_named : (a : Ast) (may : Bool) → FailsInReading (if may then Ok a else Err fault.NotInBlock)
+allowed_named a true = tt
+allowed_named a false = refl
+
+block_named : (tree : Result Ast Fault) → FailsInReading tree → FailsInReading (in_block tree)
+block_named (Ok a) h = allowed_named a (may_be_in_block a)
+block_named (Err f) h = h
+
+tree_named : (tables : List TableInfo) (tree : Result Ast Fault) → FailsInReading tree → FailsInReading (of_tree tables tree)
+tree_named tables (Ok a) h = reading_named (reading tables a)
+tree_named tables (Err f) h = h
+
+session_named : (session : ℕ) (text : List ℕ) (tables : List TableInfo) → FailsInReading (reading_for session text tables)
+unfolding reading_of reading_in_block
+session_named zero text tables = tree_named tables (tree_of text) (text_named text)
+session_named (suc session) text tables = tree_named tables (in_block (tree_of text)) (block_named (tree_of text) (text_named text))
+
+-- and so it is for a COPY's data
 
 copy_named : (e : CopyError) → IsOfReading (fault_of_copy e)
 copy_named (copying.Columns row found) = refl
@@ -99,22 +119,22 @@ copy_named (copying.BadValue row column) = refl
 copy_named (copying.Encoding row) = refl
 copy_named copying.Memory = refl
 
-rows_named : (table : ℕ) (r : Result (List Row) CopyError) (f : Fault) → insertion table r ≡ Err f → IsOfReading f
-rows_named table (Ok rows) f is = absurd (cc is)
-rows_named table (Err e) f is = subst IsOfReading (same_error (fault_of_copy e) f is) (copy_named e)
+rows_named : (table : ℕ) (r : Result (List Row) CopyError) → FailsInReading (insertion table r)
+rows_named table (Ok rows) = tt
+rows_named table (Err e) = copy_named e
 
-table_named : (o : Option TableInfo) (table : ℕ) (columns : List ℕ) (csv header : Bool) (bytes : List ℕ) (f : Fault) → insertion_into o table columns csv header bytes ≡ Err f → IsOfReading f
-table_named None table columns csv header bytes f is = subst IsOfReading (same_error (fault.UnknownTable []) f is) refl
-table_named (Some t) table columns csv header bytes f is = rows_named table (rows_of bytes t columns csv header) f is
+table_named : (o : Option TableInfo) (table : ℕ) (columns : List ℕ) (csv header : Bool) (bytes : List ℕ) → FailsInReading (insertion_into o table columns csv header bytes)
+table_named None table columns csv header bytes = refl
+table_named (Some t) table columns csv header bytes = rows_named table (rows_of bytes t columns csv header)
 
-data_named : (bytes : List ℕ) (tables : List TableInfo) (f : Fault) (read : Result Statement Fault) → (read ≡ Err f → IsOfReading f) → with_data bytes tables read ≡ Err f → IsOfReading f
-data_named bytes tables f = by_cases bytes tables (λ (r w : Result Statement Fault). (r ≡ Err f → IsOfReading f) → w ≡ Err f → IsOfReading f) (λ table columns csv header h. table_named (slice_get tables table) table columns csv header bytes f)
-    (λ r none h. h)
+data_named : (bytes : List ℕ) (tables : List TableInfo) (read : Result Statement Fault) → FailsInReading read → FailsInReading (with_data bytes tables read)
+data_named bytes tables = by_cases bytes tables (λ (r w : Result Statement Fault). FailsInReading r → FailsInReading w) (λ table columns csv header h. table_named (slice_get tables table) table columns csv header bytes) (λ r none h. h)
 
 -- a text or its data is refused for a fault of reading
-pub unread_is_of_reading : (f : Fault) (text bytes : List ℕ) (tables : List TableInfo) → Reads (reading_with text bytes tables) (Err f) → IsOfReading f
-unread_is_of_reading fault.Memory text bytes tables reads = refl
-unread_is_of_reading f text bytes tables reads = data_named bytes tables f (reading_of text tables) (text_named text tables f) reads
+pub unread_is_of_reading : (f : Fault) (session : ℕ) (text bytes : List ℕ) (tables : List TableInfo) → Reads (reading_with session text bytes tables) (Err f) → IsOfReading f
+unread_is_of_reading fault.Memory session text bytes tables reads = refl
+unread_is_of_reading f session text bytes tables reads =
+    subst (λ (r : Result Statement Fault). FailsInReading r) reads (data_named bytes tables (reading_for session text tables) (session_named session text tables))
 
 reading_names_none : (f : Fault) → IsOfReading f → NamesNoStore f
 reading_names_none (fault.Worker failure) is = absurd (cc is)
@@ -122,9 +142,9 @@ reading_names_none (fault.Retired failure) is = absurd (cc is)
 reading_names_none f is = refl
 
 -- so it names no store
-pub unread_names_none : (f : Fault) (text bytes : List ℕ) (tables : List TableInfo) → Reads (reading_with text bytes tables) (Err f) → NamesNoStore f
-unread_names_none f text bytes tables reads = reading_names_none f (unread_is_of_reading f text bytes tables reads)
+pub unread_names_none : (f : Fault) (session : ℕ) (text bytes : List ℕ) (tables : List TableInfo) → Reads (reading_with session text bytes tables) (Err f) → NamesNoStore f
+unread_names_none f session text bytes tables reads = reading_names_none f (unread_is_of_reading f session text bytes tables reads)
 
 -- so does the answer to a text that isn't bound
-pub unread_named : (a : Answer) (f : Fault) (text bytes : List ℕ) (tables : List TableInfo) → a ≡ answer.Failed f → Reads (reading_with text bytes tables) (Err f) → NamesNone a
-unread_named a f text bytes tables is reads = none_named a f is (unread_names_none f text bytes tables reads)
+pub unread_named : (a : Answer) (f : Fault) (session : ℕ) (text bytes : List ℕ) (tables : List TableInfo) → a ≡ answer.Failed f → Reads (reading_with session text bytes tables) (Err f) → NamesNone a
+unread_named a f session text bytes tables is reads = none_named a f is (unread_names_none f session text bytes tables reads)

@@ -1,5 +1,5 @@
 -- What a statement's text and its data were read as, and how that is answered.
-use Rattle.std.specs.Prelude.{◌≡◌, ◌<◌, ⊤, ℕ, Bool, true, false, if◌then◌else◌, List, [], length, slice_get, Option, Some, None, Result, Ok, Err}
+use Rattle.std.specs.Prelude.{◌≡◌, ◌<◌, ⊤, ℕ, zero, suc, Bool, true, false, if◌then◌else◌, List, [], length, slice_get, Option, Some, None, Result, Ok, Err}
 use Rattle.cq_tree.specs.declared.statement.Statement.{Statement}
 use Rattle.cq_tree.specs.declared.statement.Statement.TheVariants as statement
 use Rattle.cq_tree.specs.declared.write.ShardOp.TheVariants.{Insert}
@@ -15,8 +15,20 @@ use Rattle.cq_copy.specs.Rows.{Row}
 use Rattle.cq_copy.specs.Data.{rows_of}
 use Rattle.cq_history.specs.Standing.{copied_answer}
 use Rattle.cq_coordinator.specs.Coordination.{IsNoCopy}
-use Rattle.cq_statement.specs.Meanings.{Means}
-use Rattle.cq_statement.specs.Reading.{reading_of}
+use Rattle.cq_statement.specs.Meanings.{Means, MeansInBlock}
+use Rattle.cq_statement.specs.Reading.{reading_of, reading_in_block}
+
+-- ---- a text, in a session of a block, or in session 0, which is outside blocks
+
+-- the statement that it stands for there, or why it is refused
+abbrev pub reading_for : ℕ → List ℕ → List TableInfo → Result Statement Fault
+reading_for zero text tables = reading_of text tables
+reading_for (suc session) text tables = reading_in_block text tables
+
+-- the same by the grammar alone
+abbrev pub MeansFor : ℕ → List ℕ → List TableInfo → Result Statement Fault → Type 0
+MeansFor zero text tables read = Means text tables read
+MeansFor (suc session) text tables read = MeansInBlock text tables read
 
 -- ---- a text and its data
 
@@ -43,8 +55,8 @@ with_data bytes tables (Ok (statement.Copy table columns csv header)) = insertio
 with_data bytes tables read = read
 
 -- the statement that a text and its data stand for, or why they are refused: first what the text shows, and then what the data do
-abbrev pub reading_with : List ℕ → List ℕ → List TableInfo → Result Statement Fault
-reading_with text bytes tables = with_data bytes tables (reading_of text tables)
+abbrev pub reading_with : ℕ → List ℕ → List ℕ → List TableInfo → Result Statement Fault
+reading_with session text bytes tables = with_data bytes tables (reading_for session text tables)
 
 abbrev pub is_copy : Result Statement Fault → Bool
 is_copy (Ok (statement.Copy table columns csv header)) = true
@@ -75,9 +87,9 @@ IsBoundTo None (answer.Failed fault.Memory) read = ⊤
 IsBoundTo None a (Ok t) = ⊥
 IsBoundTo None a (Err f) = a ≡ answer.Failed f
 
--- the bound form is what the text means over these tables, with its data, and the answer is written as the text's
-pub record ReadsAs (bound : Option Statement) (a : Answer) (text bytes : List ℕ) (tables : List TableInfo) : Type 0 where
+-- the bound form is what the text means in its session over these tables, with its data, and the answer is written as the text's
+pub record ReadsAs (session : ℕ) (bound : Option Statement) (a : Answer) (text bytes : List ℕ) (tables : List TableInfo) : Type 0 where
   pub read : Result Statement Fault
-  pub means : Means text tables read
+  pub means : MeansFor session text tables read
   pub is_bound : IsBoundTo bound a (with_data bytes tables read)
   pub is_tagged : IsTagged (is_copy read) a

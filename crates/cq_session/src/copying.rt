@@ -1,14 +1,12 @@
 ghost use Rattle.std.specs.Prelude.{◌≡◌, ◌<◌, length, slice_get, Ok, Err, IfOk, IfErr};
 ghost use Rattle.cq_statement.specs.Finding.{Reads};
-ghost use Rattle.cq_statement.specs.Meanings.{Means};
-ghost use Rattle.cq_statement.specs.Reading.{reading_of};
 ghost use Rattle.cq_session.specs.Responses as spec;
-ghost use Rattle.cq_session.specs.Responses.{IsThere, insertion_into, is_copy, reading_with};
+ghost use Rattle.cq_session.specs.Responses.{IsThere, MeansFor, insertion_into, is_copy, reading_for, reading_with};
 
 use cq_answer::Fault;
 use cq_catalog::Catalog;
 use cq_copy::{CopyError, rows_of};
-use cq_statement::read_statement;
+use cq_statement::{read_in_block, read_statement};
 use cq_tree::{ShardOp, Statement};
 use cq_value::Positions;
 use std::alloc::Global;
@@ -84,21 +82,39 @@ fn with_data(
     }
 }
 
-/// The bound statement that a text and its data stand for over the tables of a catalogue.
+/// The bound statement that a text stands for in a session, where 0 is outside blocks.
+fn read_text(
+    alloc: Global,
+    catalog: &Catalog,
+    session: u32,
+    text: &[u8],
+) -> Result<Statement, Fault>
+    ensures reading { Reads (reading_for session text.now catalog.now.tables) result }
+    ensures means { MeansFor session text.now catalog.now.tables (reading_for session text.now catalog.now.tables) }
+{
+    if session == 0 {
+        read_statement(alloc, text, catalog)
+    } else {
+        read_in_block(alloc, text, catalog)
+    }
+}
+
+/// The bound statement that a text and its data stand for in a session over the tables of a catalogue.
 ///
 /// Errors: the text's fault; that of a COPY's data (27 to 29 of `Fault`); and want of memory.
 pub(crate) fn read_with_data(
     alloc: Global,
     catalog: &Catalog,
+    session: u32,
     text: &[u8],
     copied: &[u8],
 ) -> Result<Reading, Fault>
-    ensures ok { IfOk result (λ r. reading_with text.now copied.now catalog.now.tables ≡ Ok r.statement) }
-    ensures copy { IfOk result (λ r. r.is_copy ≡ is_copy (reading_of text.now catalog.now.tables)) }
-    ensures err { IfErr result (λ f. Reads (reading_with text.now copied.now catalog.now.tables) (Err f)) }
-    ensures means { Means text.now catalog.now.tables (reading_of text.now catalog.now.tables) }
+    ensures ok { IfOk result (λ r. reading_with session text.now copied.now catalog.now.tables ≡ Ok r.statement) }
+    ensures copy { IfOk result (λ r. r.is_copy ≡ is_copy (reading_for session text.now catalog.now.tables)) }
+    ensures err { IfErr result (λ f. Reads (reading_with session text.now copied.now catalog.now.tables) (Err f)) }
+    ensures means { MeansFor session text.now catalog.now.tables (reading_for session text.now catalog.now.tables) }
 {
-    match read_statement(alloc, text, catalog) {
+    match read_text(alloc, catalog, session, text) {
         Ok(statement) => with_data(alloc, catalog, statement, copied),
         Err(fault) => Err(fault),
     }

@@ -1,10 +1,11 @@
-ghost use Rattle.std.specs.Prelude.{◌≡◌, ℕ, List, [], ◌∷◌, ◌++◌};
+ghost use Rattle.std.specs.Prelude.{◌≡◌, ◌≤◌, ℕ, List, [], ◌∷◌, ◌++◌};
 ghost use Rattle.cq_answer.specs.declared.answered.Answered.{Answered};
 ghost use Rattle.cq_bound_laws.specs.Laws.{HasColumns};
 ghost use Rattle.cq_answer.specs.declared.answered.Settings.{Settings};
 ghost use Rattle.cq_history.specs.Journals.{journal_in};
 ghost use Rattle.cq_history.specs.Legality.{IsLegal, IsKeyed};
 ghost use Rattle.cq_history.specs.Log.{IsAnswered};
+ghost use Rattle.cq_history.specs.Phases.{MayBeInBlock};
 ghost use Rattle.cq_history.specs.Refusals.{rules};
 ghost use Rattle.cq_history.specs.Standing as standing;
 ghost use Rattle.cq_store.specs.declared.worker.Worker.{Worker};
@@ -12,10 +13,10 @@ ghost use Rattle.cq_cluster.specs.Cluster.{IsSound, KeepsStores, HasStores, run_
 ghost use Rattle.cq_cluster.specs.Accounts.{IsNext, AreAccounted, Retires};
 ghost use Rattle.cq_cluster.specs.Steady.{SparesSteady};
 ghost use Rattle.cq_coordinator.specs.Coordination.{environment, journals};
-ghost use Rattle.cq_statement.specs.Meanings.{Means};
-ghost use Rattle.cq_statement.specs.Reading.{reading_of};
+ghost use Rattle.cq_statement.specs.Meanings.{Means, MeansInBlock};
+ghost use Rattle.cq_statement.specs.Reading.{reading_of, reading_in_block};
 ghost use Rattle.cq_session.specs.Responses as spec;
-ghost use Rattle.cq_session.specs.Responses.{ReadsAs};
+ghost use Rattle.cq_session.specs.Responses.{MeansFor, ReadsAs, reading_for};
 
 use crate::copying::read_with_data;
 use cq_answer::{Answer, Tag};
@@ -55,6 +56,45 @@ fn tagged(is_copy: bool, answer: Answer) -> Answer
     }
 }
 
+/// What `respond` and `respond_in_block` share: the text is read as in this session, where 0 is outside blocks.
+fn respond_as<S: Store, G: Gate>(
+    alloc: Global,
+    gate: &G,
+    coordinator: &mut Coordinator<S>,
+    who: Who,
+    session: u32,
+    text: &[u8],
+    copied: &[u8],
+) -> Response
+    requires sound { IsSound S.state coordinator.old.cluster }
+    requires legal { (g : ℕ) → IsLegal coordinator.old.cluster.catalog g (journal_in (journals coordinator.old) g) }
+    requires keyed { (table : ℕ) → IsKeyed coordinator.old.cluster.catalog table }
+    requires columns { HasColumns coordinator.old.cluster.catalog }
+    ensures answered { (initial : Settings) (entry : List (Worker S)) → HasStores S.state entry coordinator.old.cluster → IsAnswered rules (run_of coordinator.old.cluster.nodes initial entry) (environment coordinator.old) (environment coordinator.new) who (journals coordinator.old) (journals coordinator.new) result.bound result.answer }
+    ensures reads { ReadsAs session result.bound result.answer text.now copied.now coordinator.old.cluster.catalog.tables }
+    ensures means { MeansFor session text.now coordinator.old.cluster.catalog.tables (reading_for session text.now coordinator.old.cluster.catalog.tables) }
+    ensures allowed { 1 ≤ session → MayBeInBlock result.bound }
+    ensures sound { IsSound S.state coordinator.new.cluster }
+    ensures stores { KeepsStores S.state coordinator.old.cluster coordinator.new.cluster }
+    ensures accounted { (answers : List Answered) (a : Answered) → a.answer ≡ result.answer → IsNext who a answers coordinator.old.cluster.groups.items → AreAccounted S.state coordinator.old.cluster.catalog answers coordinator.old.cluster.groups.items → AreAccounted S.state coordinator.new.cluster.catalog (answers ++ a ∷ []) coordinator.new.cluster.groups.items }
+    ensures retires { Retires who result.answer coordinator.old.cluster.retired.items coordinator.new.cluster.retired.items }
+    ensures steady { SparesSteady S.state result.answer coordinator.old.cluster coordinator.new.cluster }
+{
+    match read_with_data(alloc, &coordinator.cluster.catalog, session, text, copied) {
+        Ok(read) => {
+            let answer = coordinator.answer(alloc, gate, who, &read.statement);
+            Response {
+                bound: Some(read.statement),
+                answer: tagged(read.is_copy, answer),
+            }
+        }
+        Err(fault) => Response {
+            bound: None,
+            answer: Answer::Failed(fault),
+        },
+    }
+}
+
 /// Reads a statement's text and its data over the catalogue and answers it. Only a COPY has data: that of another text is passed over.
 ///
 /// Conditions: the journals are legal, primary keys of distributed tables have the distribution column, and that is a column of its table.
@@ -75,7 +115,7 @@ pub fn respond<S: Store, G: Gate>(
     requires keyed { (table : ℕ) → IsKeyed coordinator.old.cluster.catalog table }
     requires columns { HasColumns coordinator.old.cluster.catalog }
     ensures answered { (initial : Settings) (entry : List (Worker S)) → HasStores S.state entry coordinator.old.cluster → IsAnswered rules (run_of coordinator.old.cluster.nodes initial entry) (environment coordinator.old) (environment coordinator.new) who (journals coordinator.old) (journals coordinator.new) result.bound result.answer }
-    ensures reads { ReadsAs result.bound result.answer text.now copied.now coordinator.old.cluster.catalog.tables }
+    ensures reads { ReadsAs 0 result.bound result.answer text.now copied.now coordinator.old.cluster.catalog.tables }
     ensures means { Means text.now coordinator.old.cluster.catalog.tables (reading_of text.now coordinator.old.cluster.catalog.tables) }
     ensures sound { IsSound S.state coordinator.new.cluster }
     ensures stores { KeepsStores S.state coordinator.old.cluster coordinator.new.cluster }
@@ -83,17 +123,35 @@ pub fn respond<S: Store, G: Gate>(
     ensures retires { Retires who result.answer coordinator.old.cluster.retired.items coordinator.new.cluster.retired.items }
     ensures steady { SparesSteady S.state result.answer coordinator.old.cluster coordinator.new.cluster }
 {
-    match read_with_data(alloc, &coordinator.cluster.catalog, text, copied) {
-        Ok(read) => {
-            let answer = coordinator.answer(alloc, gate, who, &read.statement);
-            Response {
-                bound: Some(read.statement),
-                answer: tagged(read.is_copy, answer),
-            }
-        }
-        Err(fault) => Response {
-            bound: None,
-            answer: Answer::Failed(fault),
-        },
-    }
+    respond_as(alloc, gate, coordinator, who, 0, text, copied)
+}
+
+/// Reads a statement's text and its data over the catalogue and answers it as one of a session of a parallel block.
+///
+/// The same as `respond`, but a statement that may not stand in a block is refused behind the faults of its text, before the catalogue is
+/// asked, and its answer has no bound form. So what is bound is a query, a write or the move of a shard group.
+pub fn respond_in_block<S: Store, G: Gate>(
+    alloc: Global,
+    gate: &G,
+    coordinator: &mut Coordinator<S>,
+    who: Who,
+    text: &[u8],
+    copied: &[u8],
+) -> Response
+    requires inside { 1 ≤ who.session }
+    requires sound { IsSound S.state coordinator.old.cluster }
+    requires legal { (g : ℕ) → IsLegal coordinator.old.cluster.catalog g (journal_in (journals coordinator.old) g) }
+    requires keyed { (table : ℕ) → IsKeyed coordinator.old.cluster.catalog table }
+    requires columns { HasColumns coordinator.old.cluster.catalog }
+    ensures answered { (initial : Settings) (entry : List (Worker S)) → HasStores S.state entry coordinator.old.cluster → IsAnswered rules (run_of coordinator.old.cluster.nodes initial entry) (environment coordinator.old) (environment coordinator.new) who (journals coordinator.old) (journals coordinator.new) result.bound result.answer }
+    ensures reads { ReadsAs who.session result.bound result.answer text.now copied.now coordinator.old.cluster.catalog.tables }
+    ensures means { MeansInBlock text.now coordinator.old.cluster.catalog.tables (reading_in_block text.now coordinator.old.cluster.catalog.tables) }
+    ensures allowed { MayBeInBlock result.bound }
+    ensures sound { IsSound S.state coordinator.new.cluster }
+    ensures stores { KeepsStores S.state coordinator.old.cluster coordinator.new.cluster }
+    ensures accounted { (answers : List Answered) (a : Answered) → a.answer ≡ result.answer → IsNext who a answers coordinator.old.cluster.groups.items → AreAccounted S.state coordinator.old.cluster.catalog answers coordinator.old.cluster.groups.items → AreAccounted S.state coordinator.new.cluster.catalog (answers ++ a ∷ []) coordinator.new.cluster.groups.items }
+    ensures retires { Retires who result.answer coordinator.old.cluster.retired.items coordinator.new.cluster.retired.items }
+    ensures steady { SparesSteady S.state result.answer coordinator.old.cluster coordinator.new.cluster }
+{
+    respond_as(alloc, gate, coordinator, who, who.session, text, copied)
 }

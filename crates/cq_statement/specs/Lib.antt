@@ -1,3 +1,4 @@
+pub mod Blocks
 pub mod Finding
 pub mod Meanings
 pub mod Reading

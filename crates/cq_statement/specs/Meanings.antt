@@ -1,5 +1,5 @@
 -- What the reading of a text means by the grammar alone, with no reader in it.
-use Rattle.std.specs.Prelude.{◌≡◌, ℕ, List, length, Result, Ok, Err}
+use Rattle.std.specs.Prelude.{◌≡◌, ◌⊎◌, ℕ, false, List, length, Result, Ok, Err}
 use Rattle.cq_token.specs.declared.token.Token.{Token}
 use Rattle.cq_token.specs.declared.error.LexError.TheVariants as lexing
 use Rattle.cq_token.specs.Tokens.{tokens}
@@ -14,6 +14,7 @@ use Rattle.cq_answer.specs.declared.fault.What.TheVariants.{Depth}
 use Rattle.cq_answer.specs.declared.fault.Fault.{Fault}
 use Rattle.cq_answer.specs.declared.fault.Fault.TheVariants as fault
 use Rattle.cq_reading.specs.Faults.{fault_of_bind}
+use Rattle.cq_statement.specs.Blocks.{may_be_in_block}
 
 -- the text's tokens spell a statement of the grammar that this is over the tables: a bound statement, or a refusal of the walk
 pub record IsTree (text : List ℕ) (tables : List TableInfo) (is : Result Statement BindError) : Type 0 where
@@ -50,3 +51,17 @@ Means text tables (Err (fault.NumberTooLarge at)) = tokens text ≡ Err (lexing.
 Means text tables (Err (fault.Syntax at)) = IsWrong text at
 Means text tables (Err (fault.Limit Depth limit)) = IsDeep text limit
 Means text tables (Err f) = IsRefused text tables f
+
+-- ---- in a parallel block
+
+-- the text's tokens spell a statement of the grammar that may not stand in a block
+pub record IsBarred (text : List ℕ) : Type 0 where
+  pub found : List Token
+  pub lexed : tokens text ≡ Ok found
+  pub tree : Ast
+  pub spelled : Accepted tree found
+  pub barred : may_be_in_block tree ≡ false
+
+-- a statement that may not stand in a block is refused there, and any other text means what it does outside
+abbrev pub MeansInBlock : List ℕ → List TableInfo → Result Statement Fault → Type 0
+MeansInBlock text tables r = (IsBarred text × (r ≡ Err fault.NotInBlock)) ⊎ ((IsBarred text → ⊥) × Means text tables r)

@@ -1,13 +1,12 @@
-ghost use Rattle.std.specs.Prelude.{◌≡◌, List, length, Result, Ok, Err, IfOk, IfErr};
+ghost use Rattle.std.specs.Prelude.{◌≡◌, Result, Ok, Err, IfOk, IfErr};
 ghost use Rattle.cq_token.specs.Tokens as lexed;
 ghost use Rattle.cq_tree.specs.declared.statement.Statement.{Statement};
-ghost use Rattle.cq_catalog.specs.declared.info.TableInfo.{TableInfo};
-ghost use Rattle.cq_grammar.specs.Verdicts.{verdict};
 ghost use Rattle.cq_reading.specs.Statements as statements;
 ghost use Rattle.cq_answer.specs.declared.fault.Fault.{Fault};
+ghost use Rattle.cq_statement.specs.Blocks as blocks;
 ghost use Rattle.cq_statement.specs.Finding.{Reads};
-ghost use Rattle.cq_statement.specs.Meanings.{Means};
-ghost use Rattle.cq_statement.specs.Reading.{fault_of_parsing as parsing_fault, of_reading, reading_of};
+ghost use Rattle.cq_statement.specs.Meanings.{Means, MeansInBlock};
+ghost use Rattle.cq_statement.specs.Reading.{fault_of_parsing as parsing_fault, tree_of, in_block, of_reading, reading_of, reading_in_block};
 
 use cq_answer::{Fault, What};
 use cq_bind::bind;
@@ -35,7 +34,7 @@ fn fault_of_parsing(error: ParseError) -> Fault
 /// The tokens of a text, or the text's fault.
 fn lex(alloc: Global, text: &[u8]) -> Result<Tokens, Fault>
     ensures ok { IfOk result (λ found. lexed.tokens text.now ≡ Ok found) }
-    ensures err { IfErr result (λ f. (tables : List TableInfo) → Reads (reading_of text.now tables) (Err f)) }
+    ensures err { IfErr result (λ f. Reads (tree_of text.now) (Err f)) }
 {
     match tokens(alloc, text) {
         Ok(found) => Ok(found),
@@ -45,12 +44,47 @@ fn lex(alloc: Global, text: &[u8]) -> Result<Tokens, Fault>
 
 /// The tree of a text's tokens, or the text's fault.
 fn parse_all(alloc: Global, tokens: &Tokens, text: &[u8]) -> Result<Ast, Fault>
-    ensures ok { IfOk result (λ tree. verdict tokens.now (length text.now) ≡ Ok tree) }
-    ensures err { IfErr result (λ f. (tables : List TableInfo) → lexed.tokens text.now ≡ Ok tokens.now → Reads (reading_of text.now tables) (Err f)) }
+    ensures { lexed.tokens text.now ≡ Ok tokens.now → Reads (tree_of text.now) result }
 {
     match parse(alloc, tokens, text) {
         Ok(tree) => Ok(tree),
         Err(error) => Err(fault_of_parsing(error)),
+    }
+}
+
+/// The tree that a text spells, or the text's fault.
+fn read_tree(alloc: Global, text: &[u8]) -> Result<Ast, Fault>
+    ensures { Reads (tree_of text.now) result }
+{
+    let tokens = lex(alloc, text)?;
+    parse_all(alloc, &tokens, text)
+}
+
+/// Whether a statement may stand in a parallel block.
+fn may_be_in_block(tree: &Ast) -> bool
+    ensures { result ≡ blocks.may_be_in_block tree.now }
+{
+    match tree {
+        Ast::Query { .. }
+        | Ast::Insert { .. }
+        | Ast::Update { .. }
+        | Ast::Delete { .. }
+        | Ast::Copy { .. } => true,
+        Ast::Call { function, .. } => function.text.as_str() == "citus_move_shard_placement",
+        Ast::Create { .. } | Ast::Set { .. } | Ast::Explain { .. } => false,
+    }
+}
+
+/// The tree that a text of a parallel block spells, or its fault.
+#[tactic(auto, using(crate::proofs::ParsingLaws::stands, crate::proofs::ParsingLaws::is_barred, crate::proofs::ParsingLaws::unspelled_in_block))]
+fn read_tree_in_block(alloc: Global, text: &[u8]) -> Result<Ast, Fault>
+    ensures { Reads (in_block (tree_of text.now)) result }
+{
+    let tree = read_tree(alloc, text)?;
+    if may_be_in_block(&tree) {
+        Ok(tree)
+    } else {
+        Err(Fault::NotInBlock)
     }
 }
 
@@ -78,7 +112,20 @@ pub fn read_statement(alloc: Global, text: &[u8], catalog: &Catalog) -> Result<S
     // And of the text nothing else is so.
     ensures one { (r : Result Statement Fault) → Means text.now catalog.now.tables r → reading_of text.now catalog.now.tables ≡ r }
 {
-    let tokens = lex(alloc, text)?;
-    let tree = parse_all(alloc, &tokens, text)?;
+    let tree = read_tree(alloc, text)?;
+    bind_all(alloc, &tree, catalog)
+}
+
+/// The bound statement that a text stands for in a parallel block.
+///
+/// Errors: those of `read_statement`, and that the statement may not stand in a block (`NotInBlock`), behind the faults of its text and
+/// before the walk over its tree.
+#[tactic(auto, using(crate::proofs::MeaningLaws::block_means))]
+pub fn read_in_block(alloc: Global, text: &[u8], catalog: &Catalog) -> Result<Statement, Fault>
+    ensures reading { Reads (reading_in_block text.now catalog.now.tables) result }
+    ensures means { MeansInBlock text.now catalog.now.tables (reading_in_block text.now catalog.now.tables) }
+    ensures one { (r : Result Statement Fault) → MeansInBlock text.now catalog.now.tables r → reading_in_block text.now catalog.now.tables ≡ r }
+{
+    let tree = read_tree_in_block(alloc, text)?;
     bind_all(alloc, &tree, catalog)
 }

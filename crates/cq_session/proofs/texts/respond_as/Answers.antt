@@ -10,24 +10,24 @@ use Rattle.cq_cluster.specs.Accounts.{Retires}
 use Rattle.cq_coordinator.proofs.Naming.{none_retired}
 use Rattle.cq_session.proofs.Naming.{unread_named, unread_names_none, unread_is_of_reading}
 use Rattle.cq_session.proofs.Copies.{computable_with, no_data_with, answered_with, accounted_with, retires_with, spares_with, tagged_is, failed_is_tagged}
+use Rattle.cq_session.proofs.BlockLaws.{bound_outside, allowed_with}
 use Rattle.cq_session.proofs.ReadingLaws.{bound_ok, bound_err}
-use Rattle.cq_session.specs.Responses.{tagged, is_copy, reading_with, IsTagged}
-use Rattle.cq_statement.specs.Reading.{reading_of}
+use Rattle.cq_session.specs.Responses.{tagged, is_copy, reading_for, reading_with, IsTagged}
 use Rattle.cq_cluster.specs.Steady.{SparesSteady}
 use Rattle.cq_cluster.proofs.SteadyLaws.{spares_none}
 use Rattle.cq_coordinator.specs.Coordination.{environment, journals}
-use Rattle.cq_session.proofs.texts.respond.Goals as goal
+use Rattle.cq_session.proofs.texts.respond_as.Goals as goal
 
 pub answer-answer-requires-clause-computable : goal.answer-answer-requires-clause-computable
 answer-answer-requires-clause-computable g c = λ lifetimes outlive.
     let tables = c.args.coordinator.now.cluster.catalog.tables in
-    computable_with c.args.coordinator.now.cluster.catalog c.args.text.now c.args.copied.now c.in-Ok.read.statement (reading_of c.args.text.now tables) c.requires.sound.whole c.requires.columns
-    c.read_with_data.ensures.means c.in-Ok.ensures.ok
+    computable_with c.args.coordinator.now.cluster.catalog c.args.text.now c.args.copied.now c.in-Ok.read.statement (reading_for c.args.session c.args.text.now tables) c.requires.sound.whole c.requires.columns
+    (bound_outside c.args.text.now tables c.args.session c.args.copied.now c.in-Ok.read.statement (reading_for c.args.session c.args.text.now tables) c.read_with_data.ensures.means c.in-Ok.ensures.ok) c.in-Ok.ensures.ok
 
 pub answer-answer-requires-clause-no_data : goal.answer-answer-requires-clause-no_data
 answer-answer-requires-clause-no_data g c = λ lifetimes outlive.
     let tables = c.args.coordinator.now.cluster.catalog.tables in
-    no_data_with tables c.args.copied.now c.in-Ok.read.statement (reading_of c.args.text.now tables) c.in-Ok.ensures.ok
+    no_data_with tables c.args.copied.now c.in-Ok.read.statement (reading_for c.args.session c.args.text.now tables) c.in-Ok.ensures.ok
 
 pub returns-in-Ok-clause-answered : goal.returns-in-Ok-clause-answered
 returns-in-Ok-clause-answered g c = λ initial entry are.
@@ -36,7 +36,7 @@ returns-in-Ok-clause-answered g c = λ initial entry are.
     let run = run_of old.cluster.nodes initial entry in
     let tables = old.cluster.catalog.tables in
     subst (λ (a : Answer). IsAnswered rules run (environment old) (environment new) c.args.who (journals old) (journals new) (Some c.in-Ok.read.statement) a) (sym c.tagged.ensures)
-    (answered_with rules run (environment old) (environment new) c.args.who (journals old) (journals new) c.args.copied.now tables (reading_of c.args.text.now tables) c.in-Ok.read.statement c.in-Ok.read.is_copy c.answer-answer.result
+    (answered_with rules run (environment old) (environment new) c.args.who (journals old) (journals new) c.args.copied.now tables (reading_for c.args.session c.args.text.now tables) c.in-Ok.read.statement c.in-Ok.read.is_copy c.answer-answer.result
     c.in-Ok.ensures.ok c.in-Ok.ensures.copy (c.answer-answer.ensures.answered initial entry are))
 
 pub returns-in-Ok-clause-reads : goal.returns-in-Ok-clause-reads
@@ -44,12 +44,17 @@ returns-in-Ok-clause-reads g c =
     let tables = c.args.coordinator.now.cluster.catalog.tables in
     let own = tagged_is c.in-Ok.read.is_copy c.answer-answer.result c.answer-answer.ensures.tag in
     record {
-      read = reading_of c.args.text.now tables;
+      read = reading_for c.args.session c.args.text.now tables;
       means = c.read_with_data.ensures.means;
-      is_bound = bound_ok c.tagged.result c.in-Ok.read.statement (reading_with c.args.text.now c.args.copied.now tables) c.in-Ok.ensures.ok;
-      is_tagged = subst (IsTagged (is_copy (reading_of c.args.text.now tables))) (sym c.tagged.ensures)
+      is_bound = bound_ok c.tagged.result c.in-Ok.read.statement (reading_with c.args.session c.args.text.now c.args.copied.now tables) c.in-Ok.ensures.ok;
+      is_tagged = subst (IsTagged (is_copy (reading_for c.args.session c.args.text.now tables))) (sym c.tagged.ensures)
           (subst (λ (b : Bool). IsTagged b (tagged c.in-Ok.read.is_copy c.answer-answer.result)) c.in-Ok.ensures.copy own);
     }
+
+pub returns-in-Ok-clause-allowed : goal.returns-in-Ok-clause-allowed
+returns-in-Ok-clause-allowed g c =
+    let tables = c.args.coordinator.now.cluster.catalog.tables in
+    allowed_with c.args.text.now c.args.copied.now tables c.in-Ok.read.statement c.args.session (reading_for c.args.session c.args.text.now tables) c.read_with_data.ensures.means c.in-Ok.ensures.ok
 
 pub returns-in-Ok-clause-accounted : goal.returns-in-Ok-clause-accounted
 returns-in-Ok-clause-accounted g c = λ answers a is next all.
@@ -63,26 +68,29 @@ returns-in-Ok-clause-retires g c = subst (λ (a : Answer). Retires c.args.who a 
 
 pub returns-in-Err-clause-answered : goal.returns-in-Err-clause-answered
 returns-in-Err-clause-answered g c = λ initial entry are. (refusal_is_answered rules (run_of c.args.coordinator.now.cluster.nodes initial entry) (environment c.args.coordinator.now) c.args.who (journals c.args.coordinator.now) c.in-Err.fault).0
-    (unread_is_of_reading c.in-Err.fault c.args.text.now c.args.copied.now c.args.coordinator.now.cluster.catalog.tables c.in-Err.ensures.err)
+    (unread_is_of_reading c.in-Err.fault c.args.session c.args.text.now c.args.copied.now c.args.coordinator.now.cluster.catalog.tables c.in-Err.ensures.err)
 
 pub returns-in-Err-clause-reads : goal.returns-in-Err-clause-reads
 returns-in-Err-clause-reads g c =
     let tables = c.args.coordinator.now.cluster.catalog.tables in
     record {
-      read = reading_of c.args.text.now tables;
+      read = reading_for c.args.session c.args.text.now tables;
       means = c.read_with_data.ensures.means;
-      is_bound = bound_err c.in-Err.fault (reading_with c.args.text.now c.args.copied.now tables) c.in-Err.ensures.err;
-      is_tagged = failed_is_tagged (is_copy (reading_of c.args.text.now tables)) c.in-Err.fault;
+      is_bound = bound_err c.in-Err.fault (reading_with c.args.session c.args.text.now c.args.copied.now tables) c.in-Err.ensures.err;
+      is_tagged = failed_is_tagged (is_copy (reading_for c.args.session c.args.text.now tables)) c.in-Err.fault;
     }
+
+pub returns-in-Err-clause-allowed : goal.returns-in-Err-clause-allowed
+returns-in-Err-clause-allowed g c = λ low. tt
 
 pub returns-in-Err-clause-accounted : goal.returns-in-Err-clause-accounted
 returns-in-Err-clause-accounted g c = λ answers a is next all.
     other_is_accounted g.S.Store.state c.args.coordinator.now.cluster.catalog c.args.coordinator.now.cluster.groups.items c.args.who answers a
-    (unread_named a.answer c.in-Err.fault c.args.text.now c.args.copied.now c.args.coordinator.now.cluster.catalog.tables is c.in-Err.ensures.err) next all
+    (unread_named a.answer c.in-Err.fault c.args.session c.args.text.now c.args.copied.now c.args.coordinator.now.cluster.catalog.tables is c.in-Err.ensures.err) next all
 
 pub returns-in-Err-clause-retires : goal.returns-in-Err-clause-retires
 returns-in-Err-clause-retires g c =
-    none_retired c.args.who c.in-Err.fault _ _ refl (unread_names_none c.in-Err.fault c.args.text.now c.args.copied.now c.args.coordinator.now.cluster.catalog.tables c.in-Err.ensures.err)
+    none_retired c.args.who c.in-Err.fault _ _ refl (unread_names_none c.in-Err.fault c.args.session c.args.text.now c.args.copied.now c.args.coordinator.now.cluster.catalog.tables c.in-Err.ensures.err)
 
 pub returns-in-Ok-clause-means : goal.returns-in-Ok-clause-means
 returns-in-Ok-clause-means g c = c.read_with_data.ensures.means
@@ -107,4 +115,4 @@ returns-in-Ok-clause-steady g c =
 
 pub returns-in-Err-clause-steady : goal.returns-in-Err-clause-steady
 returns-in-Err-clause-steady g c =
-    spares_none g.S.Store.state c.args.coordinator.now.cluster c.in-Err.fault (unread_names_none c.in-Err.fault c.args.text.now c.args.copied.now c.args.coordinator.now.cluster.catalog.tables c.in-Err.ensures.err)
+    spares_none g.S.Store.state c.args.coordinator.now.cluster c.in-Err.fault (unread_names_none c.in-Err.fault c.args.session c.args.text.now c.args.copied.now c.args.coordinator.now.cluster.catalog.tables c.in-Err.ensures.err)
