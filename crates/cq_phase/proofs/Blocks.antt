@@ -1,7 +1,7 @@
 -- The answers of a block, by its statements: they are in the order of a script, and of the block's numbers.
-use Rattle.std.proofs.Common.{◌≡◌, inl, inr, ℕ, ◌+◌, ◌<◌, ◌≤◌, List, [], ◌∷◌, ◌++◌, length, sym, subst, ◌∙◌, ap, arith}
+use Rattle.std.proofs.Common.{◌≡◌, inl, inr, ℕ, ◌+◌, ◌<◌, ◌≤◌, List, [], ◌∷◌, length, sym, subst, ◌∙◌, arith}
 use Rattle.std.specs.List.{AllByRecursion, AllZip}
-use Rattle.cq_value.proofs.Lists.{all_weaker, all_both}
+use Rattle.cq_value.proofs.Lists.{all_both}
 use Rattle.cq_answer.specs.declared.answered.Answered.{Answered}
 use Rattle.cq_answer.specs.declared.answered.Settings.{Settings}
 use Rattle.cq_catalog.specs.declared.info.TableInfo.{TableInfo}

@@ -1,5 +1,5 @@
 -- The statements of a block, session after session: each of them once, and in the order of a script.
-use Rattle.std.proofs.Common.{◌≡◌, ◌≢◌, ◌⊎◌, inl, inr, ℕ, zero, suc, ◌+◌, ◌<◌, ◌≤◌, Bool, true, false, cond, List, [], ◌∷◌, ◌++◌, length, take, drop, get_or, refl, sym, ap, subst, ◌∙◌, arith, length-append, append_assoc, append-nil, eq-eqb, ne_eqb}
+use Rattle.std.proofs.Common.{◌≡◌, ◌≢◌, ◌⊎◌, inl, inr, ℕ, zero, suc, ◌+◌, ◌<◌, ◌≤◌, Bool, cond, List, [], ◌∷◌, ◌++◌, length, take, drop, get_or, refl, sym, ap, ◌∙◌, arith, length-append, append_assoc, append-nil, eq-eqb, ne_eqb}
 use Rattle.std.specs.Prelude.{⊤, filter, nat_eq}
 use Rattle.std.specs.List.{AllByRecursion, flat_map}
 use Rattle.std.proofs.lemmas.List.{take_more, drop_more}
@@ -243,3 +243,11 @@ sessions_rise = (omega arith, (omega arith, (omega arith, (omega arith, (omega a
 
 pub are_ordered : (phase n : ℕ) (ps : List Placed) → AreNumbered phase n ps → AreOrdered (by_session ps)
 are_ordered phase n ps h = (let rising = are_rising phase n ps h in ordered_from (session_for ps) 0 sessions ps sessions_rise rising (one_session ps rising))
+
+-- the statements of all sessions but 0 are at most all
+pub inside_count : (ps : List Placed) → AllByRecursion (λ (p : Placed). IsSession p.session) ps → length (of_sessions (drop 1 sessions) ps) ≤ length ps
+inside_count ps all = (let whole = all_counted ps all in let parts = of_sessions_left 0 ps (omega arith) in omega (arith, whole, parts))
+
+-- a statement outside blocks is answered alone
+pub only_outside : (p : Placed) → p.session ≡ 0 → by_session (p ∷ []) ≡ p ∷ []
+only_outside p none = rw none refl

@@ -1,6 +1,6 @@
 -- What stands between two phases stands behind the next one.
-use Rattle.std.proofs.Common.{◌≡◌, ◌≢◌, inl, inr, ℕ, ◌+◌, ◌<◌, ◌≤◌, Option, List, [], ◌∷◌, ◌++◌, length, refl, sym, ap, subst, ◌∙◌, arith, append_assoc}
-use Rattle.std.specs.Prelude.{⊤}
+use Rattle.std.proofs.Common.{Some, slice_get, ◌≡◌, ◌≢◌, inl, inr, ℕ, ◌+◌, ◌≤◌, Option, List, [], ◌∷◌, ◌++◌, length, refl, sym, ap, subst, ◌∙◌, arith, append_assoc}
+use Rattle.std.specs.Prelude.{⊤, Result, Ok, Err, OnOk, OnErr}
 use Rattle.std.specs.List.{AllByRecursion, AllZip}
 use Rattle.cq_value.proofs.Lists.{all_weaker, all_both, all_more, append_nil}
 use Rattle.cq_tree.specs.declared.journal.Who.{Who}
@@ -11,7 +11,7 @@ use Rattle.cq_answer.specs.declared.answered.Answered.{Answered}
 use Rattle.cq_answer.specs.declared.answered.Settings.{Settings}
 use Rattle.cq_bound_laws.proofs.Columns.{columns_stand}
 use Rattle.cq_history.specs.Journals.{journal_in}
-use Rattle.cq_history.specs.Log.{IsConsistent, IsAnswered, next_who, answered_by}
+use Rattle.cq_history.specs.Log.{IsConsistent, IsAnswered}
 use Rattle.cq_history.specs.Phases.{who_of, IsOf, StandsBefore, AreInScriptOrder, AreComplete}
 use Rattle.cq_history.specs.Refusals.{rules}
 use Rattle.cq_history.proofs.Script.{answers_go_on}
@@ -27,10 +27,11 @@ use Rattle.cq_turn_laws.specs.Turns.{IsOfBlock, IsBlock}
 use Rattle.cq_turn_laws.proofs.Turns.{turns_enter}
 use Rattle.cq_turn_laws.proofs.Phasing.{turns_are_phase}
 use Rattle.cq_script.specs.declared.reader.Placed.{Placed}
-use Rattle.cq_script.specs.Directives.{IsBlockAt}
+use Rattle.cq_script.specs.Directives.{IsPhaseAt, IsBlockAt}
 use Rattle.cq_phase.specs.Phases.{by_session, IsAnswerTo, IsRunning}
 use Rattle.cq_phase.specs.Steady.{IsSteadySoFar}
 use Rattle.cq_phase.specs.Turns.{IsReady, TakesTurn, TakeTurns, HaveTurns, RunsPhase}
+use Rattle.cq_phase.proofs.Orders.{only_outside}
 use Rattle.cq_phase.proofs.Blocks.{is_block}
 use Rattle.cq_phase.proofs.SteadyLaws.{steady_more}
 use Rattle.cq_phase.proofs.TurnLaws.{turns_nodes, turns_stores, turns_sound, turns_along, in_turns}
@@ -71,6 +72,20 @@ one_is_fresh answers a complete is = (
   all_weaker (λ (b : Answered). b.statement ≤ length answers) (λ (b : Answered). b.statement ≢ a.statement) (λ b le same. omega (arith, le, is, same)) answers complete,
   tt,
 )
+
+-- ---- the next phase
+
+-- it is one statement outside blocks, where its first one is
+pub is_alone : (read : ℕ) (ps : List Placed) (p : Placed) → IsPhaseAt read ps → slice_get ps 0 ≡ Some p → p.session ≡ 0 → (ps ≡ p ∷ []) × (p.number ≡ read + 1) × (p.phase ≡ read + 1)
+is_alone read ps p (inl (q, is, session, number, phase)) there none =
+    let same : q ≡ p = (let at : Some q ≡ Some p = sym (ap (λ (v : List Placed). slice_get v 0) is) ∙ there in cc) in
+    (is ∙ ap (λ (r : Placed). r ∷ []) same, sym (ap (λ (r : Placed). r.number) same) ∙ number, sym (ap (λ (r : Placed). r.phase) same) ∙ phase)
+is_alone read [] p (inr block) there none = cc
+is_alone read (q ∷ ps) p (inr block) there none =
+    let same : q ≡ p = cc in
+    let some = block.sessions.0.0 in
+    let is = ap (λ (r : Placed). r.session) same in
+    absurd (omega (arith, some, is, none))
 
 -- ---- a statement outside blocks
 
@@ -157,3 +172,35 @@ module _ {X : Type 0} (state : X → StoreState) (initial : Settings) (entry : L
       subst (λ (v : List Answered). IsRunning state initial entry new v) (sym h.log)
       (running_on old new answers h.more r h.turns (block_is_fresh answers h.more old.settings r.consistent.complete is)
       (turns_are_phase run (environment old) (environment new) answers h.more (journals old) (journals new) r.consistent is (in_turns state initial entry old new h.more r.stores h.turns)))
+
+-- ---- what a call did that ran a phase
+
+module _ {X : Type 0} (state : X → StoreState) where
+  pub runs_one : (old new : Coordinator X) (answers after : List Answered) (ps : List Placed) (p : Placed) (a : Answered) → IsPhaseAt (length answers) ps → slice_get ps 0 ≡ Some p → p.session ≡ 0 → TakesTurn state old new a →
+      IsAnswerTo old.cluster.catalog.tables p a → after ≡ answers ++ a ∷ [] → RunsPhase state ps old new answers after
+  runs_one old new answers after ps p a next there none turn its log =
+      let one = is_alone (length answers) ps p next there none in
+      record {
+        more = a ∷ [];
+        log = log;
+        answers = subst (λ (v : List Placed). AllZip (IsAnswerTo old.cluster.catalog.tables) (by_session v) (a ∷ [])) (sym one.0)
+            (subst (λ (v : List Placed). AllZip (IsAnswerTo old.cluster.catalog.tables) v (a ∷ [])) (sym (only_outside p none)) (its, tt));
+        running = λ initial entry r. subst (λ (v : List Answered). IsRunning state initial entry new v) (sym log) (running_behind_one state initial entry old new answers p a r none one.1 one.2 turn its);
+        nodes = turn.stores.nodes;
+      }
+
+  pub runs_block : (old new : Coordinator X) (answers after : List Answered) (ps : List Placed) → IsBlockAt (length answers) ps → HaveTurns state (by_session ps) old new answers after → RunsPhase state ps old new answers after
+  runs_block old new answers after ps block h = record {
+    more = h.more;
+    log = h.log;
+    answers = h.answers;
+    running = λ initial entry r. running_behind_block state initial entry old new answers after ps r block h;
+    nodes = turns_nodes state old new h.more h.turns;
+  }
+
+  -- whether it ran one or not
+  pub running_after : {T E : Type 0} (initial : Settings) (entry : List (Worker X)) (old new : Coordinator X) (ps : List Placed) (before after : List Answered) (result : Result T E) → OnOk result (RunsPhase state ps old new before after) →
+      OnErr result ((new ≡ old) × (after ≡ before)) → IsRunning state initial entry old before → IsRunning state initial entry new after
+  running_after initial entry old new ps before after (Ok u) ok err r = ok.running initial entry r
+  running_after initial entry old new ps before after (Err e) ok err r =
+      subst (λ (c : Coordinator X). IsRunning state initial entry c after) (sym err.0) (subst (IsRunning state initial entry old) (sym err.1) r)

@@ -1,11 +1,10 @@
 -- Statements that are answered one after the other, over the coordinator: what they keep, and what the next one finds.
-use Rattle.std.proofs.Common.{◌≡◌, ℕ, List, [], ◌∷◌, ◌++◌, refl, sym, ap, subst, ◌∙◌, append_assoc}
+use Rattle.std.proofs.Common.{◌≡◌, ◌≢◌, ℕ, ◌+◌, ◌<◌, ◌≤◌, length, take, get_or, length-append, List, [], ◌∷◌, ◌++◌, refl, sym, ap, subst, ◌∙◌, append_assoc}
 use Rattle.std.specs.List.{AllByRecursion, AllZip}
 use Rattle.cq_value.proofs.Lists.{all_append, append_nil}
 use Rattle.cq_answer.specs.declared.answered.Answered.{Answered}
 use Rattle.cq_answer.specs.declared.answered.Settings.{Settings}
 use Rattle.cq_catalog.specs.Contents.{Contents}
-use Rattle.cq_catalog.specs.declared.info.TableInfo.{TableInfo}
 use Rattle.cq_bound_laws.specs.Laws.{HasColumns}
 use Rattle.cq_history.specs.Legality.{IsKeyed}
 use Rattle.cq_history.specs.Phases.{MayBeInBlock}
@@ -18,8 +17,10 @@ use Rattle.cq_coordinator.specs.declared.coordinator.Coordinator.{Coordinator}
 use Rattle.cq_turn_laws.specs.Turns.{AreInTurns}
 use Rattle.cq_turn_laws.proofs.Turns.{turns_keep, turns_are_legal}
 use Rattle.cq_script.specs.declared.reader.Placed.{Placed}
-use Rattle.cq_phase.specs.Phases.{IsAnswerTo}
+use Rattle.cq_phase.specs.Phases.{of_session, sessions, IsAnswerTo}
 use Rattle.cq_phase.specs.Turns.{IsReady, TakesTurn, TakeTurns, HaveTurns}
+use Rattle.cq_phase.proofs.Orders.{of_sessions, of_sessions_more, taken_of, taken_same}
+use Rattle.cq_phase.proofs.Blocks.{answers_count}
 
 zips_both : {A B : Type 0} (R : A → B → Type 0) (xs us : List A) (ys vs : List B) → AllZip R xs ys → AllZip R us vs → AllZip R (xs ++ us) (ys ++ vs)
 zips_both R [] us [] vs p q = q
@@ -107,3 +108,30 @@ module _ {X : Type 0} (state : X → StoreState) where
   pub have_more : (ps : List Placed) (p : Placed) (old mid new : Coordinator X) (a : Answered) (before between : List Answered) → IsSound state mid.cluster → HaveTurns state ps old mid before between → TakesTurn state mid new a →
       IsAnswerTo mid.cluster.catalog.tables p a → MayBeInBlock a.bound → HaveTurns state (ps ++ p ∷ []) old new before (between ++ a ∷ [])
   have_more ps p old mid new a before between sound h turn its may = have_both ps (p ∷ []) old mid new before between (between ++ a ∷ []) h (have_one mid new p a between sound turn its may)
+
+  -- the next statement of a session in the list of a block's
+  pub have_taken : (s i : ℕ) (ps : List Placed) (p : Placed) (old mid new next : Coordinator X) (a : Answered) (before between after : List Answered) → i < length ps → p ≡ get_or ps i p → p.session ≡ s → IsSound state mid.cluster →
+      HaveTurns state (of_session s (take i ps)) old mid before between → TakesTurn state mid new a → IsAnswerTo mid.cluster.catalog.tables p a → MayBeInBlock a.bound → next ≡ new → after ≡ between ++ a ∷ [] →
+      HaveTurns state (of_session s (take (i + 1) ps)) old next before after
+  have_taken s i ps p old mid new next a before between after lt at is sound h turn its may same log =
+      subst (λ (v : List Placed). HaveTurns state v old next before after) (sym (taken_of s i ps p lt at is))
+      (subst (λ (c : Coordinator X). HaveTurns state (of_session s (take i ps) ++ p ∷ []) old c before after) (sym same)
+      (subst (HaveTurns state (of_session s (take i ps) ++ p ∷ []) old new before) (sym log) (have_more (of_session s (take i ps)) p old mid new a before between sound h turn its may)))
+
+  -- and one of another session
+  pub have_passed : (s i : ℕ) (ps : List Placed) (p : Placed) (old mid next : Coordinator X) (before between after : List Answered) → i < length ps → p ≡ get_or ps i p → p.session ≢ s →
+      HaveTurns state (of_session s (take i ps)) old mid before between → next ≡ mid → after ≡ between → HaveTurns state (of_session s (take (i + 1) ps)) old next before after
+  have_passed s i ps p old mid next before between after lt at isnt h same log =
+      subst (λ (v : List Placed). HaveTurns state v old next before after) (sym (taken_same s i ps p lt at isnt))
+      (subst (λ (c : Coordinator X). HaveTurns state (of_session s (take i ps)) old c before after) (sym same) (subst (HaveTurns state (of_session s (take i ps)) old mid before) (sym log) h))
+
+  -- one session more
+  pub have_session : (s : ℕ) (ps : List Placed) (old mid new : Coordinator X) (before between after : List Answered) → s ≤ 8 → HaveTurns state (of_sessions (take s sessions) ps) old mid before between →
+      HaveTurns state (of_session s ps) mid new between after → HaveTurns state (of_sessions (take (s + 1) sessions) ps) old new before after
+  have_session s ps old mid new before between after le h k =
+      subst (λ (v : List Placed). HaveTurns state v old new before after) (sym (of_sessions_more s ps le)) (have_both (of_sessions (take s sessions) ps) (of_session s ps) old mid new before between after h k)
+
+  -- as many answers as statements
+  pub have_count : (ps : List Placed) (old new : Coordinator X) (before after : List Answered) → HaveTurns state ps old new before after → length after ≡ length before + length ps
+  have_count ps old new before after h =
+      ap (λ v. length v) h.log ∙ length-append before h.more ∙ ap (λ n. length before + n) (answers_count old.cluster.catalog.tables ps h.more h.answers)

@@ -1,8 +1,9 @@
-ghost use Rattle.std.specs.Prelude.{◌≡◌, ◌+◌, ◌≤◌, length, vec_len, vec_capacity};
-ghost use Rattle.std.specs.List.{AllByRecursion};
-ghost use Rattle.cq_script.specs.Directives.{IsSession};
-ghost use Rattle.cq_phase.specs.Phases.{by_session, of_session};
-ghost use Rattle.cq_phase.specs.Turns.{IsReady, HaveTurns};
+ghost use Rattle.std.specs.Prelude.{◌≡◌, ◌+◌, ◌≤◌, List, length, vec_len, vec_capacity};
+ghost use Rattle.cq_answer.specs.declared.answered.Settings.{Settings};
+ghost use Rattle.cq_store.specs.declared.worker.Worker.{Worker};
+ghost use Rattle.cq_script.specs.Directives.{IsBlockAt};
+ghost use Rattle.cq_phase.specs.Phases.{of_session, IsRunning};
+ghost use Rattle.cq_phase.specs.Turns.{IsReady, HaveTurns, RunsPhase};
 
 use crate::statement::answer_in_block;
 use cq_answer::Answered;
@@ -43,10 +44,10 @@ pub(crate) fn answer_block<S: Store, G: Gate>(
     log: &mut Vec<Answered>,
     block: &[Placed],
 )
-    requires ready { IsReady S.state coordinator.old }
-    requires sessions { AllByRecursion (λ (p : _). IsSession p.session) block.now }
+    requires next { IsBlockAt (length log.old.items) block.now }
     requires room { vec_len log.old + length block.now ≤ vec_capacity log.old }
-    ensures turns { HaveTurns S.state (by_session block.now) coordinator.old coordinator.new log.old.items log.new.items }
+    requires running { (initial : Settings) × (entry : List (Worker S)) × IsRunning S.state initial entry coordinator.old log.old.items }
+    ensures { RunsPhase S.state block.now coordinator.old coordinator.new log.old.items log.new.items }
 {
     for session in 1..MOST_SESSIONS + 1 {
         answer_session(alloc, gate, coordinator, log, block, session);

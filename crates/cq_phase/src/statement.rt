@@ -21,8 +21,8 @@ fn who_of(placed: &Placed) -> Who
     }
 }
 
-/// The response to a statement as it stands in the log.
-fn answered(placed: &Placed, settings: Settings, response: Response) -> Answered
+/// A statement with its response, as they stand in the log.
+fn answer_of(placed: &Placed, settings: Settings, response: Response) -> Answered
     ensures { result ≡ record { session = placed.now.session; statement = placed.now.number; phase = placed.now.phase; settings = settings; bound = response.bound; answer = response.answer } }
 {
     Answered {
@@ -51,7 +51,7 @@ pub(crate) fn answer_alone<S: Store, G: Gate>(
     let text = placed.item.text.as_slice();
     let copied = placed.item.copied.as_slice();
     let response = respond(alloc, gate, coordinator, who_of(placed), text, copied);
-    answered(placed, settings, response)
+    answer_of(placed, settings, response)
 }
 
 /// Answers a statement of a block.
@@ -72,5 +72,5 @@ pub(crate) fn answer_in_block<S: Store, G: Gate>(
     let copied = placed.item.copied.as_slice();
     let response = respond_in_block(alloc, gate, coordinator, who_of(placed), text, copied);
     gate.at(placed.session, Point::Answered);
-    answered(placed, settings, response)
+    answer_of(placed, settings, response)
 }
