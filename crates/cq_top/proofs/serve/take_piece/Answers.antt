@@ -20,13 +20,13 @@ pub returns-then-len-eq0-clause-shows : goal.returns-then-len-eq0-clause-shows
 returns-then-len-eq0-clause-shows g c = shows_nothing c.args.serving.now.settled (g.K.Sink.shown c.args.sink.now) c.args.serving.now.answers
 
 pub answer_phase-requires-clause-next : goal.answer_phase-requires-clause-next
-answer_phase-requires-clause-next g c = (phase_next c.args.reader.now c.args.serving.now.answers c.as_slice.result.now c.requires.reads (some_of_some c.len.result c.as_slice.result.now (c.len.ensures ∙ ap length (sym c.as_slice.ensures)) c.if-len-eq0.false) (subst (λ (v : List Placed). (v ≡ []) ⊎ IsPhaseAt c.args.reader.now.read v) (sym c.as_slice.ensures) c.in-Ok.ensures.phase))
+answer_phase-requires-clause-next g c = λ κs lives. (phase_next c.args.reader.now c.args.serving.now.answers c.as_slice.result.now c.requires.reads (some_of_some c.len.result c.as_slice.result.now (c.len.ensures ∙ ap length (sym c.as_slice.ensures)) c.if-len-eq0.false) (subst (λ (v : List Placed). (v ≡ []) ⊎ IsPhaseAt c.args.reader.now.read v) (sym c.as_slice.ensures) c.in-Ok.ensures.phase))
 
 pub answer_phase-requires-clause-some : goal.answer_phase-requires-clause-some
-answer_phase-requires-clause-some g c = (some_of_some c.len.result c.as_slice.result.now (c.len.ensures ∙ ap length (sym c.as_slice.ensures)) c.if-len-eq0.false)
+answer_phase-requires-clause-some g c = λ κs lives. (some_of_some c.len.result c.as_slice.result.now (c.len.ensures ∙ ap length (sym c.as_slice.ensures)) c.if-len-eq0.false)
 
 pub answer_phase-requires-clause-few : goal.answer_phase-requires-clause-few
-answer_phase-requires-clause-few g c = (few_taken c.args.reader.now c.take.new.self c.args.piece c.args.serving.now.answers c.as_slice.result.now c.requires.reads (c.in-Ok.ensures.tells ∙ ap (λ v. Ok (v, c.take.new.self)) (sym c.as_slice.ensures)) c.take.ensures.reading)
+answer_phase-requires-clause-few g c = λ κs lives. (few_taken c.args.reader.now c.take.new.self c.args.piece c.args.serving.now.answers c.as_slice.result.now c.requires.reads (c.in-Ok.ensures.tells ∙ ap (λ v. Ok (v, c.take.new.self)) (sym c.as_slice.ensures)) c.take.ensures.reading)
 
 pub returns-else-len-eq0-clause-reads : goal.returns-else-len-eq0-clause-reads
 returns-else-len-eq0-clause-reads g c = ok_so _ _ c.answer_phase.result (λ next. reads_next c.args.serving.now.settled c.args.reader.now c.take.new.self c.args.piece c.args.serving.now.answers c.answer_phase.new.serving.answers c.as_slice.result.now c.requires.reads (c.in-Ok.ensures.tells ∙ ap (λ v. Ok (v, c.take.new.self)) (sym c.as_slice.ensures)) c.take.ensures.reading (phase_next c.args.reader.now c.args.serving.now.answers c.as_slice.result.now c.requires.reads (some_of_some c.len.result c.as_slice.result.now (c.len.ensures ∙ ap length (sym c.as_slice.ensures)) c.if-len-eq0.false) (subst (λ (v : List Placed). (v ≡ []) ⊎ IsPhaseAt c.args.reader.now.read v) (sym c.as_slice.ensures) c.in-Ok.ensures.phase)) next) c.answer_phase.ensures.next
@@ -44,7 +44,7 @@ pub returns-in-Err-Halt-clause-few : goal.returns-in-Err-Halt-clause-few
 returns-in-Err-Halt-clause-few g c = few_read c.args.reader.now c.args.serving.now.answers c.requires.reads
 
 pub returns-in-Err-Halt-clause-stops : goal.returns-in-Err-Halt-clause-stops
-returns-in-Err-Halt-clause-stops g c = let facts = rw c.in-Err-Halt.field-0-is at c.in-Err-Halt.ensures.tells in (refl, facts.0)
+returns-in-Err-Halt-clause-stops g c = let facts = rw c.in-Err-Halt.field-0-is at c.in-Err-Halt.ensures.tells in rw c.in-Err-Halt.field-0-is (refl, facts.0)
 
 pub returns-in-Err-Halt-clause-part : goal.returns-in-Err-Halt-clause-part
 returns-in-Err-Halt-clause-part g c = shows_nothing c.args.serving.now.settled (g.K.Sink.shown c.args.sink.now) c.args.serving.now.answers
