@@ -1,5 +1,5 @@
 -- What is read of more pieces.
-use Rattle.std.proofs.Common.{◌≡◌, ℕ, ◌+◌, Bool, true, false, List, [], ◌∷◌, ◌++◌, length, Result, Ok, Err, Some, None, Option, refl, sym, ◌∙◌, ap, subst, arith, append_assoc, append-nil}
+use Rattle.std.proofs.Common.{◌≡◌, inl, inr, ℕ, ◌+◌, Bool, true, false, List, [], ◌∷◌, ◌++◌, length, Result, Ok, Err, Some, None, Option, refl, sym, ◌∙◌, ap, subst, arith, append_assoc, append-nil}
 use Rattle.std.specs.Prelude.{IfOk, nat_lt}
 use Rattle.cq_value.proofs.Truths.{two_ways}
 use Rattle.cq_script.specs.declared.cutter.Item.{Item}
@@ -46,30 +46,30 @@ read_halts given more p halt on is =
 -- ---- how many statements are read
 
 abbrev Counts : ℕ → Taken → Type 0
-Counts read taken = IfOk taken (λ t. t.1.read ≡ read + length t.0)
+Counts old taken = IfOk taken (λ t. t.1.read ≡ old + length t.0)
 
-counts_most : (read count : ℕ) (t : List Placed × Reader) → t.1.read ≡ read + length t.0 → Counts read (unless_most count t)
-counts_most read count t is = elim (two_ways (nat_lt count most_statements)) [ inl y ↦ rw y is | inr n ↦ rw n tt ]
+counts_most : (old count : ℕ) (t : List Placed × Reader) → t.1.read ≡ old + length t.0 → Counts old (unless_most count t)
+counts_most old count t is = elim (two_ways (nat_lt count most_statements)) [ inl y ↦ rw y is | inr n ↦ rw n tt ]
 
-counts_in_session : (read line : ℕ) (d : Draft) (item : Item) (s : Option ℕ) → Counts read (in_session read d line item s)
-counts_in_session read line d item None = tt
-counts_in_session read line d item (Some s) = counts_most read (read + length d.statements) ([], record { read = read; draft = Some (record d { statements = d.statements ++ placed read (length d.statements) s item ∷ [] }) }) (omega arith)
+counts_in_session : (old line : ℕ) (d : Draft) (item : Item) (s : Option ℕ) → Counts old (in_session old d line item s)
+counts_in_session old line d item None = tt
+counts_in_session old line d item (Some s) = counts_most old (old + length d.statements) ([], record { read = old; draft = Some (record d { statements = d.statements ++ placed old (length d.statements) s item ∷ [] }) }) (omega arith)
 
-counts_statement : (read line : ℕ) (draft : Option Draft) (item : Item) → Counts read (with_statement read draft line item)
-counts_statement read line None item = counts_most read read (placed read 0 0 item ∷ [], record { read = read + 1; draft = None }) refl
-counts_statement read line (Some d) item = counts_in_session read line d item d.session
+counts_statement : (old line : ℕ) (draft : Option Draft) (item : Item) → Counts old (with_statement old draft line item)
+counts_statement old line None item = counts_most old old (placed old 0 0 item ∷ [], record { read = old + 1; draft = None }) refl
+counts_statement old line (Some d) item = counts_in_session old line d item d.session
 
-counts_directive : (read line : ℕ) (draft : Option Draft) (directive : Option Directive) → Counts read (with_directive read draft line directive)
-counts_directive read line None None = tt
-counts_directive read line None (Some Parallel) = omega arith
-counts_directive read line None (Some (Session s)) = tt
-counts_directive read line None (Some HighSession) = tt
-counts_directive read line None (Some End) = tt
-counts_directive read line (Some d) None = tt
-counts_directive read line (Some d) (Some Parallel) = tt
-counts_directive read line (Some d) (Some (Session s)) = omega arith
-counts_directive read line (Some d) (Some HighSession) = tt
-counts_directive read line (Some d) (Some End) = refl
+counts_directive : (old line : ℕ) (draft : Option Draft) (directive : Option Directive) → Counts old (with_directive old draft line directive)
+counts_directive old line None None = tt
+counts_directive old line None (Some Parallel) = omega arith
+counts_directive old line None (Some (Session s)) = tt
+counts_directive old line None (Some HighSession) = tt
+counts_directive old line None (Some End) = tt
+counts_directive old line (Some d) None = tt
+counts_directive old line (Some d) (Some Parallel) = tt
+counts_directive old line (Some d) (Some (Session s)) = omega arith
+counts_directive old line (Some d) (Some HighSession) = tt
+counts_directive old line (Some d) (Some End) = refl
 
 counts : (r : Reader) (p : Piece) → Counts r.read (with_piece r p)
 counts r (piece.Statement line item) = counts_statement r.read line r.draft item
