@@ -1,7 +1,7 @@
 -- The answers of one more phase: how many they are, that they stand behind all others, and whether one of them is a refusal.
-use Rattle.std.proofs.Common.{◌≡◌, ◌≢◌, ◌<◌, ◌≤◌, ◌⊎◌, inl, inr, ℕ, ◌+◌, Bool, true, false, List, [], ◌∷◌, ◌++◌, length, drop, Ok, Err, Result, OnOk, refl, sym, ◌∙◌, ap, subst, arith, length-append, append-nil}
+use Rattle.std.proofs.Common.{◌≡◌, ◌≢◌, ◌<◌, ◌≤◌, ◌⊎◌, inl, inr, ℕ, ◌+◌, Bool, true, false, List, [], ◌∷◌, ◌++◌, length, drop, Ok, Err, Result, OnOk, refl, sym, ◌∙◌, ap, subst, arith, length-append}
 use Rattle.std.specs.Prelude.{◌&&◌, IfErr}
-use Rattle.std.specs.List.{AllByRecursion, AllZip, list_any}
+use Rattle.std.specs.List.{AllByRecursion, list_any}
 use Rattle.cq_value.proofs.Lists.{all_weaker, all_both, all_append}
 use Rattle.cq_value.proofs.Truths.{or_neither, and_both}
 use Rattle.cq_answer.specs.declared.answered.Answered.{Answered}
@@ -17,7 +17,7 @@ use Rattle.cq_script.specs.declared.cutter.Piece.{Piece}
 use Rattle.cq_script.specs.declared.reader.Placed.{Placed}
 use Rattle.cq_script.specs.declared.reader.Reader.{Reader}
 use Rattle.cq_script.specs.Directives.{IsPhaseAt, IsReading, most_statements, with_piece}
-use Rattle.cq_phase.specs.Phases.{by_session, sessions, IsAnswerTo}
+use Rattle.cq_phase.specs.Phases.{by_session, sessions}
 use Rattle.cq_phase.proofs.Orders.{IsNumberOf, all_numbered, all_counted, all_of_sessions}
 use Rattle.cq_phase.proofs.Blocks.{answers_all, answers_count}
 use Rattle.cq_words.specs.declared.settled.Settled.{Settled}

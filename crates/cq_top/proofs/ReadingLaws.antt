@@ -1,5 +1,5 @@
 -- What is read of more pieces.
-use Rattle.std.proofs.Common.{◌≡◌, inl, inr, ℕ, ◌+◌, Bool, true, false, List, [], ◌∷◌, ◌++◌, length, Result, Ok, Err, Some, None, Option, refl, sym, ◌∙◌, ap, subst, arith, append_assoc, append-nil}
+use Rattle.std.proofs.Common.{◌≡◌, inl, inr, ℕ, ◌+◌, List, [], ◌∷◌, ◌++◌, length, Ok, Err, Some, None, Option, refl, sym, ◌∙◌, ap, subst, arith, append_assoc, append-nil}
 use Rattle.std.specs.Prelude.{IfOk, nat_lt}
 use Rattle.cq_value.proofs.Truths.{two_ways}
 use Rattle.cq_script.specs.declared.cutter.Item.{Item}
@@ -24,7 +24,7 @@ pub read_more : (r : Reader) (given more : List Piece) → (read_from r given).h
 read_more r [] more on = refl
 read_more r (p ∷ given) more on =
     elim (with_piece r p) as (λ (t : Taken). (goes_on r (λ next. read_from next given) t).halt ≡ None →
-        goes_on r (λ next. read_from next (given ++ more)) t ≡ behind_phases (goes_on r (λ next. read_from next given) t).phases (read_from (goes_on r (λ next. read_from next given) t).reader more)) [
+    goes_on r (λ next. read_from next (given ++ more)) t ≡ behind_phases (goes_on r (λ next. read_from next given) t).phases (read_from (goes_on r (λ next. read_from next given) t).reader more)) [
       | Ok taken ↦ λ o. ap (behind_phases (one_phase taken.0)) (read_more taken.1 given more o) ∙ behind_both (one_phase taken.0) (read_from taken.1 given).phases (read_from (read_from taken.1 given).reader more)
       | Err halt ↦ λ o. absurd (none_some halt o)
     ] on

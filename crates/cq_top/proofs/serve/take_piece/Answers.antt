@@ -44,7 +44,7 @@ pub returns-in-Err-Halt-clause-few : goal.returns-in-Err-Halt-clause-few
 returns-in-Err-Halt-clause-few g c = few_read c.args.reader.now c.args.serving.now.answers c.requires.reads
 
 pub returns-in-Err-Halt-clause-stops : goal.returns-in-Err-Halt-clause-stops
-returns-in-Err-Halt-clause-stops g c = let facts = rw c.in-Err-Halt.field-0-is at c.in-Err-Halt.ensures.tells in rw c.in-Err-Halt.field-0-is (refl, facts.0)
+returns-in-Err-Halt-clause-stops g c = let facts = rw c.in-Err-Halt.field-0-is at c.in-Err-Halt.ensures.tells in rw c.in-Err-Halt.field-0-is (refl {a = c.args.serving.now.answers}, facts.0)
 
 pub returns-in-Err-Halt-clause-part : goal.returns-in-Err-Halt-clause-part
 returns-in-Err-Halt-clause-part g c = shows_nothing c.args.serving.now.settled (g.K.Sink.shown c.args.sink.now) c.args.serving.now.answers
