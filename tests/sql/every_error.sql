@@ -41,6 +41,10 @@ COPY r FROM STDIN;
 \.
 INSERT INTO t VALUES (3, 30), (1, 11);
 UPDATE t SET v = v + 9223372036854775807;
+\parallel
+\session 1
+CREATE TABLE x (a bigint);
+\end
 SELECT 1 FROM t a, t b, t c, t d, t e, t f, t g, t h, t i;
 SELECT citus_move_shard_placement(102008, 1, 3);
 SELECT t.k FROM t JOIN u ON t.v = u.w;
