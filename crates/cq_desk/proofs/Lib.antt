@@ -1,2 +1,3 @@
-pub mod Turns
 pub mod Meeting
+pub mod Coming
+pub mod Written

@@ -20,7 +20,7 @@ use Rattle.cq_shared.specs.declared.content.Shard.{Shard}
 use Rattle.cq_shared.specs.declared.note.Note.{Note}
 use Rattle.cq_shared.specs.declared.note.Note.TheVariants as note
 use Rattle.cq_shared.specs.Notes.{who_of, entries_in}
-use Rattle.cq_shared.specs.Seen.{Place, Pass, group_of, seen_since, seen_by}
+use Rattle.cq_shared.specs.Seen.{Place, Pass, Finds, Looks, group_of, seen_since, seen_by}
 use Rattle.cq_shared.specs.Reads.{read_notes}
 use Rattle.cq_shared.specs.Writes.{AreAt}
 use Rattle.cq_shared.proofs.Standing.{entries_more, seen_same}
@@ -30,8 +30,7 @@ use Rattle.cq_reach.specs.Seen.{Seen, seen_of}
 use Rattle.cq_reach.specs.Outlook.{Meets, Tells}
 use Rattle.cq_reach.specs.Reads.{read_kinds, IfFailed}
 use Rattle.cq_reach.proofs.Growth.{got_at, got_below, one_item, set_there, set_beside}
-use Rattle.cq_desk.specs.Visits.{Finds, Looks}
-use Rattle.cq_desk.specs.Desks.{reached, IsOfOthers, known_by, outlook_by, IsOwn, IsReady, GoOn, HasNoted}
+use Rattle.cq_desk.specs.Desks.{IsOfOthers, known_by, outlook_by, IsOwn, IsReady, GoOn, HasNoted}
 
 -- ---- entries of others
 
@@ -62,7 +61,7 @@ read_entries who (Err Memory) = refl
 
 -- ---- what is known of a group, with more notes
 
-abbrev with_more : List Entry → Seen → Seen
+abbrev pub with_more : List Entry → Seen → Seen
 with_more es s = record s { journal = record s.journal { entries = s.journal.entries ++ es } }
 
 map_beside : {A B : Type 0} (f : A → B) (xs : List A) (k i : ℕ) (y : A) → i ≢ k → slice_get (map f (set xs k y)) i ≡ slice_get (map f xs) i
@@ -85,24 +84,24 @@ module _ {X C : Type 0} where
   pub taken : (passes : List (Pass X C)) (g : ℕ) (p : Pass X C) → g < length (map (λ (r : Pass X C). known_by r) passes) → p ≡ get_or passes g p → slice_get passes g ≡ Some p
   taken passes g p low is = got_at passes g p (subst (λ n. g < n) (length_map (λ (r : Pass X C). known_by r) passes) low) is
 
-  known_more : (o : Option (Shard X C)) (v : Shard X C) (l m : List Note) → o ≡ Some v → reached (seen_since (group_of o) (l ++ m)) ≡ with_more (entries_in m) (reached (seen_since (group_of o) l))
+  known_more : (o : Option (Shard X C)) (v : Shard X C) (l m : List Note) → o ≡ Some v → seen_since (group_of o) (l ++ m) ≡ with_more (entries_in m) (seen_since (group_of o) l)
   known_more o v l m is =
       let more : entries_of v.group ++ entries_in (l ++ m) ≡ (entries_of v.group ++ entries_in l) ++ entries_in m = ap (λ z. entries_of v.group ++ z) (entries_more l m) ∙ sym (append_assoc (entries_of v.group) (entries_in l) (entries_in m)) in
-      subst (λ (w : Option (Shard X C)). reached (seen_since (group_of w) (l ++ m)) ≡ with_more (entries_in m) (reached (seen_since (group_of w) l))) (sym is)
+      subst (λ (w : Option (Shard X C)). seen_since (group_of w) (l ++ m) ≡ with_more (entries_in m) (seen_since (group_of w) l)) (sym is)
       (λ i. record { journal = record { number = v.group.journal.group; opening = v.group.journal.opening; base = λ table. empty_table; entries = more i }; tables = outlines v.group; nodes = v.group.nodes })
 
 module _ {X C : Type 0} (state : X → StoreState) (allows : C → ℕ → EntryKind → Type 0) where
   -- a group as it was found is what the pass had seen, with notes of others
-  found_since : (p : Place X C) (x : Shard X C) (f : Finds state allows p x) → seen_of x.group ≡ reached (seen_since (group_of p.me.0.origin) (p.me.0.news ++ f.more))
-  found_since p x f = ap reached (seen_same state (allows f.opening.rules.value f.opening.group.journal.group) f.opening.group x.group (p.me.0.news ++ f.more) f.stands.stands) ∙ (λ i. reached (seen_since (group_of (sym f.origin i)) (p.me.0.news ++ f.more)))
+  found_since : (p : Place X C) (x : Shard X C) (f : Finds state allows p x) → seen_of x.group ≡ seen_since (group_of p.me.0.origin) (p.me.0.news ++ f.more)
+  found_since p x f = seen_same state (allows f.opening.rules.value f.opening.group.journal.group) f.opening.group x.group (p.me.0.news ++ f.more) f.stands.stands ∙ (λ i. seen_since (group_of (sym f.origin i)) (p.me.0.news ++ f.more))
 
-  found_grown : (p : Place X C) (x : Shard X C) (f : Finds state allows p x) → seen_of x.group ≡ with_more (entries_in f.more) (reached (seen_by p))
+  found_grown : (p : Place X C) (x : Shard X C) (f : Finds state allows p x) → seen_of x.group ≡ with_more (entries_in f.more) (seen_by p)
   found_grown p x f = found_since p x f ∙ known_more p.me.0.origin f.opening p.me.0.news f.more f.origin
 
-  known_after : (p q : Place X C) (notes : List Note) (fact : Seen → Type 0) (l : Looks state allows p notes q fact) → reached (seen_by q) ≡ with_more (entries_in notes) (seen_of l.shard.group)
+  pub known_after : (p q : Place X C) (notes : List Note) (fact : Seen → Type 0) (l : Looks state allows p notes q fact) → seen_by q ≡ with_more (entries_in notes) (seen_of l.shard.group)
   known_after p q notes fact l =
       let f = l.finds in
-      (λ i. reached (seen_since (group_of (l.same.2 i)) (l.news i)))
+      (λ i. seen_since (group_of (l.same.2 i)) (l.news i))
       ∙ (known_more p.me.0.origin f.opening (p.me.0.news ++ f.more) notes f.origin ∙ ap (with_more (entries_in notes)) (sym (found_since p l.shard f)))
 
   module _ (cells : List TableId) (sessions : List ℕ) (passes : List (Pass X C)) (who : Who) (g : ℕ) (p : Pass X C) (ready : IsReady cells sessions passes who.session) (there : slice_get passes g ≡ Some p) where

@@ -10,15 +10,10 @@ use Rattle.cq_cell.specs.Lists.{NotIn}
 use Rattle.cq_cell.specs.Turn.{Rests, IsSame}
 use Rattle.cq_shared.specs.declared.content.Shard.{Shard}
 use Rattle.cq_shared.specs.declared.note.Note.TheVariants as note
-use Rattle.cq_shared.specs.Seen.{Seen as Shown, Place, Pass, IsRuled, seen_by}
+use Rattle.cq_shared.specs.Seen.{Place, Pass, MayEnter, Finds, seen_by}
 use Rattle.cq_shared.specs.Writes.{AreAt, InBoth}
 use Rattle.cq_reach.specs.Seen.{Seen, seen_of}
 use Rattle.cq_reach.specs.Outlook.{Outlook}
-use Rattle.cq_desk.specs.Visits.{Finds}
-
--- a group as far as a pass has seen it, without whether it is a reference group, which its journal says
-abbrev pub reached : Shown → Seen
-reached s = record { journal = s.journal; tables = s.tables; nodes = s.nodes }
 
 -- an entry of another session of the block
 abbrev pub IsOfOthers : List ℕ → Who → Entry → Type 0
@@ -26,7 +21,7 @@ IsOfOthers sessions who e = (e.who.session ≢ who.session) × (NotIn e.who.sess
 
 module _ {X C : Type 0} where
   abbrev pub known_by : Pass X C → Seen
-  known_by p = reached (seen_by p.place)
+  known_by p = seen_by p.place
 
   -- the turn of the group's pass may find it so
   pub record MayBe (state : X → StoreState) (allows : C → ℕ → EntryKind → Type 0) (passes : List (Pass X C)) (g : ℕ) (s : Seen) : Type 0 where
@@ -37,8 +32,8 @@ module _ {X C : Type 0} where
     pub is : s ≡ seen_of shard.group
 
   -- an entry of this kind is allowed in a group by the rules under which it is shared
-  abbrev pub MayEnter : (C → ℕ → EntryKind → Type 0) → List (Pass X C) → ℕ → EntryKind → Type 0
-  MayEnter allows passes g kind = (p : Pass X C) → slice_get passes g ≡ Some p → (c : C) → IsRuled p.place c → allows c (known_by p).journal.number kind
+  abbrev pub IsAllowed : (C → ℕ → EntryKind → Type 0) → List (Pass X C) → ℕ → EntryKind → Type 0
+  IsAllowed allows passes g kind = (p : Pass X C) → slice_get passes g ≡ Some p → MayEnter allows p.place kind
 
   -- what a session knows by its passes, and may find
   abbrev pub outlook_by : (X → StoreState) → (C → ℕ → EntryKind → Type 0) → List ℕ → List (Pass X C) → Who → Outlook
@@ -46,7 +41,7 @@ module _ {X C : Type 0} where
     known = map known_by passes;
     comes = IsOfOthers sessions who;
     finds = MayBe state allows passes;
-    allows = MayEnter allows passes;
+    allows = IsAllowed allows passes;
   }
 
   -- a pass that rests, of the session of this number, in a block of these sessions

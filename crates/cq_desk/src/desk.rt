@@ -1,17 +1,15 @@
-ghost use Rattle.std.specs.Prelude.{◌≡◌, ◌<◌, ℕ, [], ◌∷◌, length, map, IfErr};
-ghost use Rattle.cq_reach.specs.Seen.{Seen};
-ghost use Rattle.cq_reach.specs.Outlook.{Meets, Tells};
-ghost use Rattle.cq_reach.specs.Reads.{CanRead, read_kinds, TellsTables, TellsRows, IfFailed};
+ghost use Rattle.std.specs.Prelude.{map};
 ghost use Rattle.cq_desk.specs.Desks.{outlook_by, IsReady, GoOn, HasNoted};
 
-use crate::visits::{pick_at, read_at};
 use cq_cell::Row;
 use cq_demands::Wants;
 use cq_group::{GroupError, Tables};
 use cq_pages::SharedRows;
-use cq_shared::{GroupCell, Legality, Note, Shard};
+use cq_reach::{Groups, WriteError};
+use cq_router::Parts;
+use cq_shared::{GroupCell, Legality, Note, Shard, pick_group, read_group, write_groups};
 use cq_store::{ColumnValues, Store};
-use cq_tree::Who;
+use cq_tree::{Reply, Who};
 use cq_value::Positions;
 use std::alloc::Global;
 use std::snapshot::Snapshot;
@@ -27,12 +25,17 @@ pub struct Desk<'a, S: Store, C, L: Legality<C>, R> {
     pub sessions: Snapshot<Vec<u64>>,
 }
 
-impl<'a, S: Store, C, L: Legality<C>, R: Wait> Desk<'a, S, C, L, R> {
-    /// The rows of some tables of a group that have what is wanted of them, of which its journal has a Read then. It waits for the turn. A reference group
-    /// is read on the near node.
-    ///
-    /// Errors: a store failed, or want of memory; nothing is entered.
-    pub fn read(
+/// Groups that the block's sessions share: each call waits for the turn in its groups, and other sessions may have entered what is allowed meanwhile.
+impl<'a, S: Store, C, L: Legality<C>, R: Wait> Groups for Desk<'a, S, C, L, R> {
+    ghost outlook = { λ desk who. outlook_by S.state L.allows desk.sessions.value.items desk.passes.items who };
+
+    ghost ready = { λ desk session. IsReady (map (λ c. c.shared.table_id) desk.cells.now) desk.sessions.value.items desk.passes.items session };
+
+    ghost goes_on = { λ old new. GoOn old.passes.items new.passes.items };
+
+    ghost failed = { λ old new who group failure. HasNoted who group old.passes.items new.passes.items failure };
+
+    fn read(
         &mut self,
         alloc: Global,
         who: Who,
@@ -40,17 +43,9 @@ impl<'a, S: Store, C, L: Legality<C>, R: Wait> Desk<'a, S, C, L, R> {
         group: u32,
         tables: &Positions,
         wants: &Wants,
-    ) -> Result<Tables, GroupError>
-        requires ready { IsReady (map (λ c. c.shared.table_id) self.old.cells.now) self.old.sessions.value.items self.old.passes.items who.session }
-        requires within { group < length (outlook_by S.state L.allows self.old.sessions.value.items self.old.passes.items who).known }
-        requires there { (s : Seen) → Meets (outlook_by S.state L.allows self.old.sessions.value.items self.old.passes.items who) group s → CanRead near tables.now s }
-        ensures ready { IsReady (map (λ c. c.shared.table_id) self.new.cells.now) self.new.sessions.value.items self.new.passes.items who.session }
-        ensures tells { Tells who group (read_kinds result) (TellsTables tables.now wants.now near result) (outlook_by S.state L.allows self.old.sessions.value.items self.old.passes.items who) (outlook_by S.state L.allows self.new.sessions.value.items self.new.passes.items who) }
-        ensures failed { IfErr result (IfFailed (HasNoted who group self.old.passes.items self.new.passes.items)) }
-        ensures goes_on { GoOn self.old.passes.items self.new.passes.items }
-    {
+    ) -> Result<Tables, GroupError> {
         let place = group as usize;
-        read_at(
+        read_group(
             self.rt,
             alloc,
             &self.cells[place],
@@ -62,11 +57,7 @@ impl<'a, S: Store, C, L: Legality<C>, R: Wait> Desk<'a, S, C, L, R> {
         )
     }
 
-    /// The rows of a table of a group that have each of these values, of which its journal has a Read then. It waits for the turn. A reference group is read
-    /// on the near node.
-    ///
-    /// Errors: a store failed, or want of memory; nothing is entered.
-    pub fn pick(
+    fn pick(
         &mut self,
         alloc: Global,
         who: Who,
@@ -74,17 +65,9 @@ impl<'a, S: Store, C, L: Legality<C>, R: Wait> Desk<'a, S, C, L, R> {
         group: u32,
         table: u32,
         wanted: &ColumnValues,
-    ) -> Result<SharedRows, GroupError>
-        requires ready { IsReady (map (λ c. c.shared.table_id) self.old.cells.now) self.old.sessions.value.items self.old.passes.items who.session }
-        requires within { group < length (outlook_by S.state L.allows self.old.sessions.value.items self.old.passes.items who).known }
-        requires there { (s : Seen) → Meets (outlook_by S.state L.allows self.old.sessions.value.items self.old.passes.items who) group s → CanRead near (table ∷ []) s }
-        ensures ready { IsReady (map (λ c. c.shared.table_id) self.new.cells.now) self.new.sessions.value.items self.new.passes.items who.session }
-        ensures tells { Tells who group (read_kinds result) (TellsRows table wanted.now near result) (outlook_by S.state L.allows self.old.sessions.value.items self.old.passes.items who) (outlook_by S.state L.allows self.new.sessions.value.items self.new.passes.items who) }
-        ensures failed { IfErr result (IfFailed (HasNoted who group self.old.passes.items self.new.passes.items)) }
-        ensures goes_on { GoOn self.old.passes.items self.new.passes.items }
-    {
+    ) -> Result<SharedRows, GroupError> {
         let place = group as usize;
-        pick_at(
+        pick_group(
             self.rt,
             alloc,
             &self.cells[place],
@@ -94,5 +77,9 @@ impl<'a, S: Store, C, L: Legality<C>, R: Wait> Desk<'a, S, C, L, R> {
             table,
             wanted,
         )
+    }
+
+    fn write(&mut self, alloc: Global, who: Who, parts: Parts) -> Result<Reply, WriteError> {
+        write_groups(self.rt, alloc, self.cells, &mut self.passes, who, parts)
     }
 }

@@ -2,7 +2,5 @@
 #![tactic(auto)]
 
 mod desk;
-mod visits;
 
 pub use desk::Desk;
-pub use visits::{pick_at, read_at};

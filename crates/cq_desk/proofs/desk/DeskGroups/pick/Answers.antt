@@ -1,32 +1,32 @@
 use Rattle.cq_shared.specs.Reads.{read_notes}
 use Rattle.cq_reach.specs.Seen.{seen_of}
-use Rattle.cq_reach.specs.Reads.{read_kinds, TellsTables}
+use Rattle.cq_reach.specs.Reads.{read_kinds, TellsRows}
 use Rattle.cq_desk.proofs.Meeting.{at_cell, turned, taken, read_entries, meets, tells, noted, goes_on, again}
-use Rattle.cq_desk.proofs.desk.Desk.read.Goals as goal
+use Rattle.cq_desk.proofs.desk.DeskGroups.pick.Goals as goal
 
-pub read_at-requires-clause-at : goal.read_at-requires-clause-at
-read_at-requires-clause-at g c =
+pub pick_group-requires-clause-at : goal.pick_group-requires-clause-at
+pick_group-requires-clause-at g c =
     let passes = c.args.self.now.passes.items in
     let p = c.index_mut.result.now in
     let there = taken passes c.args.group p c.requires.within c.index_mut.ensures.value in
     at_cell _ c.args.self.now.cells.now passes c.args.group c.index-self-place.result p c.requires.ready.at there c.index-self-place.is
 
-pub read_at-requires-clause-rests : goal.read_at-requires-clause-rests
-read_at-requires-clause-rests g c =
+pub pick_group-requires-clause-rests : goal.pick_group-requires-clause-rests
+pick_group-requires-clause-rests g c =
     let passes = c.args.self.now.passes.items in
     let p = c.index_mut.result.now in
     let there = taken passes c.args.group p c.requires.within c.index_mut.ensures.value in
     (c.requires.ready.own c.args.group p there).rests
 
-pub read_at-requires-clause-own : goal.read_at-requires-clause-own
-read_at-requires-clause-own g c =
+pub pick_group-requires-clause-own : goal.pick_group-requires-clause-own
+pick_group-requires-clause-own g c =
     let passes = c.args.self.now.passes.items in
     let p = c.index_mut.result.now in
     let there = taken passes c.args.group p c.requires.within c.index_mut.ensures.value in
     (c.requires.ready.own c.args.group p there).numbered
 
-pub read_at-requires-clause-there : goal.read_at-requires-clause-there
-read_at-requires-clause-there g c =
+pub pick_group-requires-clause-there : goal.pick_group-requires-clause-there
+pick_group-requires-clause-there g c =
     let passes = c.args.self.now.passes.items in
     let p = c.index_mut.result.now in
     let there = taken passes c.args.group p c.requires.within c.index_mut.ensures.value in
@@ -37,25 +37,25 @@ returns-clause-ready g c =
     let passes = c.args.self.now.passes.items in
     let p = c.index_mut.result.now in
     let there = taken passes c.args.group p c.requires.within c.index_mut.ensures.value in
-    again g.S.Store.state g.L.Legality.allows _ c.args.self.now.sessions.value.items passes c.args.who c.args.group p c.requires.ready there (turned p c.read_at.new.pass) c.read_at.ensures.looks.same c.read_at.ensures.rests
+    again g.S.Store.state g.L.Legality.allows _ c.args.self.now.sessions.value.items passes c.args.who c.args.group p c.requires.ready there (turned p c.pick_group.new.pass) c.pick_group.ensures.looks.same c.pick_group.ensures.rests
 
 pub returns-clause-tells : goal.returns-clause-tells
 returns-clause-tells g c =
     let passes = c.args.self.now.passes.items in
     let p = c.index_mut.result.now in
     let there = taken passes c.args.group p c.requires.within c.index_mut.ensures.value in
-    tells g.S.Store.state g.L.Legality.allows _ c.args.self.now.sessions.value.items passes c.args.who c.args.group p c.requires.ready there (turned p c.read_at.new.pass) (read_notes c.args.who c.read_at.result) (read_kinds c.read_at.result) (TellsTables c.args.tables.now c.args.wants.now c.args.near c.read_at.result) (read_entries c.args.who c.read_at.result) c.read_at.ensures.looks
+    tells g.S.Store.state g.L.Legality.allows _ c.args.self.now.sessions.value.items passes c.args.who c.args.group p c.requires.ready there (turned p c.pick_group.new.pass) (read_notes c.args.who c.pick_group.result) (read_kinds c.pick_group.result) (TellsRows c.args.table c.args.wanted.now c.args.near c.pick_group.result) (read_entries c.args.who c.pick_group.result) c.pick_group.ensures.looks
 
 pub returns-clause-failed : goal.returns-clause-failed
 returns-clause-failed g c =
     let passes = c.args.self.now.passes.items in
     let p = c.index_mut.result.now in
     let there = taken passes c.args.group p c.requires.within c.index_mut.ensures.value in
-    noted g.S.Store.state g.L.Legality.allows _ c.args.self.now.sessions.value.items passes c.args.who c.args.group p c.requires.ready there (turned p c.read_at.new.pass) c.read_at.result (TellsTables c.args.tables.now c.args.wants.now c.args.near c.read_at.result) c.read_at.ensures.looks
+    noted g.S.Store.state g.L.Legality.allows _ c.args.self.now.sessions.value.items passes c.args.who c.args.group p c.requires.ready there (turned p c.pick_group.new.pass) c.pick_group.result (TellsRows c.args.table c.args.wanted.now c.args.near c.pick_group.result) c.pick_group.ensures.looks
 
 pub returns-clause-goes_on : goal.returns-clause-goes_on
 returns-clause-goes_on g c =
     let passes = c.args.self.now.passes.items in
     let p = c.index_mut.result.now in
     let there = taken passes c.args.group p c.requires.within c.index_mut.ensures.value in
-    goes_on g.S.Store.state g.L.Legality.allows _ c.args.self.now.sessions.value.items passes c.args.who c.args.group p c.requires.ready there (turned p c.read_at.new.pass) c.read_at.ensures.looks.same
+    goes_on g.S.Store.state g.L.Legality.allows _ c.args.self.now.sessions.value.items passes c.args.who c.args.group p c.requires.ready there (turned p c.pick_group.new.pass) c.pick_group.ensures.looks.same
