@@ -1,4 +1,4 @@
-//! The parts of the plan of a query, each by itself. The calls on a plan read what its blocks touch and why it isn't supported.
+//! The plan of a statement's query, and the steps that make it. The calls on a plan read what its blocks touch and why it isn't supported.
 #![tactic(auto)]
 
 mod block;

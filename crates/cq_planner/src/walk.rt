@@ -171,11 +171,24 @@ fn walk(
                 labels: frame.labels,
                 said: frame.said,
             };
-            let (given, relations) =
-                below(frame.alloc, frame.catalog, base, right, q.get(), start.column)?;
+            let (given, relations) = below(
+                frame.alloc,
+                frame.catalog,
+                base,
+                right,
+                q.get(),
+                start.column,
+            )?;
             let outer = outer_of(frame.alloc, is_right, right)?;
-            let stays =
-                put_subquery(frame, q.get(), start, outer, given, relations.as_slice(), found)?;
+            let stays = put_subquery(
+                frame,
+                q.get(),
+                start,
+                outer,
+                given,
+                relations.as_slice(),
+                found,
+            )?;
             Ok(Walked {
                 relations,
                 from: stays,
@@ -337,7 +350,15 @@ fn lone_subquery(
     let column = few(output)?;
     let leaving = leaving_by(planner);
     let mut parts = Parts::new(frame.alloc);
-    let stays = put_inside(frame.alloc, frame.catalog, leaving, q, given, next, &mut parts)?;
+    let stays = put_inside(
+        frame.alloc,
+        frame.catalog,
+        leaving,
+        q,
+        given,
+        next,
+        &mut parts,
+    )?;
     let from = sub(frame.alloc, stays)?;
     let query = lone_query(frame.alloc, from, column, &set)?;
     lone_plan(frame.alloc, frame.catalog, number, planner, parts, query)

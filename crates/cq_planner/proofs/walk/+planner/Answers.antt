@@ -95,9 +95,9 @@ walk-returns-in_ok-both-in-Left t c =
 pub lone_subquery-returns : goal.lone_subquery-returns
 lone_subquery-returns t c =
     subst (λ x. IfOk c.lone_plan.result (λ p. p ≡ x))
-    (lone_arm c.args.frame.catalog.now c.args.q.now c.args.number c.args.next c.args.output c.args.given c.in_ok-said.said c.in_ok-set.set (first_set c.args.begun.now) c.in_ok-planner.planner c.leaving_by.result c.in_ok-column.column
+    (lone_arm c.args.frame.catalog.now c.args.q.now c.args.number c.args.next c.args.output c.args.given c.in_ok-said.said c.in_ok-set.set (first_set c.args.begun.now) c.in_ok-planner.planner c.leaving_by-leaving.result c.in_ok-column.column
     c.put_inside.new.found c.in_ok-stays.stays c.in_ok-query.query c.in_ok-from.from
-    (c.in_ok-said.ensures ∙ c.as_slice.ensures) c.in_ok-planner.ensures c.in_ok-set.ensures c.in_ok-column.ensures c.leaving_by.ensures c.in_ok-stays.ensures.0 (rw c.new-parts.ensures at c.in_ok-stays.ensures.1)
+    (c.in_ok-said.ensures ∙ c.as_slice.ensures) c.in_ok-planner.ensures c.in_ok-set.ensures c.in_ok-column.ensures c.leaving_by-leaving.ensures c.in_ok-stays.ensures.0 (rw c.new-parts.ensures at c.in_ok-stays.ensures.1)
     c.in_ok-from.ensures c.in_ok-query.ensures)
     c.lone_plan.ensures
 

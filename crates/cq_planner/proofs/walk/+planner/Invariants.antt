@@ -5,8 +5,8 @@ use Rattle.cq_planner.proofs.walk.+planner.Given as goal
 
 abbrev pub invariant-cte_plans-loop-number : goal.invariant-cte_plans-loop-number
 invariant-cte_plans-loop-number l =
-    l.plans ++ cte_plan_list l.catalog l.number l.next.ins l.next.relations (drop l.number l.queries) ≡ cte_plan_list l.catalog 0 l.first.ins l.first.relations l.queries
+    l.plans ++ cte_plan_list l.catalog l.number l.next.ins l.next.relations (drop l.number l.queries) ≡ cte_plan_list l.catalog 0 l.fn.first.ins l.fn.first.relations l.queries
 
 abbrev pub invariant-put_asked-loop-q : goal.invariant-put_asked-loop-q
 invariant-put_asked-loop-q l =
-    l.found ++ map Asks (in_plan_list l.catalog l.next.ins l.next.relations (drop l.q-index l.queries)) ≡ l.fn.found ++ map Asks (in_plan_list l.catalog l.first.ins l.first.relations l.queries)
+    l.found ++ map Asks (in_plan_list l.catalog l.next.ins l.next.relations (drop l.q-index l.queries)) ≡ l.fn.found ++ map Asks (in_plan_list l.catalog l.fn.first.ins l.fn.first.relations l.queries)
