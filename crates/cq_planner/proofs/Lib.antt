@@ -2,6 +2,9 @@ pub mod BlockLaws
 pub mod CountLaws
 pub mod FlawLaws
 pub mod LoneLaws
+pub mod PlanNodes
 pub mod StrategyLaws
 pub mod TableLaws
 pub mod TouchLaws
+pub mod WalkLaws
+pub mod WholeLaws
