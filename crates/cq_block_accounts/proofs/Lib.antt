@@ -1,2 +1,11 @@
+pub mod Blocks
 pub mod Faults
 pub mod Retiring
+pub mod Staying
+pub mod Plain
+pub mod Clusters
+pub mod Parts
+pub mod Failures
+pub mod Blames
+pub mod Telling
+pub mod Numbers

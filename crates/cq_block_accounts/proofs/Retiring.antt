@@ -1,5 +1,5 @@
 -- The stores that a block retired.
-use Rattle.std.proofs.Common.{◌≡◌, inl, inr, ℕ, true, false, List, [], ◌∷◌, ◌++◌, map, filter, refl, sym, ◌∙◌, ap, subst, Some, None, Option, append-nil, append_assoc}
+use Rattle.std.proofs.Common.{◌≡◌, inl, inr, ℕ, false, List, [], ◌∷◌, ◌++◌, map, filter, refl, sym, ◌∙◌, ap, subst, Some, None, Option, append-nil, append_assoc}
 use Rattle.std.specs.List.{AllByRecursion, AllZip, flat_map}
 use Rattle.std.proofs.lemmas.List.{map-append}
 use Rattle.std.proofs.lemmas.List.Elements.{filter-append}
@@ -15,7 +15,7 @@ use Rattle.cq_history.specs.Run.{Environment, retiring, after, environment_from}
 use Rattle.cq_history.specs.Phases.{MayBeInBlock}
 use Rattle.cq_cluster.specs.declared.retired.Retired.{Retired}
 use Rattle.cq_cluster.specs.Accounts.{AreRetired, StandsFor, tells_retired, is_retiring}
-use Rattle.cq_block_accounts.specs.Accounts.{RetiresAll, RetiredOn, SessionsRetire, IsMove, MayRetire, BlockRetires}
+use Rattle.cq_block_accounts.specs.Accounts.{RetiredOn, SessionsRetire, IsMove, MayRetire, BlockRetires}
 
 -- ---- one answer
 
@@ -27,7 +27,7 @@ fault_leaves : (e : Environment) (f : Fault) → tells_retired (answer.Failed f)
 fault_leaves e (fault.Retired failure) none = absurd (cc none)
 fault_leaves e f none = refl
 
-leaves : (e : Environment) (bound : Option Statement) (a : Answer) → MayBeInBlock bound → tells_retired a ≡ false → after e bound a ≡ e
+pub leaves : (e : Environment) (bound : Option Statement) (a : Answer) → MayBeInBlock bound → tells_retired a ≡ false → after e bound a ≡ e
 leaves e None (answer.Failed f) m none = refl
 leaves e None (answer.Tag t) m none = refl
 leaves e None (answer.Table names rows) m none = refl

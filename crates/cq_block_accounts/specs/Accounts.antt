@@ -1,7 +1,7 @@
--- The accounts of a cluster behind a block. `AreAccounted` and `Retires` of cq_cluster are of statements one after the other; here they are said of all statements
--- of a block.
-use Rattle.std.specs.Prelude.{◌≡◌, ◌≢◌, ◌⊎◌, ◌<◌, ◌++◌, ⊤, ℕ, true, List, map, length, Option, Some, slice_get}
+-- The accounts of a cluster behind a block: what its answers tell of stores, and what it retired.
+use Rattle.std.specs.Prelude.{◌≡◌, ◌≢◌, ◌⊎◌, ◌<◌, ◌++◌, ⊤, ℕ, IsTrue, true, List, [], map, length, Option, Some, slice_get}
 use Rattle.std.specs.List.{AllByRecursion, AllZip, flat_map}
+use Rattle.std.specs.List.Sorted.{IsPermutation}
 use Rattle.cq_tree.specs.declared.statement.Statement.{Statement}
 use Rattle.cq_tree.specs.declared.statement.Statement.TheVariants.{Move}
 use Rattle.cq_catalog.specs.Contents.{Contents}
@@ -9,20 +9,22 @@ use Rattle.cq_answer.specs.declared.answered.Answered.{Answered}
 use Rattle.cq_store.specs.Stores.{StoreState}
 use Rattle.cq_history.specs.Run.{Environment, environment_from}
 use Rattle.cq_history.specs.Phases.{phase_in, MayBeInBlock}
-use Rattle.cq_history.specs.Faults.{NamesBelow}
+use Rattle.cq_history.specs.Faults.{Climbs, NamesBelow, Range, ranges_of}
+use Rattle.cq_history.specs.Laws.{StoreGoesOn}
 use Rattle.cq_group.specs.declared.group.GroupState.{GroupState}
 use Rattle.cq_group.specs.Groups.{stores_of, entries_of}
 use Rattle.cq_cluster.specs.declared.retired.Retired.{Retired}
 use Rattle.cq_cluster.specs.Accounts.{moved_by, AreAccounted, AreRetired, is_retiring}
-use Rattle.cq_block_laws.specs.Accounts.{AccountsByPhases, later_phases, AreOfPhases, TellsOf}
 
 -- ---- counts of faults
 
--- the counts of the groups' stores account for the answers of the phases behind that in which the group was moved last, and no answer names a shard id
--- that isn't given out
-pub record AreAccountedByPhases {X : Type 0} (state : X → StoreState) (c : Contents) (answers : List Answered) (groups : List (GroupState X)) : Type 0 where
-  pub stores : (i : ℕ) (g : GroupState X) → slice_get groups i ≡ Some g → AllByRecursion (λ (x : X). AccountsByPhases (later_phases (moved_by (entries_of g)) answers) (state x)) (stores_of g)
-  pub below : AllByRecursion (λ (a : Answered). NamesBelow c.next_shard a.answer) answers
+-- a block's answers tell of what happened to a store from its opening to its end: the ranges of its failures, one for each answer that names it
+pub record TellsOf (block : List Answered) (s t : StoreState) : Type 0 where
+  pub on : StoreGoesOn s t
+  pub ranges : List Range
+  pub told : IsPermutation (ranges_of s.node s.shard block) ranges
+  pub climbs : Climbs s.faults ranges t.faults
+  pub steady : IsTrue s.steady → ranges ≡ []
 
 -- a group that no statement of the block moved: the block's answers tell of each of its stores
 pub record IsToldOf {X : Type 0} (state : X → StoreState) (block : List Answered) (old new : GroupState X) : Type 0 where
@@ -38,12 +40,7 @@ pub record AreToldOf {X : Type 0} (state : X → StoreState) (phase : ℕ) (answ
 abbrev pub BlockIsAccounted : {X : Type 0} → (X → StoreState) → Type 0
 BlockIsAccounted {X} state = (c : Contents) (phase : ℕ) (answers block : List Answered) (old new : List (GroupState X)) → 0 < phase → AllByRecursion (λ (a : Answered). a.phase < phase) answers →
     AllByRecursion (λ (a : Answered). a.phase ≡ phase) block → AllByRecursion (λ (a : Answered). NamesBelow c.next_shard a.answer) block → AreToldOf state phase answers block old new →
-    AreAccountedByPhases state c answers old → AreAccountedByPhases state c (answers ++ block) new
-
--- where each answer is a phase of its own, this is what cq_cluster says
-abbrev pub SerialIsAccounted : {X : Type 0} → (X → StoreState) → Type 0
-SerialIsAccounted {X} state = (c : Contents) (answers : List Answered) (groups : List (GroupState X)) → AreOfPhases answers → AllByRecursion (λ (a : Answered). a.phase ≡ a.statement) answers →
-    ((i : ℕ) (g : GroupState X) → slice_get groups i ≡ Some g → phase_in answers (moved_by (entries_of g)) ≡ moved_by (entries_of g)) → AreAccounted state c answers groups → AreAccountedByPhases state c answers groups
+    AreAccounted state c answers old → AreAccounted state c (answers ++ block) new
 
 -- ---- retired stores
 

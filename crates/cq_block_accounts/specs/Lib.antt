@@ -1,1 +1,3 @@
 pub mod Accounts
+pub mod Cluster
+pub mod Blames

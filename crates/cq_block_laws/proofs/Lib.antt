@@ -3,5 +3,6 @@ pub mod Ordered
 pub mod Rooms
 pub mod Served
 pub mod Phases
-pub mod Accounts
 pub mod Still
+pub mod Histories
+pub mod Closed

@@ -1,6 +1,7 @@
 -- The laws.
-use Rattle.std.specs.Prelude.{◌≡◌, ◌≢◌, ◌<◌, ◌≤◌, ◌+◌, ◌++◌, ⊤, ℕ, List, [], ◌∷◌, length, Option, Some, None}
+use Rattle.std.specs.Prelude.{◌≡◌, ◌+◌, ◌++◌, ⊤, ℕ, List, [], ◌∷◌, length, Option, Some, None}
 use Rattle.std.specs.List.{AllByRecursion}
+use Rattle.cq_tree.specs.declared.journal.EntryKind.{EntryKind}
 use Rattle.cq_tree.specs.declared.statement.Statement.{Statement}
 use Rattle.cq_tree.specs.declared.statement.Statement.TheVariants.{Move}
 use Rattle.cq_answer.specs.declared.answered.Answered.{Answered}
@@ -8,15 +9,16 @@ use Rattle.cq_journal.specs.Records.{Journal}
 use Rattle.cq_journal.specs.Stations.{moving_of}
 use Rattle.cq_history.specs.Journals.{journal_in}
 use Rattle.cq_history.specs.Run.{Run, Rules, Environment, after, environment_from}
-use Rattle.cq_history.specs.Phases.{who_of, phase_in, MayBeInBlock}
+use Rattle.cq_history.specs.Phases.{who_of, MayBeInBlock}
 use Rattle.cq_history.specs.Deeds.{Phase}
 use Rattle.cq_history.specs.Log.{Era, joined, IsLaidOut, IsConsistentIn, AreConsistent, IsAnsweredIn, IsPhase}
 use Rattle.cq_shared.specs.declared.errand.Errand.{Errand}
 use Rattle.cq_store.specs.Stores.{StoreState}
-use Rattle.cq_history.specs.Faults.{AccountsFor}
-use Rattle.cq_block_laws.specs.Accounts.{AccountsByPhases, later_phases, AreOfPhases, TellsOf}
+use Rattle.cq_group.specs.declared.group.GroupState.{GroupState}
+use Rattle.cq_group.specs.Resting.{journals_of}
 use Rattle.cq_block_laws.specs.Serving.{Opening, Known, IsPhaseOf, IsAnsweredBeside, AreAnswered}
 use Rattle.cq_block_laws.specs.Closing.{Session, numbers_of, answers_of, AreApart, AreSessions, History, IsClosed}
+use Rattle.cq_block_laws.specs.Sessions.{HasRun}
 
 -- a session goes on by one more answer
 abbrev pub AnswersOn : Type 0
@@ -57,22 +59,7 @@ abbrev pub MovesAreOver : Type 0
 MovesAreOver = (rules : Rules) (run : Run) (before : Era) (all : List Answered) (e : Environment) (answers : List Answered) (journals : List Journal) → IsConsistentIn rules run before all e answers journals →
     (g : ℕ) → moving_of (journal_in journals g) ≡ None
 
--- ---- counts of faults
-
--- where each answer is a phase of its own, its order is that of the answers
-abbrev pub SerialAccounts : Type 0
-SerialAccounts = (answers : List Answered) (s : StoreState) → AreOfPhases answers → AccountsFor answers s → AccountsByPhases answers s
-
--- a store's count accounts for a block's answers too, which tell of what happened to it meanwhile
-abbrev pub BlockAccounts : Type 0
-BlockAccounts = (phase : ℕ) (answers block : List Answered) (s t : StoreState) → AllByRecursion (λ (a : Answered). a.phase < phase) answers → AllByRecursion (λ (a : Answered). a.phase ≡ phase) block → TellsOf block s t →
-    AccountsByPhases answers s → AccountsByPhases (answers ++ block) t
-
--- so of the answers since a shard group was moved: by a statement of an earlier phase, or never
-abbrev pub StayingAccounts : Type 0
-StayingAccounts = (phase n : ℕ) (answers block : List Answered) (s t : StoreState) → 0 < phase → AllByRecursion (λ (a : Answered). a.phase < phase) answers → AllByRecursion (λ (a : Answered). a.phase ≡ phase) block →
-    AllByRecursion (λ (a : Answered). a.statement ≢ n) block → TellsOf block s t → AccountsByPhases (later_phases n answers) s → AccountsByPhases (later_phases n (answers ++ block)) t
-
--- or by one of the block: no phase comes behind it yet
-abbrev pub MovedAccounts : Type 0
-MovedAccounts = (phase n : ℕ) (answers : List Answered) (s : StoreState) → AllByRecursion (λ (a : Answered). a.phase ≤ phase) answers → phase_in answers n ≡ phase → AccountsByPhases (later_phases n answers) s
+-- a block over groups is closed behind what its sessions did: of each group the notes are those of its cell, and of the workers there are none
+abbrev pub BlockCloses : {X : Type 0} → (X → StoreState) → (C : Type 0) → (C → ℕ → EntryKind → Type 0) → Type 0
+BlockCloses {X} state C allows = (rules : Rules) (run : Run) (nodes : ℕ) (o : Opening) (opened : List (GroupState X)) (sessions : List Session) (closed : List (GroupState X)) → HasRun state allows rules nodes o opened sessions closed →
+    run.workers ≡ nodes → o.journals ≡ journals_of opened → (h : History) × IsClosed rules run o h sessions (journals_of closed)

@@ -1,4 +1,4 @@
 pub mod Serving
 pub mod Closing
-pub mod Accounts
 pub mod Laws
+pub mod Sessions

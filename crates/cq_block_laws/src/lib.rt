@@ -2,7 +2,10 @@
 //! law is the contract of a function that does nothing.
 #![tactic(auto)]
 
-ghost use Rattle.cq_block_laws.specs.Laws.{QuietBeside, AnswersOn, BlockIsPhase, BlockGoesOn, BlockKeeps, MovesAreOver, SerialAccounts, BlockAccounts, StayingAccounts, MovedAccounts};
+ghost use Rattle.cq_block_laws.specs.Laws.{QuietBeside, AnswersOn, BlockIsPhase, BlockGoesOn, BlockKeeps, MovesAreOver, BlockCloses};
+
+use cq_shared::Legality;
+use cq_store::Store;
 
 /// A session goes on by one statement; and as a block is closed its answers, in the order of its sessions, are one phase, behind which all is as
 /// between two phases. Does nothing.
@@ -15,10 +18,7 @@ pub fn block_laws()
     ensures over { MovesAreOver }
 {}
 
-/// The counts of faults account for the answers, phase after phase, as a block comes behind them. Does nothing.
-pub fn account_laws()
-    ensures serial { SerialAccounts }
-    ensures block { BlockAccounts }
-    ensures staying { StayingAccounts }
-    ensures moved { MovedAccounts }
+/// A block over shard groups is closed as it has run: its sessions answered by what their passes saw, and nobody else noted anything. Does nothing.
+pub fn closing_law<S: Store, C, L: Legality<C>>()
+    ensures { BlockCloses S.state C L.allows }
 {}

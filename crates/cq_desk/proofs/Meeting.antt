@@ -1,7 +1,7 @@
 -- A session's passes, as one of them has had a turn.
 use Rattle.std.proofs.Common.{◌≡◌, ◌≢◌, ◌⊎◌, inl, inr, ℕ, zero, suc, ◌<◌, List, [], ◌∷◌, ◌++◌, length, map, refl, sym, ap, ◌∙◌, subst, append_assoc, Option, Some, slice_get, get_or, Result, Ok, Err, IfErr}
 use Rattle.std.proofs.Math.ListN.{set}
-use Rattle.std.proofs.lemmas.List.{length-set}
+use Rattle.std.proofs.lemmas.List.{length-set, append-nil}
 use Rattle.std.proofs.lemmas.Bool.Decides.{eqb_tells}
 use Rattle.std.specs.List.{AllByRecursion}
 use Rattle.atomic_table.specs.Seated.{TableId}
@@ -20,7 +20,8 @@ use Rattle.cq_shared.specs.declared.content.Shard.{Shard}
 use Rattle.cq_shared.specs.declared.note.Note.{Note}
 use Rattle.cq_shared.specs.declared.note.Note.TheVariants as note
 use Rattle.cq_shared.specs.Notes.{who_of, entries_in}
-use Rattle.cq_shared.specs.Seen.{Place, Pass, Finds, Looks, group_of, seen_since, seen_by}
+use Rattle.cq_shared.specs.Quiet.{IsQuiet, GoesOn, GoOn}
+use Rattle.cq_shared.specs.Seen.{Place, Pass, Finds, HasStood, Looks, group_of, seen_since, seen_by}
 use Rattle.cq_shared.specs.Reads.{read_notes}
 use Rattle.cq_shared.specs.Writes.{AreAt}
 use Rattle.cq_shared.proofs.Standing.{entries_more, seen_same}
@@ -30,7 +31,7 @@ use Rattle.cq_reach.specs.Seen.{Seen, seen_of}
 use Rattle.cq_reach.specs.Outlook.{Meets, Tells}
 use Rattle.cq_reach.specs.Reads.{read_kinds, IfFailed}
 use Rattle.cq_reach.proofs.Growth.{got_at, got_below, one_item, set_there, set_beside}
-use Rattle.cq_desk.specs.Desks.{IsOfOthers, known_by, outlook_by, IsOwn, IsReady, GoOn, HasNoted}
+use Rattle.cq_desk.specs.Desks.{IsOfOthers, known_by, outlook_by, IsOwn, IsReady, HasNoted}
 
 -- ---- entries of others
 
@@ -59,6 +60,11 @@ read_entries who (Ok v) = refl
 read_entries who (Err (Worker f)) = refl
 read_entries who (Err Memory) = refl
 
+pub read_quiet : {V : Type 0} (who : Who) (r : Result V GroupError) → AllByRecursion IsQuiet (read_notes who r)
+read_quiet who (Ok v) = (tt, tt)
+read_quiet who (Err (Worker f)) = (tt, tt)
+read_quiet who (Err Memory) = tt
+
 -- ---- what is known of a group, with more notes
 
 abbrev pub with_more : List Entry → Seen → Seen
@@ -72,6 +78,10 @@ map_beside f (x ∷ xs) (suc k) zero y n = refl
 map_beside f (x ∷ xs) (suc k) (suc i) y n = map_beside f xs k i y (λ e. n (ap suc e))
 
 module _ {X C : Type 0} where
+  -- a pass that wasn't used
+  pub goes_nowhere : (p : Place X C) → GoesOn p p
+  goes_nowhere p = record { same = (refl, refl, refl, refl, refl); notes = []; mine = sym (append-nil p.me.0.mine); quiet = tt }
+
   -- the pass at a place is at the cell that is read there
   pub at_cell : {A : Type 0} (f : A → TableId) (cells : List A) (passes : List (Pass X C)) (k : ℕ) (c : A) (q : Pass X C) → AreAt (map f cells) passes → slice_get passes k ≡ Some q → c ≡ get_or cells k c → IsAt (f (get_or cells k c)) q.place
   at_cell {A} f cells passes k c q at there is = subst (λ (a : A). IsAt (f a) q.place) is (at_place f cells passes k c q at there is)
@@ -104,7 +114,7 @@ module _ {X C : Type 0} (state : X → StoreState) (allows : C → ℕ → Entry
       (λ i. seen_since (group_of (l.same.2 i)) (l.news i))
       ∙ (known_more p.me.0.origin f.opening (p.me.0.news ++ f.more) notes f.origin ∙ ap (with_more (entries_in notes)) (sym (found_since p l.shard f)))
 
-  module _ (cells : List TableId) (sessions : List ℕ) (passes : List (Pass X C)) (who : Who) (g : ℕ) (p : Pass X C) (ready : IsReady cells sessions passes who.session) (there : slice_get passes g ≡ Some p) where
+  module _ (cells : List TableId) (sessions : List ℕ) (passes : List (Pass X C)) (who : Who) (g : ℕ) (p : Pass X C) (ready : IsReady state allows cells sessions passes who.session) (there : slice_get passes g ≡ Some p) where
     -- what the turn of a pass finds, the session may meet
     pub meets : (x : Shard X C) → Finds state allows p.place x → Meets (outlook_by state allows sessions passes who) g (seen_of x.group)
     meets x f =
@@ -153,18 +163,18 @@ module _ {X C : Type 0} (state : X → StoreState) (allows : C → ℕ → Entry
       noted (Err (Worker f)) fact l = record { before = p; after = q; was = there; is = here; holds = l.mine }
       noted (Err Memory) fact l = tt
 
-      pub goes_on : IsSame p.place q.place → GoOn passes (set passes g q)
-      goes_on same = record {
+      pub goes_on : GoesOn p.place q.place → GoOn passes (set passes g q)
+      goes_on one = record {
         count = length-set passes g q;
         each = λ i a b e f. elim (which i b f) [
-          | inl y ↦ subst (λ (r : Pass X C). IsSame r.place b.place) (one_item p a (sym there ∙ subst (λ j. slice_get passes j ≡ Some a) y.0 e)) (subst (λ (r : Pass X C). IsSame p.place r.place) y.1 same)
-          | inr z ↦ subst (λ (r : Pass X C). IsSame a.place r.place) (one_item a b (sym e ∙ z.1)) (refl, refl, refl, refl, refl)
+          | inl y ↦ subst (λ (r : Pass X C). GoesOn r.place b.place) (one_item p a (sym there ∙ subst (λ j. slice_get passes j ≡ Some a) y.0 e)) (subst (λ (r : Pass X C). GoesOn p.place r.place) y.1 one)
+          | inr z ↦ subst (λ (r : Pass X C). GoesOn a.place r.place) (one_item a b (sym e ∙ z.1)) (goes_nowhere a.place)
         ];
       }
 
       -- and the passes are ready again
-      pub again : IsSame p.place q.place → Rests q.place → IsReady cells sessions (set passes g q) who.session
-      again same rests =
+      pub again : IsSame p.place q.place → Rests q.place → HasStood state allows q.place → IsReady state allows cells sessions (set passes g q) who.session
+      again same rests stood =
           let o = ready.own g p there in
           record {
             at = record {
@@ -175,7 +185,7 @@ module _ {X C : Type 0} (state : X → StoreState) (allows : C → ℕ → Entry
               ];
             };
             own = λ i r e. elim (which i r e) [
-              | inl y ↦ subst (λ (t : Pass X C). IsOwn sessions who.session t.place) y.1 (record { rests = rests; numbered = o.numbered ∙ sym same.3; block = same.4 ∙ o.block })
+              | inl y ↦ subst (λ (t : Pass X C). IsOwn state allows sessions who.session t.place) y.1 (record { rests = rests; numbered = o.numbered ∙ sym same.3; block = same.4 ∙ o.block; stood = stood })
               | inr y ↦ ready.own i r y.1
             ];
           }

@@ -27,12 +27,13 @@ use Rattle.cq_shared.specs.declared.groups.Stop.{Stop}
 use Rattle.cq_shared.specs.declared.groups.Stop.TheVariants.{Refused, Failed}
 use Rattle.cq_shared.specs.declared.note.Note.{Note}
 use Rattle.cq_shared.specs.Notes.{entries_in}
-use Rattle.cq_shared.specs.Seen.{Pass, Looks}
+use Rattle.cq_shared.specs.Quiet.{IsQuiet, GoesOn, GoOn}
+use Rattle.cq_shared.specs.Seen.{Pass, HasStood, Looks}
 use Rattle.cq_shared.specs.Writes.{Replies, CouldBeMade, TellsError, AreOpen, InBoth, Enters, Lets, Fails, Stops, AreLeft, Ended, Wrote, IsAnswered, entry_note, failed_notes, outcome}
 use Rattle.cq_shared.proofs.Frames.{at_on}
 use Rattle.cq_shared.proofs.Turning.{apart, cell_at}
-use Rattle.cq_desk.specs.Desks.{known_by, outlook_by, IsReady, GoOn, HasNoted}
-use Rattle.cq_desk.proofs.Meeting.{meets, known_after, with_more}
+use Rattle.cq_desk.specs.Desks.{known_by, outlook_by, IsOwn, IsReady, HasNoted}
+use Rattle.cq_desk.proofs.Meeting.{goes_nowhere, meets, known_after, with_more}
 use Rattle.cq_desk.proofs.Coming.{AreApart, Came, stay, untried, one_more, may_find, all_enter}
 
 -- ---- lists
@@ -104,7 +105,7 @@ one_here i kind = rw (eq-eqb i i refl) refl
 one_there : (k i : ℕ) (kind : EntryKind) → i ≢ k → in_each (k ∷ []) (λ h. kind) i ≡ []
 one_there k i kind n = rw (ne_eqb i k n) refl
 
-module _ {X C : Type 0} (state : X → StoreState) (allows : C → ℕ → EntryKind → Type 0) (cells : List TableId) (sessions : List ℕ) (who : Who) (olds : List (Pass X C)) (ready : IsReady cells sessions olds who.session) where
+module _ {X C : Type 0} (state : X → StoreState) (allows : C → ℕ → EntryKind → Type 0) (cells : List TableId) (sessions : List ℕ) (who : Who) (olds : List (Pass X C)) (ready : IsReady state allows cells sessions olds who.session) where
   abbrev o : Outlook
   o = outlook_by state allows sessions olds who
 
@@ -367,44 +368,74 @@ module _ {X C : Type 0} (state : X → StoreState) (allows : C → ℕ → Entry
           (s.part.group, record { before = b.before; after = b.after; was = b.was; is = b.is; holds = b.holds.looks.mine })
       lost (Err Memory) w = tt
 
-      -- a pass is of no part, or as it was, or rests
-      abbrev IsDone : List Part → ℕ → Pass X C → Type 0
-      IsDone ps g q = AreApart g ps ⊎ ((slice_get news g ≡ slice_get olds g) ⊎ Rests q.place)
+      -- a pass had a turn, noted reads, writes and failures alone, and rests
+      record Served (p q : Pass X C) : Type 0 where
+        rests : Rests q.place
+        goes_on : GoesOn p.place q.place
+        stood : HasStood state allows q.place
 
-      one_done : (p : Part) (ps : List Part) (g : ℕ) (q : Pass X C) → slice_get news g ≡ Some q → ((b : Pass X C) → slice_get news p.group ≡ Some b → Rests b.place) → IsDone ps g q → IsDone (p ∷ ps) g q
-      one_done p ps g q is rests rest = elim (eqb_tells g p.group) [
-        | inl y ↦ inr (inr (rests q (subst (λ n. slice_get news n ≡ Some q) y.1 is)))
-        | inr z ↦ elim rest [ inl a ↦ inl (z.1, a) | inr b ↦ inr b ]
+      looked : (a b : Pass X C) (notes : List Note) (fact : Seen → Type 0) → AllByRecursion IsQuiet notes → Rests b.place → Looks state allows a.place notes b.place fact → Served a b
+      looked a b notes fact quiet rests l = record { rests = rests; goes_on = record { same = l.same; notes = notes; mine = l.mine; quiet = quiet }; stood = l.stood }
+
+      quiet_error : (e : WriteError) → AllByRecursion IsQuiet (failed_notes who e)
+      quiet_error Ids = tt
+      quiet_error (Worker f) = (tt, tt)
+      quiet_error Memory = tt
+
+      enter_served : (op : ShardOp) (reply : Reply) (a b : Pass X C) → Enters state allows who op reply a b → Served a b
+      enter_served op reply a b h = looked a b (entry_note who op reply ∷ []) (Replies op reply) (tt, tt) h.rests h.looks
+
+      let_served : (op : ShardOp) (a b : Pass X C) → Lets state allows who op a b → Served a b
+      let_served op a b h = looked a b [] (CouldBeMade op) tt h.rests h.looks
+
+      stop_served : (op : ShardOp) (e : Stop) (a b : Pass X C) → Stops state allows who op e a b → Served a b
+      stop_served op (Refused reply) a b h = enter_served op reply a b h.enters
+      stop_served op (Failed error) a b h = looked a b (failed_notes who error) (TellsError op error) (quiet_error error) h.rests h.looks
+
+      -- a pass is of no part, or as it was, or had a turn
+      abbrev IsDone : List Part → ℕ → Pass X C → Pass X C → Type 0
+      IsDone ps g p q = AreApart g ps ⊎ ((slice_get news g ≡ slice_get olds g) ⊎ Served p q)
+
+      one_done : (P : Pass X C → Pass X C → Type 0) (p : Part) (ps : List Part) → InBoth olds news p.group P → ((a b : Pass X C) → P a b → Served a b) → (g : ℕ) (a q : Pass X C) → slice_get olds g ≡ Some a → slice_get news g ≡ Some q → IsDone ps g a q → IsDone (p ∷ ps) g a q
+      one_done P p ps b f g a q was is rest = elim (eqb_tells g p.group) [
+        | inl y ↦
+            let first : b.before ≡ a = one_item b.before a (sym b.was ∙ subst (λ n. slice_get olds n ≡ Some a) y.1 was) in
+            let last : b.after ≡ q = one_item b.after q (sym b.is ∙ subst (λ n. slice_get news n ≡ Some q) y.1 is) in
+            inr (inr (subst (λ (r : Pass X C). Served a r) last (subst (λ (r : Pass X C). Served r b.after) first (f b.before b.after b.holds))))
+        | inr z ↦ elim rest [ inl x ↦ inl (z.1, x) | inr x ↦ inr x ]
       ]
 
-      left_done : (ps : List Part) (g : ℕ) (q : Pass X C) → AreLeft state allows who olds news ps → IsDone ps g q
-      left_done [] g q h = inl tt
-      left_done (p ∷ ps) g q h = elim (eqb_tells g p.group) [
+      left_done : (ps : List Part) (g : ℕ) (a q : Pass X C) → AreLeft state allows who olds news ps → IsDone ps g a q
+      left_done [] g a q h = inl tt
+      left_done (p ∷ ps) g a q h = elim (eqb_tells g p.group) [
         | inl y ↦ inr (inl (subst (λ n. slice_get news n ≡ slice_get olds n) (sym y.1) h.0))
-        | inr z ↦ elim (left_done ps g q h.1) [ inl a ↦ inl (z.1, a) | inr b ↦ inr b ]
+        | inr z ↦ elim (left_done ps g a q h.1) [ inl x ↦ inl (z.1, x) | inr x ↦ inr x ]
       ]
 
-      it_rests : (P : Pass X C → Pass X C → Type 0) (k : ℕ) → InBoth olds news k P → ((a b : Pass X C) → P a b → Rests b.place) → (q : Pass X C) → slice_get news k ≡ Some q → Rests q.place
-      it_rests P k b f q is = subst (λ (r : Pass X C). Rests r.place) (one_item b.after q (sym b.is ∙ is)) (f b.before b.after b.holds)
-
-      stop_rests : (op : ShardOp) (e : Stop) (a b : Pass X C) → Stops state allows who op e a b → Rests b.place
-      stop_rests op (Refused reply) a b h = h.enters.rests
-      stop_rests op (Failed error) a b h = h.rests
-
-      done : (ps : List Part) (r : Result ℕ Stop) → Ended state allows who olds news ps r → (g : ℕ) (q : Pass X C) → slice_get news g ≡ Some q → IsDone ps g q
-      done [] (Ok n) h g q is = inl tt
-      done [] (Err e) h g q is = absurd h
-      done (p ∷ ps) (Ok n) h g q is = one_done p ps g q is (it_rests (Enters state allows who p.op (Count h.0)) p.group h.3 (λ a b k. k.rests)) (done ps (Ok h.1) h.4 g q is)
-      done (p ∷ ps) (Err e) h g q is = elim h [
-        | inl a ↦ one_done p ps g q is (it_rests (Lets state allows who p.op) p.group a.0 (λ x y k. k.rests)) (done ps (Err e) a.1 g q is)
-        | inr b ↦ one_done p ps g q is (it_rests (Stops state allows who p.op e) p.group b.0 (stop_rests p.op e)) (left_done ps g q b.1)
+      done : (ps : List Part) (r : Result ℕ Stop) → Ended state allows who olds news ps r → (g : ℕ) (a q : Pass X C) → slice_get olds g ≡ Some a → slice_get news g ≡ Some q → IsDone ps g a q
+      done [] (Ok n) h g a q was is = inl tt
+      done [] (Err e) h g a q was is = absurd h
+      done (p ∷ ps) (Ok n) h g a q was is = one_done (Enters state allows who p.op (Count h.0)) p ps h.3 (enter_served p.op (Count h.0)) g a q was is (done ps (Ok h.1) h.4 g a q was is)
+      done (p ∷ ps) (Err e) h g a q was is = elim h [
+        | inl x ↦ one_done (Lets state allows who p.op) p ps x.0 (let_served p.op) g a q was is (done ps (Err e) x.1 g a q was is)
+        | inr y ↦ one_done (Stops state allows who p.op e) p ps y.0 (stop_served p.op e) g a q was is (left_done ps g a q y.1)
       ]
 
       module _ (r : Result ℕ Stop) (w : Wrote state allows who olds news parts r) where
-        go_on : GoOn olds news
-        go_on = record { count = w.count; each = w.same }
+        -- each pass was served or is as it was
+        each_served : (g : ℕ) (p q : Pass X C) → slice_get olds g ≡ Some p → slice_get news g ≡ Some q → Served p q
+        each_served g p q was is = elim (done parts r w.ended g p q was is) [ inl x ↦ still (w.others g x) | inr y ↦ elim y [ inl u ↦ still u | inr v ↦ v ] ]
+          where
+            own : IsOwn state allows sessions who.session p.place
+            own = ready.own g p was
 
-        ready_again : IsReady cells sessions news who.session
+            still : slice_get news g ≡ slice_get olds g → Served p q
+            still e = subst (λ (t : Pass X C). Served p t) (one_item p q (sym was ∙ (sym e ∙ is))) (record { rests = own.rests; goes_on = goes_nowhere p.place; stood = own.stood })
+
+        go_on : GoOn olds news
+        go_on = record { count = w.count; each = λ g p q was is. (each_served g p q was is).goes_on }
+
+        ready_again : IsReady state allows cells sessions news who.session
         ready_again = record {
           at = at_on cells olds news w.count w.same ready.at;
           own = λ g q is.
@@ -413,12 +444,8 @@ module _ {X C : Type 0} (state : X → StoreState) (allows : C → ℕ → Entry
               let a = got olds g (omega (arith, low, count)) in
               let own = ready.own g a.0 a.1 in
               let same = w.same g a.0 q a.1 is in
-              let still : slice_get news g ≡ slice_get olds g → Rests q.place = λ e. subst (λ (t : Pass X C). Rests t.place) (one_item a.0 q (sym a.1 ∙ (sym e ∙ is))) own.rests in
-              record {
-                rests = elim (done parts r w.ended g q is) [ inl x ↦ still (w.others g x) | inr y ↦ elim y [ inl u ↦ still u | inr v ↦ v ] ];
-                numbered = own.numbered ∙ sym same.3;
-                block = same.4 ∙ own.block;
-              };
+              let s = each_served g a.0 q a.1 is in
+              record { rests = s.rests; numbered = own.numbered ∙ sym same.3; block = same.4 ∙ own.block; stood = s.stood };
         }
 
     -- ---- the passes in their list again
@@ -430,8 +457,8 @@ module _ {X C : Type 0} (state : X → StoreState) (allows : C → ℕ → Entry
       same_again : again ≡ news
       same_again = ap (λ k. take k (news ++ drop (length news) olds)) (sym (w.count ∙ long)) ∙ all_taken news (drop (length news) olds)
 
-      pub ready_back : IsReady cells sessions again who.session
-      ready_back = subst (λ (l : List (Pass X C)). IsReady cells sessions l who.session) (sym same_again) (ready_again parts (outcome r) w)
+      pub ready_back : IsReady state allows cells sessions again who.session
+      ready_back = subst (λ (l : List (Pass X C)). IsReady state allows cells sessions l who.session) (sym same_again) (ready_again parts (outcome r) w)
 
       pub goes_back : GoOn olds again
       goes_back = subst (λ (l : List (Pass X C)). GoOn olds l) (sym same_again) (go_on parts (outcome r) w)

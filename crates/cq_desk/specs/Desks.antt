@@ -1,5 +1,5 @@
 -- The shard groups of a block as a session knows them by its passes.
-use Rattle.std.specs.Prelude.{◌≡◌, ◌≢◌, ℕ, List, [], ◌∷◌, ◌++◌, length, map, Some, slice_get}
+use Rattle.std.specs.Prelude.{◌≡◌, ◌≢◌, ℕ, List, [], ◌∷◌, ◌++◌, map, Some, slice_get}
 use Rattle.atomic_table.specs.Seated.{TableId}
 use Rattle.cq_tree.specs.declared.failure.StoreFailure.{StoreFailure}
 use Rattle.cq_tree.specs.declared.journal.Entry.{Entry}
@@ -7,10 +7,10 @@ use Rattle.cq_tree.specs.declared.journal.EntryKind.{EntryKind}
 use Rattle.cq_tree.specs.declared.journal.Who.{Who}
 use Rattle.cq_store.specs.Stores.{StoreState}
 use Rattle.cq_cell.specs.Lists.{NotIn}
-use Rattle.cq_cell.specs.Turn.{Rests, IsSame}
+use Rattle.cq_cell.specs.Turn.{Rests}
 use Rattle.cq_shared.specs.declared.content.Shard.{Shard}
 use Rattle.cq_shared.specs.declared.note.Note.TheVariants as note
-use Rattle.cq_shared.specs.Seen.{Place, Pass, MayEnter, Finds, seen_by}
+use Rattle.cq_shared.specs.Seen.{Place, Pass, MayEnter, Finds, HasStood, seen_by}
 use Rattle.cq_shared.specs.Writes.{AreAt, InBoth}
 use Rattle.cq_reach.specs.Seen.{Seen, seen_of}
 use Rattle.cq_reach.specs.Outlook.{Outlook}
@@ -44,21 +44,18 @@ module _ {X C : Type 0} where
     allows = IsAllowed allows passes;
   }
 
-  -- a pass that rests, of the session of this number, in a block of these sessions
-  pub record IsOwn (sessions : List ℕ) (session : ℕ) (p : Place X C) : Type 0 where
-    pub rests : Rests p
-    pub numbered : session ≡ p.me.0.number
-    pub block : p.me.0.sessions ≡ sessions
+  module _ (state : X → StoreState) (allows : C → ℕ → EntryKind → Type 0) where
+    -- a pass that rests, of the session of this number, in a block of these sessions. What it has seen stood so
+    pub record IsOwn (sessions : List ℕ) (session : ℕ) (p : Place X C) : Type 0 where
+      pub rests : Rests p
+      pub numbered : session ≡ p.me.0.number
+      pub block : p.me.0.sessions ≡ sessions
+      pub stood : HasStood state allows p
 
-  -- the passes of a session, one to each cell, between two calls
-  pub record IsReady (cells : List TableId) (sessions : List ℕ) (passes : List (Pass X C)) (session : ℕ) : Type 0 where
-    pub at : AreAt cells passes
-    pub own : (g : ℕ) (p : Pass X C) → slice_get passes g ≡ Some p → IsOwn sessions session p.place
-
-  -- the passes are those that they were
-  pub record GoOn (old new : List (Pass X C)) : Type 0 where
-    pub count : length new ≡ length old
-    pub each : (g : ℕ) (p q : Pass X C) → slice_get old g ≡ Some p → slice_get new g ≡ Some q → IsSame p.place q.place
+    -- the passes of a session, one to each cell, between two calls
+    pub record IsReady (cells : List TableId) (sessions : List ℕ) (passes : List (Pass X C)) (session : ℕ) : Type 0 where
+      pub at : AreAt cells passes
+      pub own : (g : ℕ) (p : Pass X C) → slice_get passes g ≡ Some p → IsOwn sessions session p.place
 
   -- the session's pass to a group has noted that a store of it failed
   abbrev pub HasNoted : Who → ℕ → List (Pass X C) → List (Pass X C) → StoreFailure → Type 0

@@ -1,5 +1,6 @@
 ghost use Rattle.std.specs.Prelude.{map};
-ghost use Rattle.cq_desk.specs.Desks.{outlook_by, IsReady, GoOn, HasNoted};
+ghost use Rattle.cq_shared.specs.Quiet.{GoOn};
+ghost use Rattle.cq_desk.specs.Desks.{outlook_by, IsReady, HasNoted};
 
 use cq_cell::Row;
 use cq_demands::Wants;
@@ -29,7 +30,7 @@ pub struct Desk<'a, S: Store, C, L: Legality<C>, R> {
 impl<'a, S: Store, C, L: Legality<C>, R: Wait> Groups for Desk<'a, S, C, L, R> {
     ghost outlook = { λ desk who. outlook_by S.state L.allows desk.sessions.value.items desk.passes.items who };
 
-    ghost ready = { λ desk session. IsReady (map (λ c. c.shared.table_id) desk.cells.now) desk.sessions.value.items desk.passes.items session };
+    ghost ready = { λ desk session. IsReady S.state L.allows (map (λ c. c.shared.table_id) desk.cells.now) desk.sessions.value.items desk.passes.items session };
 
     ghost goes_on = { λ old new. GoOn old.passes.items new.passes.items };
 

@@ -3,3 +3,5 @@ pub mod Blocks
 pub mod TurnLaws
 pub mod RunLaws
 pub mod SteadyLaws
+pub mod Sessions
+pub mod Beside

@@ -163,7 +163,7 @@ are_rising phase n (p ∷ ps) h = (
   are_rising phase (n + 1) ps h.2,
 )
 
-rising_filtered : (f : Placed → _) (ps : List Placed) → AreRising ps → AreRising (filter f ps)
+pub rising_filtered : (f : Placed → _) (ps : List Placed) → AreRising ps → AreRising (filter f ps)
 rising_filtered f [] h = tt
 rising_filtered f (p ∷ ps) h = elim (two_ways (f p)) [
   | inl y ↦ rw y (all_filtered (λ (q : Placed). p.number < q.number) f ps h.0, rising_filtered f ps h.1)
@@ -198,7 +198,7 @@ ordered_both : (ps qs : List Placed) → AreOrdered ps → AreOrdered qs → All
 ordered_both [] qs h k apart = k
 ordered_both (p ∷ ps) qs h k apart = (all_append (GoesBefore p) ps qs h.0 apart.0, ordered_both ps qs h.1 k apart.1)
 
-are_of_session : (s : ℕ) (ps : List Placed) → AllByRecursion (λ (p : Placed). p.session ≡ s) (of_session s ps)
+pub are_of_session : (s : ℕ) (ps : List Placed) → AllByRecursion (λ (p : Placed). p.session ≡ s) (of_session s ps)
 are_of_session s [] = tt
 are_of_session s (p ∷ ps) = elim (two_ways (nat_eq p.session s)) [ inl y ↦ rw y (same_number p.session s y, are_of_session s ps) | inr n ↦ rw n (are_of_session s ps) ]
 

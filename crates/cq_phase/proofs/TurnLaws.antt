@@ -22,7 +22,7 @@ use Rattle.cq_phase.specs.Turns.{IsReady, TakesTurn, TakeTurns, HaveTurns}
 use Rattle.cq_phase.proofs.Orders.{of_sessions, of_sessions_more, taken_of, taken_same}
 use Rattle.cq_phase.proofs.Blocks.{answers_count}
 
-zips_both : {A B : Type 0} (R : A → B → Type 0) (xs us : List A) (ys vs : List B) → AllZip R xs ys → AllZip R us vs → AllZip R (xs ++ us) (ys ++ vs)
+pub zips_both : {A B : Type 0} (R : A → B → Type 0) (xs us : List A) (ys vs : List B) → AllZip R xs ys → AllZip R us vs → AllZip R (xs ++ us) (ys ++ vs)
 zips_both R [] us [] vs p q = q
 zips_both R [] us (y ∷ ys) vs p q = absurd p
 zips_both R (x ∷ xs) us [] vs p q = absurd p

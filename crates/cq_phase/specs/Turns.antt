@@ -33,7 +33,7 @@ pub record TakesTurn {X : Type 0} (state : X → StoreState) (old new : Coordina
   pub settings : a.settings ≡ old.settings
   pub sound : IsSound state new.cluster
   pub stores : KeepsStores state old.cluster new.cluster
-  pub accounted : (answers : List Answered) → IsNext (who_of a) a answers old.cluster.groups.items → AreAccounted state old.cluster.catalog answers old.cluster.groups.items →
+  pub accounted : (answers : List Answered) → IsNext (who_of a) a answers → AreAccounted state old.cluster.catalog answers old.cluster.groups.items →
       AreAccounted state new.cluster.catalog (answers ++ a ∷ []) new.cluster.groups.items
   pub retires : Retires (who_of a) a.answer old.cluster.retired.items new.cluster.retired.items
   pub steady : SparesSteady state a.answer old.cluster new.cluster
@@ -58,5 +58,11 @@ pub record RunsPhase {X : Type 0} (state : X → StoreState) (ps : List Placed) 
   pub more : List Answered
   pub log : after ≡ before ++ more
   pub answers : AllZip (IsAnswerTo old.cluster.catalog.tables) (by_session ps) more
+  pub running : (initial : Settings) (entry : List (Worker X)) → IsRunning state initial entry old before → IsRunning state initial entry new after
+  pub nodes : new.cluster.nodes ≡ old.cluster.nodes
+
+-- none was: what stood stands
+pub record RunsNothing {X : Type 0} (state : X → StoreState) (old new : Coordinator X) (before after : List Answered) : Type 0 where
+  pub log : after ≡ before
   pub running : (initial : Settings) (entry : List (Worker X)) → IsRunning state initial entry old before → IsRunning state initial entry new after
   pub nodes : new.cluster.nodes ≡ old.cluster.nodes

@@ -5,10 +5,10 @@ ghost use Rattle.cq_answer.specs.declared.answered.Settings.{Settings};
 ghost use Rattle.cq_store.specs.declared.worker.Worker.{Worker};
 ghost use Rattle.cq_script.specs.Directives.{IsPhaseAt};
 ghost use Rattle.cq_phase.specs.Phases.{by_session, IsAnswerTo, IsRunning};
-ghost use Rattle.cq_phase.specs.Turns.{RunsPhase};
+ghost use Rattle.cq_phase.specs.Turns.{RunsPhase, RunsNothing};
 
 use crate::block::answer_block;
-use crate::statement::answer_alone;
+use crate::statement::answer;
 use cq_answer::{Answered, AnsweredList};
 use cq_coordinator::Coordinator;
 use cq_group::Gate;
@@ -17,11 +17,14 @@ use cq_store::Store;
 use cq_value::NoMemory;
 use std::alloc::Global;
 use std::mem;
+use std::sync::Wait;
+use std::thread::Threads;
 
 /// Answers a phase, whose answers stand last in the log then.
 ///
 /// Errors: there is no memory for the answers; nothing is done then.
-fn answer_all<S: Store, G: Gate>(
+fn answer_all<S: Store + Send, G: Gate, R: Threads + Wait + Sync>(
+    rt: &R,
     alloc: Global,
     gate: &G,
     coordinator: &mut Coordinator<S>,
@@ -32,27 +35,28 @@ fn answer_all<S: Store, G: Gate>(
     requires few { length log.old.items + length phase.now < 2 ^ 62 }
     requires running { (initial : Settings) × (entry : List (Worker S)) × IsRunning S.state initial entry coordinator.old log.old.items }
     ensures ok { OnOk result (RunsPhase S.state phase.now coordinator.old coordinator.new log.old.items log.new.items) }
-    ensures err { OnErr result ((coordinator.new ≡ coordinator.old) × (log.new.items ≡ log.old.items)) }
+    ensures err { OnErr result (RunsNothing S.state coordinator.old coordinator.new log.old.items log.new.items) }
 {
     if log.reserve(phase.len()).is_err() {
         return Err(NoMemory);
     }
     match phase.first() {
         Some(placed) if placed.session == 0 => {
-            log.push_reserved(answer_alone(alloc, gate, coordinator, placed));
+            log.push_reserved(answer(alloc, gate, coordinator, placed));
+            Ok(())
         }
-        _ => answer_block(alloc, gate, coordinator, log, phase),
+        _ => answer_block(rt, alloc, gate, coordinator, log, phase),
     }
-    Ok(())
 }
 
-/// Answers a phase of a script: a statement outside blocks, or the statements of a block, session after session, each session's in order. Their answers are
-/// the last then. A gate is called behind each statement of a block.
+/// Answers a phase of a script: a statement outside blocks, or the statements of a block, whose sessions run side by side, or one after the other where a
+/// statement moves a shard group. Their answers are the last then, in a block by session. A gate is called behind each statement of a block.
 ///
 /// Conditions: the phase is the next one, and what stands between two phases stands, which it does behind it too.
 ///
-/// Errors: there is no memory for the answers; nothing is done then.
-pub fn run_phase<S: Store, G: Gate>(
+/// Errors: there is no memory for the answers, or for what the sessions of a block share; nothing is done then.
+pub fn run_phase<S: Store + Send, G: Gate, R: Threads + Wait + Sync>(
+    rt: &R,
     alloc: Global,
     gate: &G,
     coordinator: &mut Coordinator<S>,
@@ -68,7 +72,7 @@ pub fn run_phase<S: Store, G: Gate>(
     ensures err { OnErr result (answers.new ≡ answers.old) }
 {
     let mut log = mem::replace(answers, AnsweredList::new(alloc)).into_vec();
-    let ran = answer_all(alloc, gate, coordinator, &mut log, phase);
+    let ran = answer_all(rt, alloc, gate, coordinator, &mut log, phase);
     *answers = AnsweredList::from_vec(log);
     ran
 }

@@ -5,9 +5,9 @@ ghost use Rattle.cq_phase.specs.Turns.{IsReady, TakesTurn};
 
 use cq_answer::{Answered, Settings};
 use cq_coordinator::Coordinator;
-use cq_group::{Gate, Point};
+use cq_group::Gate;
 use cq_script::Placed;
-use cq_session::{Response, respond, respond_in_block};
+use cq_session::{Response, respond};
 use cq_store::Store;
 use cq_tree::Who;
 use std::alloc::Global;
@@ -35,42 +35,21 @@ fn answer_of(placed: &Placed, settings: Settings, response: Response) -> Answere
     }
 }
 
-/// Answers a statement outside blocks.
-pub(crate) fn answer_alone<S: Store, G: Gate>(
+/// Answers a statement of a phase as one of its session.
+pub(crate) fn answer<S: Store, G: Gate>(
     alloc: Global,
     gate: &G,
     coordinator: &mut Coordinator<S>,
     placed: &Placed,
 ) -> Answered
     requires ready { IsReady S.state coordinator.old }
-    requires alone { placed.now.session ≡ 0 }
     ensures turn { TakesTurn S.state coordinator.old coordinator.new result }
     ensures answers { IsAnswerTo coordinator.old.cluster.catalog.tables placed.now result }
+    ensures allowed { 1 ≤ placed.now.session → MayBeInBlock result.bound }
 {
     let settings = coordinator.settings;
     let text = placed.item.text.as_slice();
     let copied = placed.item.copied.as_slice();
     let response = respond(alloc, gate, coordinator, who_of(placed), text, copied);
-    answer_of(placed, settings, response)
-}
-
-/// Answers a statement of a block.
-pub(crate) fn answer_in_block<S: Store, G: Gate>(
-    alloc: Global,
-    gate: &G,
-    coordinator: &mut Coordinator<S>,
-    placed: &Placed,
-) -> Answered
-    requires ready { IsReady S.state coordinator.old }
-    requires inside { 1 ≤ placed.now.session }
-    ensures turn { TakesTurn S.state coordinator.old coordinator.new result }
-    ensures answers { IsAnswerTo coordinator.old.cluster.catalog.tables placed.now result }
-    ensures allowed { MayBeInBlock result.bound }
-{
-    let settings = coordinator.settings;
-    let text = placed.item.text.as_slice();
-    let copied = placed.item.copied.as_slice();
-    let response = respond_in_block(alloc, gate, coordinator, who_of(placed), text, copied);
-    gate.at(placed.session, Point::Answered);
     answer_of(placed, settings, response)
 }

@@ -59,10 +59,6 @@ module _ (text : List ℕ) (tables : List TableInfo) where
   read_inside zero r low reads means = absurd (omega (arith, low))
   read_inside (suc session) r low reads means = (reads, means)
 
-  pub means_inside : (session : ℕ) → 1 ≤ session → MeansFor session text tables (reading_for session text tables) → MeansInBlock text tables (reading_in_block text tables)
-  means_inside zero low m = absurd (omega (arith, low))
-  means_inside (suc session) low m = m
-
 -- ---- and it may stand in a block, where its tree may
 
 -- a COPY may be read in a block, where the INSERT of its rows stands for it

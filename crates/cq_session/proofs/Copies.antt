@@ -1,7 +1,9 @@
 -- A text with its data: what it stands for, and how its answer is written.
-use Rattle.std.proofs.Common.{nat_eq, ◌≡◌, ◌⊎◌, inl, inr, ℕ, zero, suc, Bool, true, false, List, [], ◌∷◌, ◌++◌, Option, None, Some, Result, Ok, Err, refl, sym, ◌∙◌, ap, subst}
-use Rattle.std.specs.Prelude.{slice_get}
+use Rattle.std.proofs.Common.{nat_eq, ◌≡◌, ◌⊎◌, inl, inr, ℕ, Bool, true, false, List, [], ◌∷◌, ◌++◌, Option, None, Some, Result, Ok, Err, refl, sym, ◌∙◌, ap, subst}
+use Rattle.std.specs.Prelude.{cond, filter, nat_lt, slice_get}
+use Rattle.std.proofs.lemmas.List.Elements.{filter-append}
 use Rattle.std.specs.List.{AllByRecursion}
+use Rattle.cq_value.proofs.Lists.{all_weaker}
 use Rattle.cq_value.proofs.Truths.{two_ways}
 use Rattle.cq_tree.specs.declared.journal.Who.{Who}
 use Rattle.cq_tree.specs.declared.statement.Statement.{Statement}
@@ -27,13 +29,15 @@ use Rattle.cq_statement.specs.Finding.{Reads}
 use Rattle.cq_statement.specs.Meanings.{Means}
 use Rattle.cq_history.specs.Run.{Run, Rules, Environment}
 use Rattle.cq_history.specs.Computable.{IsComputable}
-use Rattle.cq_history.specs.Faults.{Range, range_in, ranges_of, Climbs, AccountsFor, NamesBelow}
+use Rattle.cq_history.specs.Faults.{range_in, NamesBelow}
 use Rattle.cq_history.specs.Log.{IsAnswered}
+use Rattle.cq_history.specs.Phases.{phase_in}
 use Rattle.cq_history.proofs.Copying.{copy_is_answered}
 use Rattle.cq_store.specs.Stores.{StoreState}
 use Rattle.cq_group.specs.declared.group.GroupState.{GroupState}
 use Rattle.cq_group.specs.Groups.{stores_of, entries_of}
-use Rattle.cq_cluster.specs.Accounts.{moved_by, behind, AreAccounted, Retires}
+use Rattle.cq_cluster.specs.Accounts.{moved_by, AccountsByPhases, later_phases, AreAccounted, Retires}
+use Rattle.cq_cluster.proofs.PhaseLaws.{alike_by_phases}
 use Rattle.cq_cluster.specs.declared.retired.Retired.{Retired}
 use Rattle.cq_bound_laws.specs.Laws.{HasColumns}
 use Rattle.cq_bound_laws.proofs.Statements.{copies_are_there}
@@ -223,59 +227,40 @@ below_tagged next true (answer.Tag t) h = tt
 below_tagged next true (answer.Table names rows) h = h
 below_tagged next true (answer.Failed f) h = h
 
--- the answers behind that to a statement, with one behind them all or another to the same: either is among them, or none of the two
-abbrev AreBehind : ℕ → List Answered → Answered → Answered → Type 0
-AreBehind n answers a b =
-    ((rest : List Answered) × (behind n (answers ++ a ∷ []) ≡ rest ++ a ∷ []) × (behind n (answers ++ b ∷ []) ≡ rest ++ b ∷ [])) ⊎ (behind n (answers ++ a ∷ []) ≡ behind n (answers ++ b ∷ []))
-
-behind_with : (n : ℕ) (answers : List Answered) (a b : Answered) → a.statement ≡ b.statement → AreBehind n answers a b
-behind_with zero answers a b same = inl (answers, refl, refl)
-behind_with (suc n) [] a b same = inr (rw same refl)
-behind_with (suc n) (c ∷ answers) a b same = elim (two_ways (nat_eq c.statement (suc n))) [ inl y ↦ rw y (inl (answers, refl, refl)) | inr f ↦ rw f (behind_with (suc n) answers a b same) ]
-
-module _ (answers : List Answered) (a b : Answered) where
-  -- the ranges of the answers with the one behind them or the other
-  ranges_with : (node shard : ℕ) (before : List Answered) → range_in node shard a.answer ≡ range_in node shard b.answer → ranges_of node shard (before ++ a ∷ []) ≡ ranges_of node shard (before ++ b ∷ [])
-  ranges_with node shard [] same = ap (λ (rs : List Range). rs ++ []) same
-  ranges_with node shard (c ∷ more) same = ap (λ (rs : List Range). range_in node shard c.answer ++ rs) (ranges_with node shard more same)
-
-  accounts_with : (s : StoreState) → range_in s.node s.shard a.answer ≡ range_in s.node s.shard b.answer → AccountsFor (answers ++ b ∷ []) s → AccountsFor (answers ++ a ∷ []) s
-  accounts_with s same h =
-      let ranges = ranges_with s.node s.shard answers same in
-      record {
-        climbs = subst (λ (rs : List Range). Climbs 0 rs s.faults) (sym ranges) h.climbs;
-        steady = λ is. ranges ∙ h.steady is;
-      }
-
-  all_with : {X : Type 0} (state : X → StoreState) (stores : List X) → ((node shard : ℕ) → range_in node shard a.answer ≡ range_in node shard b.answer) → AllByRecursion (λ (x : X). AccountsFor (answers ++ b ∷ []) (state x)) stores →
-      AllByRecursion (λ (x : X). AccountsFor (answers ++ a ∷ []) (state x)) stores
-  all_with state [] same h = tt
-  all_with state (x ∷ xs) same h = (accounts_with (state x) (same (state x).node (state x).shard) h.0, all_with state xs same h.1)
-
-  below_with : (next : ℕ) (before : List Answered) → (NamesBelow next b.answer → NamesBelow next a.answer) → AllByRecursion (λ (c : Answered). NamesBelow next c.answer) (before ++ b ∷ []) →
-      AllByRecursion (λ (c : Answered). NamesBelow next c.answer) (before ++ a ∷ [])
-  below_with next [] f h = (f h.0, tt)
-  below_with next (c ∷ more) f h = (h.0, below_with next more f h.1)
-
 -- so the counts of faults account for it
+module _ (answers : List Answered) (a : Answered) (copied : Bool) (given : Answer) (is : a.answer ≡ tagged copied given) where
+  abbrev as_given : Answered
+  as_given = record a { answer = given }
+
+  phase_with : (n : ℕ) (before : List Answered) → phase_in (before ++ as_given ∷ []) n ≡ phase_in (before ++ a ∷ []) n
+  phase_with n [] = refl
+  phase_with n (c ∷ before) = elim (two_ways (nat_eq c.statement n)) [ inl y ↦ rw y refl | inr z ↦ rw z (phase_with n before) ]
+
+  later_with : (n : ℕ) (s : StoreState) → AccountsByPhases (later_phases n (answers ++ as_given ∷ [])) s → AccountsByPhases (later_phases n (answers ++ a ∷ [])) s
+  later_with n s h = subst (λ k. AccountsByPhases (filter (λ (c : Answered). nat_lt k c.phase) (answers ++ a ∷ [])) s) (phase_with n answers) (behind (phase_in (answers ++ as_given ∷ []) n) h)
+    where
+      one : (rest : List Answered) (later : Bool) → AccountsByPhases (rest ++ cond later (as_given ∷ []) []) s → AccountsByPhases (rest ++ cond later (a ∷ []) []) s
+      one rest true k = alike_by_phases as_given a (refl, λ node shard. ap (range_in node shard) is ∙ range_tagged node shard copied given) rest s k
+      one rest false k = k
+
+      behind : (k : ℕ) → AccountsByPhases (filter (λ (c : Answered). nat_lt k c.phase) (answers ++ as_given ∷ [])) s → AccountsByPhases (filter (λ (c : Answered). nat_lt k c.phase) (answers ++ a ∷ [])) s
+      behind k accounts =
+          let later : Answered → Bool = λ c. nat_lt k c.phase in
+          subst (λ v. AccountsByPhases v s) (sym (filter-append later answers (a ∷ []))) (one (filter later answers) (nat_lt k a.phase) (subst (λ v. AccountsByPhases v s) (filter-append later answers (as_given ∷ [])) accounts))
+
+  below_with : (next : ℕ) (before : List Answered) → AllByRecursion (λ (c : Answered). NamesBelow next c.answer) (before ++ as_given ∷ []) → AllByRecursion (λ (c : Answered). NamesBelow next c.answer) (before ++ a ∷ [])
+  below_with next [] h = (subst (NamesBelow next) (sym is) (below_tagged next copied given h.0), tt)
+  below_with next (c ∷ before) h = (h.0, below_with next before h.1)
+
 pub accounted_with : {X : Type 0} (state : X → StoreState) (c : Contents) (answers : List Answered) (a : Answered) (copied : Bool) (given : Answer) (groups : List (GroupState X)) → a.answer ≡ tagged copied given →
     AreAccounted state c (answers ++ record a { answer = given } ∷ []) groups → AreAccounted state c (answers ++ a ∷ []) groups
-accounted_with {X = X} state c answers a copied given groups is h =
-    let b : Answered = record a { answer = given } in
-    let same : (node shard : ℕ) → range_in node shard a.answer ≡ range_in node shard given = λ node shard. ap (range_in node shard) is ∙ range_tagged node shard copied given in
-    record {
-      stores = λ i g at. behind_accounts (moved_by (entries_of g)) (stores_of g) (h.stores i g at);
-      below = below_with answers a b c.next_shard answers (λ k. subst (NamesBelow c.next_shard) (sym is) (below_tagged c.next_shard copied given k)) h.below;
-    }
-  where
-    behind_accounts : (n : ℕ) (stores : List X) → AllByRecursion (λ (x : X). AccountsFor (behind n (answers ++ record a { answer = given } ∷ [])) (state x)) stores → AllByRecursion (λ (x : X). AccountsFor (behind n (answers ++ a ∷ [])) (state x)) stores
-    behind_accounts n stores all =
-        let b : Answered = record a { answer = given } in
-        let For : List Answered → Type 0 = λ v. AllByRecursion (λ (x : X). AccountsFor v (state x)) stores in
-        elim (behind_with n answers a b refl) [
-          | inl r ↦ subst For (sym r.1) (all_with r.0 a b state stores (λ node shard. ap (range_in node shard) is ∙ range_tagged node shard copied given) (subst For r.2 all))
-          | inr same ↦ subst For (sym same) all
-        ]
+accounted_with {X = X} state c answers a copied given groups is h = record {
+  stores = λ i g at.
+      let n = moved_by (entries_of g) in
+      all_weaker (λ (x : X). AccountsByPhases (later_phases n (answers ++ record a { answer = given } ∷ [])) (state x)) (λ (x : X). AccountsByPhases (later_phases n (answers ++ a ∷ [])) (state x))
+      (λ x accounts. later_with answers a copied given is n (state x) accounts) (stores_of g) (h.stores i g at);
+  below = below_with answers a copied given is c.next_shard answers h.below;
+}
 
 -- and so do the retired stores
 pub retires_with : {X : Type 0} (who : Who) (copied : Bool) (given : Answer) (old new : List (Retired X)) → Retires who given old new → Retires who (tagged copied given) old new

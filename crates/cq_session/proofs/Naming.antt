@@ -106,7 +106,7 @@ tree_named : (tables : List TableInfo) (tree : Result Ast Fault) → FailsInRead
 tree_named tables (Ok a) h = reading_named (reading tables a)
 tree_named tables (Err f) h = h
 
-session_named : (session : ℕ) (text : List ℕ) (tables : List TableInfo) → FailsInReading (reading_for session text tables)
+pub session_named : (session : ℕ) (text : List ℕ) (tables : List TableInfo) → FailsInReading (reading_for session text tables)
 unfolding reading_of reading_in_block
 session_named zero text tables = tree_named tables (tree_of text) (text_named text)
 session_named (suc session) text tables = tree_named tables (in_block (tree_of text)) (block_named (tree_of text) (text_named text))
@@ -136,7 +136,7 @@ unread_is_of_reading fault.Memory session text bytes tables reads = refl
 unread_is_of_reading f session text bytes tables reads =
     subst (λ (r : Result Statement Fault). FailsInReading r) reads (data_named bytes tables (reading_for session text tables) (session_named session text tables))
 
-reading_names_none : (f : Fault) → IsOfReading f → NamesNoStore f
+pub reading_names_none : (f : Fault) → IsOfReading f → NamesNoStore f
 reading_names_none (fault.Worker failure) is = absurd (cc is)
 reading_names_none (fault.Retired failure) is = absurd (cc is)
 reading_names_none f is = refl

@@ -1,5 +1,5 @@
 -- What a statement's text and its data were read as, and how that is answered.
-use Rattle.std.specs.Prelude.{◌≡◌, ◌<◌, ⊤, ℕ, zero, suc, Bool, true, false, if◌then◌else◌, List, [], length, slice_get, Option, Some, None, Result, Ok, Err}
+use Rattle.std.specs.Prelude.{◌≡◌, ◌<◌, ⊤, ℕ, zero, suc, Bool, true, false, if◌then◌else◌, List, [], length, slice_get, Option, Some, None, Result, Ok, Err, IfOk, IfErr}
 use Rattle.cq_tree.specs.declared.statement.Statement.{Statement}
 use Rattle.cq_tree.specs.declared.statement.Statement.TheVariants as statement
 use Rattle.cq_tree.specs.declared.write.ShardOp.TheVariants.{Insert}
@@ -15,8 +15,10 @@ use Rattle.cq_copy.specs.Rows.{Row}
 use Rattle.cq_copy.specs.Data.{rows_of}
 use Rattle.cq_history.specs.Standing.{copied_answer}
 use Rattle.cq_coordinator.specs.Coordination.{IsNoCopy}
+use Rattle.cq_statement.specs.Finding.{Reads}
 use Rattle.cq_statement.specs.Meanings.{Means, MeansInBlock}
 use Rattle.cq_statement.specs.Reading.{reading_of, reading_in_block}
+use Rattle.cq_session.specs.declared.copying.Reading.{Reading}
 
 -- ---- a text, in a session of a block, or in session 0, which is outside blocks
 
@@ -66,6 +68,13 @@ is_copy read = false
 abbrev pub IsThere : List TableInfo → Statement → Type 0
 IsThere tables (statement.Copy table columns csv header) = table < length tables
 IsThere tables s = ⊤
+
+-- a text with its data was read so in its session
+pub record IsReadAs (session : ℕ) (text bytes : List ℕ) (tables : List TableInfo) (read : Result Reading Fault) : Type 0 where
+  pub ok : IfOk read (λ r. reading_with session text bytes tables ≡ Ok r.statement)
+  pub copy : IfOk read (λ r. r.is_copy ≡ is_copy (reading_for session text tables))
+  pub err : IfErr read (λ f. Reads (reading_with session text bytes tables) (Err f))
+  pub means : MeansFor session text tables (reading_for session text tables)
 
 -- ---- its answer
 

@@ -1,7 +1,13 @@
-ghost use Rattle.std.specs.Prelude.{◌≡◌, ◌<◌, length, slice_get, Ok, Err, IfOk, IfErr};
+ghost use Rattle.std.specs.Prelude.{◌≡◌, ◌≤◌, ◌<◌, length, slice_get, Some, Ok, Err, IfOk, IfErr};
+ghost use Rattle.cq_catalog.specs.Whole.{IsWhole};
+ghost use Rattle.cq_bound_laws.specs.Laws.{HasColumns};
+ghost use Rattle.cq_history.specs.Computable.{IsComputable};
+ghost use Rattle.cq_history.specs.Faults.{IsOfReading};
+ghost use Rattle.cq_history.specs.Phases.{MayBeInBlock};
+ghost use Rattle.cq_coordinator.specs.Coordination.{NeedsNoData};
 ghost use Rattle.cq_statement.specs.Finding.{Reads};
 ghost use Rattle.cq_session.specs.Responses as spec;
-ghost use Rattle.cq_session.specs.Responses.{IsThere, MeansFor, insertion_into, is_copy, reading_for, reading_with};
+ghost use Rattle.cq_session.specs.Responses.{IsReadAs, IsThere, MeansFor, insertion_into, is_copy, reading_for};
 
 use cq_answer::Fault;
 use cq_catalog::Catalog;
@@ -13,7 +19,7 @@ use std::alloc::Global;
 
 /// A statement that runs, and whether it was read as a COPY.
 #[derive(Debug, Drop)]
-pub(crate) struct Reading {
+pub struct Reading {
     pub statement: Statement,
     pub is_copy: bool,
 }
@@ -99,20 +105,23 @@ fn read_text(
     }
 }
 
-/// The bound statement that a text and its data stand for in a session over the tables of a catalogue.
+/// The bound statement that a text and its data stand for in a session over the tables of a catalogue, where session 0 is outside blocks.
+///
+/// In a block a statement that may not stand there is refused behind the faults of its text, before the catalogue is asked: so what is read is a query, a
+/// write or the move of a shard group.
 ///
 /// Errors: the text's fault; that of a COPY's data (27 to 29 of `Fault`); and want of memory.
-pub(crate) fn read_with_data(
+pub fn read(
     alloc: Global,
     catalog: &Catalog,
     session: u32,
     text: &[u8],
     copied: &[u8],
 ) -> Result<Reading, Fault>
-    ensures ok { IfOk result (λ r. reading_with session text.now copied.now catalog.now.tables ≡ Ok r.statement) }
-    ensures copy { IfOk result (λ r. r.is_copy ≡ is_copy (reading_for session text.now catalog.now.tables)) }
-    ensures err { IfErr result (λ f. Reads (reading_with session text.now copied.now catalog.now.tables) (Err f)) }
-    ensures means { MeansFor session text.now catalog.now.tables (reading_for session text.now catalog.now.tables) }
+    ensures reads { IsReadAs session text.now copied.now catalog.now.tables result }
+    ensures computable { IsWhole catalog.now → HasColumns catalog.now → IfOk result (λ r. IsComputable catalog.now r.statement × NeedsNoData r.statement) }
+    ensures allowed { 1 ≤ session → IfOk result (λ r. MayBeInBlock (Some r.statement)) }
+    ensures fault { IfErr result IsOfReading }
 {
     match read_text(alloc, catalog, session, text) {
         Ok(statement) => with_data(alloc, catalog, statement, copied),

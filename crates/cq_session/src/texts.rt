@@ -13,12 +13,10 @@ ghost use Rattle.cq_cluster.specs.Cluster.{IsSound, KeepsStores, HasStores, run_
 ghost use Rattle.cq_cluster.specs.Accounts.{IsNext, AreAccounted, Retires};
 ghost use Rattle.cq_cluster.specs.Steady.{SparesSteady};
 ghost use Rattle.cq_coordinator.specs.Coordination.{environment, journals};
-ghost use Rattle.cq_statement.specs.Meanings.{Means, MeansInBlock};
-ghost use Rattle.cq_statement.specs.Reading.{reading_of, reading_in_block};
 ghost use Rattle.cq_session.specs.Responses as spec;
 ghost use Rattle.cq_session.specs.Responses.{MeansFor, ReadsAs, reading_for};
 
-use crate::copying::read_with_data;
+use crate::copying::read;
 use cq_answer::{Answer, Tag};
 use cq_coordinator::Coordinator;
 use cq_group::Gate;
@@ -44,7 +42,7 @@ fn copied_tag(tag: Tag) -> Tag
 }
 
 /// An answer as it is written: that of a COPY's rows as a COPY's.
-fn tagged(is_copy: bool, answer: Answer) -> Answer
+pub(crate) fn tagged(is_copy: bool, answer: Answer) -> Answer
     ensures { result ≡ spec.tagged is_copy answer }
 {
     if !is_copy {
@@ -56,52 +54,15 @@ fn tagged(is_copy: bool, answer: Answer) -> Answer
     }
 }
 
-/// What `respond` and `respond_in_block` share: the text is read as in this session, where 0 is outside blocks.
-fn respond_as<S: Store, G: Gate>(
-    alloc: Global,
-    gate: &G,
-    coordinator: &mut Coordinator<S>,
-    who: Who,
-    session: u32,
-    text: &[u8],
-    copied: &[u8],
-) -> Response
-    requires sound { IsSound S.state coordinator.old.cluster }
-    requires legal { (g : ℕ) → IsLegal coordinator.old.cluster.catalog g (journal_in (journals coordinator.old) g) }
-    requires keyed { (table : ℕ) → IsKeyed coordinator.old.cluster.catalog table }
-    requires columns { HasColumns coordinator.old.cluster.catalog }
-    ensures answered { (initial : Settings) (entry : List (Worker S)) → HasStores S.state entry coordinator.old.cluster → IsAnswered rules (run_of coordinator.old.cluster.nodes initial entry) (environment coordinator.old) (environment coordinator.new) who (journals coordinator.old) (journals coordinator.new) result.bound result.answer }
-    ensures reads { ReadsAs session result.bound result.answer text.now copied.now coordinator.old.cluster.catalog.tables }
-    ensures means { MeansFor session text.now coordinator.old.cluster.catalog.tables (reading_for session text.now coordinator.old.cluster.catalog.tables) }
-    ensures allowed { 1 ≤ session → MayBeInBlock result.bound }
-    ensures sound { IsSound S.state coordinator.new.cluster }
-    ensures stores { KeepsStores S.state coordinator.old.cluster coordinator.new.cluster }
-    ensures accounted { (answers : List Answered) (a : Answered) → a.answer ≡ result.answer → IsNext who a answers coordinator.old.cluster.groups.items → AreAccounted S.state coordinator.old.cluster.catalog answers coordinator.old.cluster.groups.items → AreAccounted S.state coordinator.new.cluster.catalog (answers ++ a ∷ []) coordinator.new.cluster.groups.items }
-    ensures retires { Retires who result.answer coordinator.old.cluster.retired.items coordinator.new.cluster.retired.items }
-    ensures steady { SparesSteady S.state result.answer coordinator.old.cluster coordinator.new.cluster }
-{
-    match read_with_data(alloc, &coordinator.cluster.catalog, session, text, copied) {
-        Ok(read) => {
-            let answer = coordinator.answer(alloc, gate, who, &read.statement);
-            Response {
-                bound: Some(read.statement),
-                answer: tagged(read.is_copy, answer),
-            }
-        }
-        Err(fault) => Response {
-            bound: None,
-            answer: Answer::Failed(fault),
-        },
-    }
-}
-
-/// Reads a statement's text and its data over the catalogue and answers it. Only a COPY has data: that of another text is passed over.
+/// Reads a statement's text and its data over the catalogue and answers it as one of its session, where session 0 is outside blocks. Only a COPY has data:
+/// that of another text is passed over.
 ///
 /// Conditions: the journals are legal, primary keys of distributed tables have the distribution column, and that is a column of its table.
 /// The bound form is what the text stands for over the tables that there are, by the grammar and the binder, and of a COPY the INSERT of the
 /// rows of its data; there is none where the answer is the text's first refusal, or that of the data, or memory ran out as they were read.
-/// The answer is what `IsAnswered` says: the statement's meaning over the undistributed database, or a refusal with its cause, or want of
-/// memory. A success is written as a COPY's where the text is a COPY.
+/// In a block a statement that may not stand there is refused so, behind the faults of its text. The answer is what `IsAnswered` says: the
+/// statement's meaning over the undistributed database, or a refusal with its cause, or want of memory. A success is written as a COPY's where
+/// the text is a COPY.
 pub fn respond<S: Store, G: Gate>(
     alloc: Global,
     gate: &G,
@@ -115,43 +76,32 @@ pub fn respond<S: Store, G: Gate>(
     requires keyed { (table : ℕ) → IsKeyed coordinator.old.cluster.catalog table }
     requires columns { HasColumns coordinator.old.cluster.catalog }
     ensures answered { (initial : Settings) (entry : List (Worker S)) → HasStores S.state entry coordinator.old.cluster → IsAnswered rules (run_of coordinator.old.cluster.nodes initial entry) (environment coordinator.old) (environment coordinator.new) who (journals coordinator.old) (journals coordinator.new) result.bound result.answer }
-    ensures reads { ReadsAs 0 result.bound result.answer text.now copied.now coordinator.old.cluster.catalog.tables }
-    ensures means { Means text.now coordinator.old.cluster.catalog.tables (reading_of text.now coordinator.old.cluster.catalog.tables) }
-    ensures sound { IsSound S.state coordinator.new.cluster }
-    ensures stores { KeepsStores S.state coordinator.old.cluster coordinator.new.cluster }
-    ensures accounted { (answers : List Answered) (a : Answered) → a.answer ≡ result.answer → IsNext who a answers coordinator.old.cluster.groups.items → AreAccounted S.state coordinator.old.cluster.catalog answers coordinator.old.cluster.groups.items → AreAccounted S.state coordinator.new.cluster.catalog (answers ++ a ∷ []) coordinator.new.cluster.groups.items }
-    ensures retires { Retires who result.answer coordinator.old.cluster.retired.items coordinator.new.cluster.retired.items }
-    ensures steady { SparesSteady S.state result.answer coordinator.old.cluster coordinator.new.cluster }
-{
-    respond_as(alloc, gate, coordinator, who, 0, text, copied)
-}
-
-/// Reads a statement's text and its data over the catalogue and answers it as one of a session of a parallel block.
-///
-/// The same as `respond`, but a statement that may not stand in a block is refused behind the faults of its text, before the catalogue is
-/// asked, and its answer has no bound form. So what is bound is a query, a write or the move of a shard group.
-pub fn respond_in_block<S: Store, G: Gate>(
-    alloc: Global,
-    gate: &G,
-    coordinator: &mut Coordinator<S>,
-    who: Who,
-    text: &[u8],
-    copied: &[u8],
-) -> Response
-    requires inside { 1 ≤ who.session }
-    requires sound { IsSound S.state coordinator.old.cluster }
-    requires legal { (g : ℕ) → IsLegal coordinator.old.cluster.catalog g (journal_in (journals coordinator.old) g) }
-    requires keyed { (table : ℕ) → IsKeyed coordinator.old.cluster.catalog table }
-    requires columns { HasColumns coordinator.old.cluster.catalog }
-    ensures answered { (initial : Settings) (entry : List (Worker S)) → HasStores S.state entry coordinator.old.cluster → IsAnswered rules (run_of coordinator.old.cluster.nodes initial entry) (environment coordinator.old) (environment coordinator.new) who (journals coordinator.old) (journals coordinator.new) result.bound result.answer }
     ensures reads { ReadsAs who.session result.bound result.answer text.now copied.now coordinator.old.cluster.catalog.tables }
-    ensures means { MeansInBlock text.now coordinator.old.cluster.catalog.tables (reading_in_block text.now coordinator.old.cluster.catalog.tables) }
-    ensures allowed { MayBeInBlock result.bound }
+    ensures means { MeansFor who.session text.now coordinator.old.cluster.catalog.tables (reading_for who.session text.now coordinator.old.cluster.catalog.tables) }
+    ensures allowed { 1 ≤ who.session → MayBeInBlock result.bound }
     ensures sound { IsSound S.state coordinator.new.cluster }
     ensures stores { KeepsStores S.state coordinator.old.cluster coordinator.new.cluster }
-    ensures accounted { (answers : List Answered) (a : Answered) → a.answer ≡ result.answer → IsNext who a answers coordinator.old.cluster.groups.items → AreAccounted S.state coordinator.old.cluster.catalog answers coordinator.old.cluster.groups.items → AreAccounted S.state coordinator.new.cluster.catalog (answers ++ a ∷ []) coordinator.new.cluster.groups.items }
+    ensures accounted { (answers : List Answered) (a : Answered) → a.answer ≡ result.answer → IsNext who a answers → AreAccounted S.state coordinator.old.cluster.catalog answers coordinator.old.cluster.groups.items → AreAccounted S.state coordinator.new.cluster.catalog (answers ++ a ∷ []) coordinator.new.cluster.groups.items }
     ensures retires { Retires who result.answer coordinator.old.cluster.retired.items coordinator.new.cluster.retired.items }
     ensures steady { SparesSteady S.state result.answer coordinator.old.cluster coordinator.new.cluster }
 {
-    respond_as(alloc, gate, coordinator, who, who.session, text, copied)
+    match read(
+        alloc,
+        &coordinator.cluster.catalog,
+        who.session,
+        text,
+        copied,
+    ) {
+        Ok(reading) => {
+            let answer = coordinator.answer(alloc, gate, who, &reading.statement);
+            Response {
+                bound: Some(reading.statement),
+                answer: tagged(reading.is_copy, answer),
+            }
+        }
+        Err(fault) => Response {
+            bound: None,
+            answer: Answer::Failed(fault),
+        },
+    }
 }

@@ -1,15 +1,14 @@
 -- A run that nothing disturbs completes.
-use Rattle.std.proofs.Common.{◌≡◌, ◌⊎◌, inl, inr, ℕ, List, length, refl, sym, ◌∙◌, ap, subst, arith, Some, None, Option}
+use Rattle.std.proofs.Common.{◌≡◌, ◌⊎◌, inl, inr, ℕ, List, length, refl, sym, ◌∙◌, arith, Some, None, Option}
 use Rattle.std.specs.Prelude.{⊤, IsTrue}
 use Rattle.std.specs.List.{AllByRecursion}
 use Rattle.cq_value.proofs.Lists.{all_weaker}
 use Rattle.cq_answer.specs.declared.answered.Answered.{Answered}
 use Rattle.cq_store.specs.Stores.{StoreState}
 use Rattle.cq_store.specs.declared.worker.Worker.{Worker}
-use Rattle.cq_cluster.specs.Steady.{WorkersAreSteady}
 use Rattle.cq_phase.specs.Steady.{NameNoSteady}
 use Rattle.cq_script.specs.declared.reader.Halt.{Halt}
-use Rattle.cq_script.specs.Streams.{SourceState, SinkState, Rose}
+use Rattle.cq_script.specs.Streams.{SourceState, SinkState}
 use Rattle.cq_words.specs.declared.settled.Settled.{Settled}
 use Rattle.cq_top.specs.declared.log.RunLog.{RunLog}
 use Rattle.cq_top.specs.declared.ending.Ending.{Ending}
@@ -17,9 +16,9 @@ use Rattle.cq_top.specs.declared.ending.Ending.TheVariants.{Done, Usage, ReadFau
 use Rattle.cq_top.specs.declared.status.Status.{Status}
 use Rattle.cq_top.specs.declared.status.Status.TheVariants as statuses
 use Rattle.cq_top.specs.Chunks.{IsCountEnd}
-use Rattle.cq_top.specs.Completeness.{AllSteady, CompletesCalmly, IsComplete, IsUndisturbed, KeepsLimits, ScriptKeepsLimits}
+use Rattle.cq_top.specs.Completeness.{CompletesCalmly, IsComplete, KeepsLimits, ScriptKeepsLimits}
 use Rattle.cq_top.specs.Outputs.{status_of}
-use Rattle.cq_top.specs.Runs.{HasRun, IsMisused, ServesWords, answers_of, asked}
+use Rattle.cq_top.specs.Runs.{HasRun, ServesWords, answers_of, asked}
 use Rattle.cq_top.specs.Scripts.{IsAnswered, IsHalted, ServesBy}
 use Rattle.cq_top.specs.Serving.{EndsWith}
 

@@ -1,5 +1,5 @@
 -- Rows that are counted in chunks in place of a script: what is written of them, and how such a run ends.
-use Rattle.std.proofs.Common.{◌≡◌, ◌≢◌, ◌≤◌, ◌<◌, ◌∙◌, inl, inr, ℕ, Bool, true, false, cond, List, [], ◌∷◌, ◌++◌, length, take, drop, refl, sym, ap, subst, arith, None, Some, Option, IsTrue, append_assoc, append-nil}
+use Rattle.std.proofs.Common.{◌≡◌, ◌≢◌, ◌≤◌, ◌∙◌, inl, inr, ℕ, Bool, true, false, cond, List, [], ◌∷◌, ◌++◌, length, take, drop, refl, sym, ap, subst, arith, Some, Option, IsTrue, append_assoc, append-nil}
 use Rattle.std.specs.Prelude.{option_map}
 use Rattle.std.proofs.lemmas.List.{take-append-drop}
 use Rattle.cq_answer.specs.declared.answered.Answered.{Answered}
@@ -17,7 +17,7 @@ use Rattle.cq_top.specs.Chunks.{count_text, IsCountEnd, HasCounted}
 use Rattle.cq_top.specs.Outputs.{status_of, ending_of, stop_by, IsPart}
 use Rattle.cq_top.specs.Scripts.{IsHalted}
 use Rattle.cq_top.specs.Runs.{IsMisused, HasRun, ServesWords, asked, answers_of, journals_by, pieces_by}
-use Rattle.cq_top.specs.Serving.{Writes, EndsWith}
+use Rattle.cq_top.specs.Serving.{Writes}
 use Rattle.cq_top.proofs.Answering.{calm_first}
 use Rattle.cq_top.proofs.RunLaws.{answers_are}
 

@@ -1,4 +1,4 @@
-use Rattle.std.proofs.Common.{◌∙◌, sym, ap, subst, arith}
+use Rattle.std.proofs.Common.{◌∙◌, ◌≤◌, sym, ap, subst, arith}
 use Rattle.std.specs.Prelude.{vec_len, vec_capacity}
 use Rattle.cq_phase.specs.Turns.{IsReady}
 use Rattle.cq_phase.proofs.Orders.{left_of, left_same}
@@ -16,17 +16,17 @@ loop-placed-preserved g c =
     let before = c.loop-placed.invariant in
     elim c.if-placed-session.branch [
       | then-placed-session w ↦
-          let a = w.answer_in_block.result in
+          let a = w.answer.result in
           let mid = c.loop-placed.coordinator in
-          let new = w.answer_in_block.new.coordinator in
-          let turn = w.answer_in_block.ensures.turn in
-          let may = w.answer_in_block.ensures.allowed in
+          let new = w.answer.new.coordinator in
+          let turn = w.answer.ensures.turn in
+          let may = w.answer.ensures.allowed (subst (λ n. 1 ≤ n) (sym w.if-placed-session.true) c.requires.inside) in
           let left = left_of s i ps p c.loop-placed-test.true c.placed-item.is w.if-placed-session.true in
           let len = ap (λ v. vec_len v) w.log-is ∙ w.push_reserved.ensures.len in
           let capacity = ap (λ v. vec_capacity v) w.log-is ∙ w.push_reserved.ensures.capacity in
           record {
             turns = have_taken state s i ps p c.args.coordinator.now mid new c.if-placed-session.coordinator a c.args.log.now.items c.loop-placed.log.items c.if-placed-session.log.items c.loop-placed-test.true c.placed-item.is
-                w.if-placed-session.true before.ready.sound before.turns turn w.answer_in_block.ensures.answers may w.coordinator-is (ap (λ v. v.items) w.log-is ∙ w.push_reserved.ensures.items);
+                w.if-placed-session.true before.ready.sound before.turns turn w.answer.ensures.answers may w.coordinator-is (ap (λ v. v.items) w.log-is ∙ w.push_reserved.ensures.items);
             ready = subst (λ co. IsReady state co) (sym w.coordinator-is) (ready_more state mid new a before.ready turn may);
             room = (let room = before.room in omega (arith, room, left, len, capacity));
             capacity = capacity ∙ before.capacity;

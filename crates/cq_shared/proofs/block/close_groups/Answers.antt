@@ -1,6 +1,5 @@
-use Rattle.std.proofs.Common.{◌≡◌, ◌∙◌, List, length, arith}
+use Rattle.std.proofs.Common.{◌≡◌, ◌∙◌, length, arith}
 use Rattle.std.proofs.lemmas.List.{length-map}
-use Rattle.cq_cell.specs.Many.{IsHistory}
 use Rattle.cq_cell.proofs.Zips.{three_long}
 use Rattle.cq_shared.proofs.block.close_groups.Goals as goal
 

@@ -1,7 +1,7 @@
 use Rattle.cq_shared.specs.Reads.{read_notes}
 use Rattle.cq_reach.specs.Seen.{seen_of}
 use Rattle.cq_reach.specs.Reads.{read_kinds, TellsRows}
-use Rattle.cq_desk.proofs.Meeting.{at_cell, turned, taken, read_entries, meets, tells, noted, goes_on, again}
+use Rattle.cq_desk.proofs.Meeting.{at_cell, turned, taken, read_entries, read_quiet, meets, tells, noted, goes_on, again}
 use Rattle.cq_desk.proofs.desk.DeskGroups.pick.Goals as goal
 
 pub pick_group-requires-clause-at : goal.pick_group-requires-clause-at
@@ -37,7 +37,7 @@ returns-clause-ready g c =
     let passes = c.args.self.now.passes.items in
     let p = c.index_mut.result.now in
     let there = taken passes c.args.group p c.requires.within c.index_mut.ensures.value in
-    again g.S.Store.state g.L.Legality.allows _ c.args.self.now.sessions.value.items passes c.args.who c.args.group p c.requires.ready there (turned p c.pick_group.new.pass) c.pick_group.ensures.looks.same c.pick_group.ensures.rests
+    again g.S.Store.state g.L.Legality.allows _ c.args.self.now.sessions.value.items passes c.args.who c.args.group p c.requires.ready there (turned p c.pick_group.new.pass) c.pick_group.ensures.looks.same c.pick_group.ensures.rests c.pick_group.ensures.looks.stood
 
 pub returns-clause-tells : goal.returns-clause-tells
 returns-clause-tells g c =
@@ -58,4 +58,5 @@ returns-clause-goes_on g c =
     let passes = c.args.self.now.passes.items in
     let p = c.index_mut.result.now in
     let there = taken passes c.args.group p c.requires.within c.index_mut.ensures.value in
-    goes_on g.S.Store.state g.L.Legality.allows _ c.args.self.now.sessions.value.items passes c.args.who c.args.group p c.requires.ready there (turned p c.pick_group.new.pass) c.pick_group.ensures.looks.same
+    goes_on g.S.Store.state g.L.Legality.allows _ c.args.self.now.sessions.value.items passes c.args.who c.args.group p c.requires.ready there (turned p c.pick_group.new.pass)
+    (record { same = c.pick_group.ensures.looks.same; notes = read_notes c.args.who c.pick_group.result; mine = c.pick_group.ensures.looks.mine; quiet = read_quiet c.args.who c.pick_group.result })

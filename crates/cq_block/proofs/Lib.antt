@@ -1,0 +1,4 @@
+pub mod Crosses
+pub mod DraftLaws
+pub mod Serving
+pub mod Seated
