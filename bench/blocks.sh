@@ -13,7 +13,7 @@ rows=${3:-500}
 # Connections share a table only where it isn't temporary.
 table='orders (tenant bigint, id bigint, amount integer, PRIMARY KEY (tenant, id))'
 echo "CREATE TABLE $table;" >"$work/sqlite3.head"
-{ echo 'DROP TABLE IF EXISTS orders;'; echo "CREATE UNLOGGED TABLE $table;"; } >"$work/psql.head"
+{ echo 'SET client_min_messages = warning;'; echo 'DROP TABLE IF EXISTS orders;'; echo "CREATE UNLOGGED TABLE $table;"; } >"$work/psql.head"
 { echo "CREATE TABLE $table;"; echo "SELECT create_distributed_table('orders', 'tenant', shard_count => 4);"; } >"$work/citus_run.head"
 
 # What stands outside sessions goes to one connection; of the sessions each goes to one of its own.

@@ -1,7 +1,9 @@
-//! What no script through the program shows of its runs: sources, sinks and stores that fail, and what stores hold at the end. All is
-//! tests; the scripts are in `tests/sql`.
+//! What no script through the program shows of its runs: sources, sinks and stores that fail, what stores hold at the end, and that sessions of a block run
+//! side by side. All is tests; the scripts are in `tests/sql`.
 #![tactic(auto)]
 
+#[cfg(test)]
+mod blocks;
 #[cfg(test)]
 mod moves;
 #[cfg(test)]

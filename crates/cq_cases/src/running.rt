@@ -6,7 +6,7 @@ ghost use Rattle.cq_store.specs.Faults.{held};
 
 use cq_script::{MemSink, MemSource};
 use cq_store::{FaultStore, Worker};
-use cq_top::{IdleGate, RunLog, Status, make_workers, run_over};
+use cq_top::{Gate, IdleGate, RunLog, Status, make_workers, run_over};
 use std::alloc::{AllocError, Global};
 use std::random::RandomSource;
 use std::sync::Wait;
@@ -56,10 +56,11 @@ pub fn failing_workers(
     make_workers(alloc, u32::from(count), stores, &make)
 }
 
-/// Runs a source's script over the workers. The journals are written at the end.
-pub fn run_script<R: Threads + Wait + Sync + RandomSource>(
+/// Runs a source's script over the workers, with a gate. The journals are written at the end.
+pub fn run_gated<R: Threads + Wait + Sync + RandomSource, G: Gate>(
     rt: &R,
     alloc: Global,
+    gate: &G,
     mut workers: Vec<Worker<FaultStore>>,
     mut source: MemSource,
     mut sink: MemSink,
@@ -75,7 +76,7 @@ pub fn run_script<R: Threads + Wait + Sync + RandomSource>(
         &words,
         &mut source,
         &mut sink,
-        &IdleGate,
+        gate,
         &mut workers,
         &mut log,
     );
@@ -85,6 +86,19 @@ pub fn run_script<R: Threads + Wait + Sync + RandomSource>(
         log,
         workers,
     })
+}
+
+/// The same, with a gate that holds nobody.
+pub fn run_script<R: Threads + Wait + Sync + RandomSource>(
+    rt: &R,
+    alloc: Global,
+    workers: Vec<Worker<FaultStore>>,
+    source: MemSource,
+    sink: MemSink,
+) -> Result<Outcome, AllocError>
+    requires idle { AreIdle held workers.items }
+{
+    run_gated(rt, alloc, &IdleGate, workers, source, sink)
 }
 
 /// What `run_script` came to, without its log and its workers: how the run ended, and what it wrote.
