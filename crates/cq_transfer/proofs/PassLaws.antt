@@ -77,6 +77,21 @@ module _ (comes : Entry → Type 0) (who : Who) where
         ∙ ap (λ (v : Station). v.node) (station_aside s g.more (all_weaker (ComesAside comes) (λ (e : Entry). is_of_move e.kind ≡ false) (λ e c. c.1) g.more g.all));
   }
 
+  pub found_mover : (s f : Seen) → IsGrown (ComesAside comes) s f → IsMover who s → IsMover who f
+  found_mover s f g m =
+      ap (λ (v : Seen). moving_of v.journal) g.is
+      ∙ ap (λ (v : Station). v.moving) (station_aside s g.more (all_weaker (ComesAside comes) (λ (e : Entry). is_of_move e.kind ≡ false) (λ e c. c.1) g.more g.all))
+      ∙ m
+
+  -- a move that began is to this node, of the same tables
+  pub start_target : (to : ℕ) (fact : Seen → Type 0) (s t : Seen) → Told comes who (MoveStart to ∷ []) fact s t → (station_of t.journal).target ≡ to
+  start_target to fact s t m =
+      ap (λ (v : Seen). (station_of v.journal).target) (told_is m)
+      ∙ ap (λ (v : Station). v.target) (station_push (with_more m.grown.more s).journal (with_more m.grown.more s).journal.entries (record { who = who; kind = MoveStart to }))
+
+  pub told_tables : (kinds : List EntryKind) (fact : Seen → Type 0) (s t : Seen) → Told comes who kinds fact s t → t.tables ≡ s.tables
+  told_tables kinds fact s t m = ap (λ (v : Seen). v.tables) (told_is m)
+
 pub stays_none : (s : Seen) → Stays s s
 stays_none s = record { tables = refl; node = refl }
 
