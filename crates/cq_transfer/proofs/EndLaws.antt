@@ -1,8 +1,6 @@
 -- How a move ends: by results of its calls, the stores that the group had, and those that are handed back.
 use Rattle.std.proofs.Common.{◌≡◌, ◌≢◌, ◌∙◌, ◌+◌, ◌<◌, inl, inr, ℕ, IsTrue, true, if◌then◌else◌, List, [], ◌∷◌, ◌++◌, length, nat_eq, refl, sym, ap, subst, arith, length-append, Option, Some, None, Result, Ok, Err, IfOk, IfErr}
 use Rattle.std.specs.List.{AllByRecursion, AllZip, flat_map}
-use Rattle.std.specs.declared.vec.Vec.{Vec}
-use Rattle.std.specs.declared.alloc.Global.{Global}
 use Rattle.std.proofs.lemmas.Bool.Decides.{eqb_tells}
 use Rattle.std.proofs.lemmas.List.{length-map}
 use Rattle.cq_value.proofs.Lists.{all_weaker}
@@ -85,27 +83,33 @@ module _ {X : Type 0} (state : X → StoreState) where
       let some : 0 < g.node = moved_node who g had.resting (subst (IsMover who) (sym had.known) m) in
       let placed : g.node ≡ node_of s.journal = sym had.resting.placed ∙ ap (λ (v : Seen). node_of v.journal) had.known in
       record {
-        many = ap length had.all ∙ one_each g.node (copies_of g) (entries_of g) g.tables.items (one_copy g.node g.nodes some) had.resting.kept.tables ∙ sym (length-map outline g.tables.items) ∙ ap (λ (v : Seen). length v.tables) had.known;
+        many = ap length had.all ∙ one_each g.node (copies_of g) (entries_of g) g.tables.items (one_copy g.node g.nodes some) had.resting.kept.tables ∙ sym (length-map g.tables.items outline) ∙ ap (λ (v : Seen). length v.tables) had.known;
         on = subst (AllByRecursion (λ (x : X). (state x).node ≡ node_of s.journal)) (sym had.all) (subst (λ (n : ℕ). AllByRecursion (λ (x : X). (state x).node ≡ n) (stores_of g)) placed (stores_there state g had.resting some));
       }
 
 -- ---- the end of a move in flight
 
 module _ {X : Type 0} (state : X → StoreState) (comes now : Entry → Type 0) (who : Who) (others : (e : Entry) → comes e → e.who.session ≢ who.session) (f : (e : Entry) → now e → comes e) where
-  pub comes_to_end : {E : Type 0} (due : ℕ) (x : Exchanged X) (m : Moved X) (s t u : Seen) (i : Incoming X) → m.report.copied ≡ due → m.report.last ≡ x.last → m.stores ≡ x.stores → Catches comes who m.report.caught s t → Stays s t → IsMoving state who t i →
-      Told (ComesAside now) who (kinds_on Cutover (Ok {E = E} x)) (TellsExchanged {E = E} state (Ok x)) t u → ComesToEnd state comes who due m s u
-  comes_to_end {E} due x m s t u i copied last stores caught stays moving told =
-      let had = old_stores who told.found x.stores.items (found_mover now who t told.found told.grown moving.mover) told.so.1 in
-      let far = found_stays now who t told.found told.grown in
+  pub comes_to_end : {T : Type 0} (due : ℕ) (r : Result (Exchanged X) T) (x : Exchanged X) (m : Moved X) (s t u : Seen) (i : Incoming X) → r ≡ Ok x → m.report.copied ≡ due → m.report.last ≡ x.last → m.stores.items ≡ x.stores.items → Catches comes who m.report.caught s t → Stays s t →
+      IsMoving state who t i → Told (ComesAside now) who (kinds_on Cutover r) (TellsExchanged state r) t u → ComesToEnd state comes who due m s u
+  comes_to_end {T} due r x m s t u i is copied last stores caught stays moving told =
+      let cut = subst (λ (v : Result (Exchanged X) T). Told (ComesAside now) who (kinds_on Cutover v) (TellsExchanged state v) t u) is told in
+      let had = old_stores state who cut.found x.stores.items (found_mover now who t cut.found cut.grown moving.mover) cut.so.1 in
+      let far = found_stays now who t cut.found cut.grown in
       record {
         copied = copied;
         finishes = λ first b.
             (let all = caught first b in
             finishes comes who others first m.report all.0 s t u all.1 all.2 moving.last
-            (record { found = told.found; grown = record { more = told.grown.more; all = all_weaker (ComesAside now) (ComesAside comes) (aside_weaker now comes who f) told.grown.more told.grown.all; is = told.grown.is }; so = last ∙ told.so.0; is = told.is }));
+            (record {
+              found = cut.found;
+              grown = record { more = cut.grown.more; all = all_weaker (ComesAside now) (ComesAside comes) (aside_weaker now comes who f) cut.grown.more cut.grown.all; is = cut.grown.is };
+              so = last ∙ cut.so.0;
+              is = cut.is;
+            }));
         stores = record {
-          many = ap (λ (v : Vec X Global). length v.items) stores ∙ had.many ∙ ap length far.tables ∙ ap length stays.tables;
-          on = subst (λ (v : Vec X Global). AllByRecursion (λ (y : X). (state y).node ≡ node_of s.journal) v.items) (sym stores) (subst (λ (n : ℕ). AllByRecursion (λ (y : X). (state y).node ≡ n) x.stores.items) (far.node ∙ stays.node) had.on);
+          many = ap length stores ∙ had.many ∙ ap length far.tables ∙ ap length stays.tables;
+          on = subst (AllByRecursion (λ (y : X). (state y).node ≡ node_of s.journal)) (sym stores) (subst (λ (n : ℕ). AllByRecursion (λ (y : X). (state y).node ≡ n) x.stores.items) (far.node ∙ stays.node) had.on);
         };
       }
 
@@ -148,15 +152,15 @@ module _ {X : Type 0} (state : X → StoreState) (comes now : Entry → Type 0) 
     node : node_of t.journal ≡ from
     node = ap (λ (v : Seen). node_of v.journal) begun.is ∙ ap (λ (v : Station). v.node) (station_push begun.found.journal begun.found.journal.entries (record { who = who; kind = MoveStart to })) ∙ begun.so.0.there
 
-    first : Step
-    first = step_at begun.grown.more (MoveStart to) s
+    abbrev start : Step
+    start = step_at begun.grown.more (MoveStart to) s
 
-    behind : IsBehind who first t
+    behind : IsBehind who start t
     behind = behind_start comes who others from to Begun s t t begun begun.so.0
 
     pub ends_moved : (u : Seen) (m : Moved X) → ComesToEnd state now who i.due m t u → HasMoved comes who from to m.report s u
     ends_moved u m h =
-        has_moved comes who others from to Begun s t u begun begun.so.0 m.report (h.copied ∙ begun.so.1) (finishes_weaker now comes who f first m.report t u (h.finishes first behind))
+        has_moved comes who others from to Begun s t u begun begun.so.0 m.report (h.copied ∙ begun.so.1) (finishes_weaker now comes who f start m.report t u (h.finishes start behind))
 
     pub ends_old : (u : Seen) (m : Moved X) (given : List X) → length given ≡ length s.tables → ComesToEnd state now who i.due m t u → AreOf state from (length given) m.stores.items
     ends_old u m given one h = record {
@@ -166,7 +170,7 @@ module _ {X : Type 0} (state : X → StoreState) (comes now : Entry → Type 0) 
 
     pub ends_given_up : (u : Seen) (e : NotMoved X) (given : List X) → ComesIn state t i → AllZip (Lifted state Adopts) given (arriving i) → ComesToStop state now who (arriving i) e t u → IsGivenUp state comes who from to given e s u
     ends_given_up u e given c adopted h = record {
-      stopped = has_stopped comes who others from to Begun s t u begun begun.so.0 (gives_up_weaker now comes who f first t u (h.gives_up first behind));
+      stopped = has_stopped comes who others from to Begun s t u begun begun.so.0 (gives_up_weaker now comes who f start t u (h.gives_up start behind));
       why = ends_told state e.why to (upto_move t.journal.entries) s.tables i.tables.items given e.stores.items (incoming c).tables adopted h.stores h.why;
       shards = keep_shards state to (upto_move t.journal.entries) s.tables i.tables.items e.stores.items (incoming c).tables h.stores;
     }

@@ -96,10 +96,10 @@ pub record ComesToEnd {X : Type 0} (state : X → StoreState) (comes : Entry →
   pub stores : AreOf state (node_of old.journal) (length old.tables) m.stores.items
 
 -- it is handed back: why it was stopped, and the stores that came in
-pub record HandsBack {X : Type 0} (why : MoveWhy) (stores : List X) (e : NotMoved X) : Type 0 where
+pub record HandsBack {X : Type 0} (reason : MoveWhy) (given : List X) (e : NotMoved X) : Type 0 where
   pub begun : e.begun ≡ true
-  pub why : e.why ≡ why
-  pub stores : e.stores.items ≡ stores
+  pub why : e.why ≡ reason
+  pub stores : e.stores.items ≡ given
 
 -- or to its MoveStop: one of the stores that came in is blamed, or none, and they are handed back as they went on
 pub record ComesToStop {X : Type 0} (state : X → StoreState) (comes : Entry → Type 0) (who : Who) (given : List X) (e : NotMoved X) (old new : Seen) : Type 0 where

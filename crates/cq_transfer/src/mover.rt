@@ -1,4 +1,4 @@
-ghost use Rattle.std.specs.Prelude.{◌≡◌, ◌<◌, ℕ, [], ◌∷◌, true, false, length, IfOk, IfErr};
+ghost use Rattle.std.specs.Prelude.{◌≡◌, ◌<◌, ℕ, [], ◌∷◌, true, false, length, IfOk, IfErr, OnErr};
 ghost use Rattle.std.specs.List.{AllZip};
 ghost use Rattle.cq_tree.specs.declared.journal.EntryKind.TheVariants.{MoveStop};
 ghost use Rattle.cq_journal.specs.Stations.{node_of};
@@ -27,6 +27,7 @@ fn stop<S: Store, M: Moves<S>>(
     requires stop { CanStop order.who (M.seen moves.old order.group) incoming }
     ensures ready { M.ready moves.new order.who order.group }
     ensures keeps { M.keeps order.group moves.old moves.new }
+    ensures goes_on { M.goes_on order.group moves.old moves.new }
     ensures told { Told (ComesAside (M.comes moves.old order.who)) order.who (MoveStop ∷ []) TellsAnything (M.seen moves.old order.group) (M.seen moves.new order.group) }
     ensures back { HandsBack (why_told why) (arriving incoming) result }
 {
@@ -53,6 +54,7 @@ fn finish<S: Store, M: Moves<S>, G: Gate>(
     requires spared { (node : ℕ) → M.spared moves.old node → AreSteadyOn S.state node (arriving incoming) }
     ensures ready { M.ready moves.new order.who order.group }
     ensures keeps { M.keeps order.group moves.old moves.new }
+    ensures goes_on { OnErr result (M.goes_on order.group moves.old moves.new) }
     ensures ends { IfOk result (λ m. ComesToEnd S.state (M.comes moves.old order.who) order.who incoming.due m (M.seen moves.old order.group) (M.seen moves.new order.group)) }
     ensures steady { IfOk result (λ m. (node : ℕ) → M.steady moves.old node → AreSteadyOn S.state node (arriving incoming) → M.steady moves.new node × AreSteadyOn S.state node m.stores.items) }
     ensures stops { IfErr result (λ e. ComesToStop S.state (M.comes moves.old order.who) order.who (arriving incoming) e (M.seen moves.old order.group) (M.seen moves.new order.group)) }
@@ -98,6 +100,7 @@ pub fn transfer<S: Store, M: Moves<S>, G: Gate>(
     requires spared { (node : ℕ) → M.spared moves.old node → AreSteadyOn S.state node stores.items }
     ensures ready { M.ready moves.new order.who order.group }
     ensures keeps { M.keeps order.group moves.old moves.new }
+    ensures goes_on { OnErr result (M.goes_on order.group moves.old moves.new) }
     ensures moved { IfOk result (λ m. HasMoved (M.comes moves.old order.who) order.who order.from order.to m.report (M.seen moves.old order.group) (M.seen moves.new order.group)) }
     ensures old { IfOk result (λ m. AreOf S.state order.from (length stores.items) m.stores.items) }
     ensures steady { IfOk result (λ m. (node : ℕ) → M.steady moves.old node → AreSteadyOn S.state node stores.items → M.steady moves.new node × AreSteadyOn S.state node m.stores.items) }
