@@ -1,5 +1,5 @@
 -- How a move ends: by results of its calls, the stores that the group had, and those that are handed back.
-use Rattle.std.proofs.Common.{◌≡◌, ◌≢◌, ◌∙◌, ◌+◌, ◌<◌, inl, inr, ℕ, IsTrue, true, if◌then◌else◌, List, [], ◌∷◌, ◌++◌, length, nat_eq, refl, sym, ap, subst, arith, length-append, Option, Some, None, Result, Ok, Err, IfOk, IfErr}
+use Rattle.std.proofs.Common.{◌≡◌, ◌≢◌, ◌∙◌, ◌<◌, inl, inr, ℕ, IsTrue, if◌then◌else◌, List, [], ◌∷◌, length, nat_eq, refl, sym, ap, subst, arith, length-append, Option, Some, None, Result, Ok, Err}
 use Rattle.std.specs.List.{AllByRecursion, AllZip, flat_map}
 use Rattle.std.proofs.lemmas.Bool.Decides.{eqb_tells}
 use Rattle.std.proofs.lemmas.List.{length-map}
@@ -7,7 +7,7 @@ use Rattle.cq_value.proofs.Lists.{all_weaker}
 use Rattle.cq_tree.specs.declared.journal.Who.{Who}
 use Rattle.cq_tree.specs.declared.journal.Entry.{Entry}
 use Rattle.cq_tree.specs.declared.journal.EntryKind.TheVariants.{MoveStart, Cutover, MoveStop}
-use Rattle.cq_journal.specs.Stations.{Station, node_of, station_of}
+use Rattle.cq_journal.specs.Stations.{Station, node_of}
 use Rattle.cq_store.specs.Stores.{StoreState}
 use Rattle.cq_group.specs.declared.group.GroupError.{GroupError}
 use Rattle.cq_group.specs.declared.group.GroupState.{GroupState}
@@ -22,17 +22,15 @@ use Rattle.cq_group.specs.Incoming.{Adopts, IsIncoming, arriving, why_told}
 use Rattle.cq_group.specs.Moves.{IsMoveKept, upto_move}
 use Rattle.cq_group.specs.Resting.{IsResting}
 use Rattle.cq_group.proofs.MoveLaws.{station_push}
-use Rattle.cq_group.proofs.TableLaws.{blames_later}
 use Rattle.cq_reach.specs.Seen.{Seen, seen_of}
-use Rattle.cq_move_calls.specs.Moving.{AreSteadyOn, ComesAside, ComesIn, CouldStart, HadStores, IsMover, RefusesStart, TellsAnything, TellsExchanged, TellsStart, Told, kinds_on}
+use Rattle.cq_move_calls.specs.Moving.{AreSteadyOn, ComesAside, ComesIn, HadStores, IsMover, RefusesStart, TellsAnything, TellsExchanged, TellsStart, Told, kinds_on}
 use Rattle.cq_move.specs.declared.mover.Moved.{Moved}
 use Rattle.cq_move.specs.declared.mover.NotMoved.{NotMoved}
-use Rattle.cq_move.specs.Outcomes.{IsTried}
 use Rattle.cq_move.proofs.NodeLaws.{stores_there}
-use Rattle.cq_move.proofs.StoreLaws.{ends_told, given_back, go_on_twice, keep_shards}
+use Rattle.cq_move.proofs.StoreLaws.{ends_told, keep_shards}
 use Rattle.cq_history.specs.Journals.{Step}
 use Rattle.cq_transfer.specs.Entering.{Catches, HasMoved, IsBehind, Tries}
-use Rattle.cq_transfer.specs.Carrying.{AreOf, ComesToEnd, ComesToStop, HandsBack, IsGivenUp, IsMoving, IsRefused, Stays}
+use Rattle.cq_transfer.specs.Carrying.{AreOf, ComesToEnd, ComesToStop, HandsBack, IsGivenUp, IsMoving, Stays}
 use Rattle.cq_transfer.proofs.EnterLaws.{step_at, told_weaker}
 use Rattle.cq_transfer.proofs.PassLaws.{behind_start, caught_tries, finishes, found_mover, found_stays, has_moved, has_stopped, moving_at, start_target, told_last, told_tables}
 use Rattle.cq_transfer.proofs.LoopLaws.{aside_weaker, finishes_weaker, gives_up_weaker, tries_stop, tries_then}

@@ -108,14 +108,7 @@ pub fn transfer<S: Store, M: Moves<S>, G: Gate>(
     ensures stopped { IfErr result (λ e. e.begun ≡ true → IsGivenUp S.state (M.comes moves.old order.who) order.who order.from order.to stores.items e (M.seen moves.old order.group) (M.seen moves.new order.group)) }
     ensures back { IfErr result (λ e. AllZip (Lifted S.state IsTried) stores.items e.stores.items) }
 {
-    match moves.start(
-        alloc,
-        order.who,
-        order.group,
-        order.from,
-        order.to,
-        stores,
-    ) {
+    match moves.start(alloc, order.who, order.group, order.from, order.to, stores) {
         Ok(incoming) => finish(alloc, gate, moves, order, incoming),
         Err(MoveRefused { why, stores }) => Err(NotMoved {
             why,

@@ -2,7 +2,7 @@ use Rattle.std.proofs.Common.{refl}
 use Rattle.cq_group.specs.Incoming.{arriving}
 use Rattle.cq_group.proofs.TableLaws.{blames_later}
 use Rattle.cq_move.proofs.StoreLaws.{go_on_twice}
-use Rattle.cq_transfer.proofs.PassLaws.{caught_tries, comes_in, stops_after}
+use Rattle.cq_transfer.proofs.PassLaws.{comes_in, stops_after}
 use Rattle.cq_transfer.proofs.EndLaws as laws
 use Rattle.cq_transfer.proofs.mover.finish.Goals as goal
 

@@ -1,14 +1,14 @@
-use Rattle.std.proofs.Common.{◌≡◌, ◌∙◌, ℕ, true, false, length, sym, ap}
+use Rattle.std.proofs.Common.{◌≡◌, ◌∙◌, ℕ, true, length, sym, ap}
 use Rattle.std.specs.List.{AllZip}
 use Rattle.cq_value.proofs.Lists.{if_ok}
-use Rattle.cq_group.specs.Calls.{GoesOn, Lifted}
+use Rattle.cq_group.specs.Calls.{Lifted}
 use Rattle.cq_group.specs.Incoming.{arriving}
 use Rattle.cq_group.proofs.Zips.{on_err}
 use Rattle.cq_move_calls.specs.Moving.{AreSteadyOn}
 use Rattle.cq_move.specs.Outcomes.{IsTried}
 use Rattle.cq_move.proofs.StoreLaws.{given_back, given_same, if_err}
 use Rattle.cq_transfer.specs.Entering.{HasMoved}
-use Rattle.cq_transfer.specs.Carrying.{AreOf, ComesToEnd, ComesToStop, IsGivenUp, IsRefused}
+use Rattle.cq_transfer.specs.Carrying.{AreOf, ComesToEnd, ComesToStop, IsGivenUp}
 use Rattle.cq_transfer.proofs.EndLaws as laws
 use Rattle.cq_transfer.proofs.mover.transfer.Goals as goal
 
@@ -40,7 +40,7 @@ returns-in-Ok-clause-moved g c =
     let u = g.M.Moves.seen c.finish.new.moves group in
     if_ok c.finish.result (λ m. ComesToEnd g.S.Store.state (g.M.Moves.comes mid who) who c.in-Ok.incoming.due m t u) (λ m. HasMoved (g.M.Moves.comes old who) who c.args.order.from c.args.order.to m.report s u)
     (λ m k. laws.ends_moved g.S.Store.state (g.M.Moves.comes old who) (g.M.Moves.comes mid who) who (g.met.M.Moves.others old who) (λ e h. g.met.M.Moves.comes_still group old mid who e c.start.ensures.keeps h)
-        c.args.order.from c.args.order.to s t c.start.result c.in-Ok.incoming c.in-Ok.is c.start.ensures.told u m k)
+    c.args.order.from c.args.order.to s t c.start.result c.in-Ok.incoming c.in-Ok.is c.start.ensures.told u m k)
     c.finish.ensures.ends
 
 pub returns-in-Ok-clause-old : goal.returns-in-Ok-clause-old
@@ -54,7 +54,7 @@ returns-in-Ok-clause-old g c =
     let u = g.M.Moves.seen c.finish.new.moves group in
     if_ok c.finish.result (λ m. ComesToEnd g.S.Store.state (g.M.Moves.comes mid who) who c.in-Ok.incoming.due m t u) (λ m. AreOf g.S.Store.state c.args.order.from (length c.args.stores.items) m.stores.items)
     (λ m k. laws.ends_old g.S.Store.state (g.M.Moves.comes old who) (g.M.Moves.comes mid who) who (g.met.M.Moves.others old who) (λ e h. g.met.M.Moves.comes_still group old mid who e c.start.ensures.keeps h)
-        c.args.order.from c.args.order.to s t c.start.result c.in-Ok.incoming c.in-Ok.is c.start.ensures.told u m c.args.stores.items c.requires.one k)
+    c.args.order.from c.args.order.to s t c.start.result c.in-Ok.incoming c.in-Ok.is c.start.ensures.told u m c.args.stores.items c.requires.one k)
     c.finish.ensures.ends
 
 pub returns-in-Ok-clause-steady : goal.returns-in-Ok-clause-steady
@@ -90,7 +90,7 @@ returns-in-Ok-clause-stopped g c =
     if_err c.finish.result (λ e. ComesToStop g.S.Store.state (g.M.Moves.comes mid who) who (arriving c.in-Ok.incoming) e t u)
     (λ e. e.begun ≡ true → IsGivenUp g.S.Store.state (g.M.Moves.comes old who) who c.args.order.from c.args.order.to given e s u)
     (λ e k b. laws.ends_given_up g.S.Store.state (g.M.Moves.comes old who) (g.M.Moves.comes mid who) who (g.met.M.Moves.others old who) (λ e h. g.met.M.Moves.comes_still group old mid who e c.start.ensures.keeps h)
-        c.args.order.from c.args.order.to s t c.start.result c.in-Ok.incoming c.in-Ok.is c.start.ensures.told u e given c.in-Ok.ensures.incoming c.in-Ok.ensures.stores k)
+    c.args.order.from c.args.order.to s t c.start.result c.in-Ok.incoming c.in-Ok.is c.start.ensures.told u e given c.in-Ok.ensures.incoming c.in-Ok.ensures.stores k)
     c.finish.ensures.stops
 
 pub returns-in-Ok-clause-back : goal.returns-in-Ok-clause-back
