@@ -33,6 +33,8 @@ impl<S: Store> Moves<S> for Vec<GroupState<S>> {
 
     ghost steady = { λ groups node. GroupsAreSteady S.state node groups.items };
 
+    ghost spared = { λ groups node. ⊥ };
+
     fn start(
         &mut self,
         alloc: Global,
@@ -111,4 +113,6 @@ impl<S: Store> Moves<S> for Vec<GroupState<S>> {
     ghost comes_still = { λ group a b who e k none. none };
 
     ghost steady_on = { λ group a b node kept went all. kept_steady S.state node group a.items b.items kept went all };
+
+    ghost spared_back = { λ group a b node kept none. none };
 }

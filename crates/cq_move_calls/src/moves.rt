@@ -42,6 +42,9 @@ pub trait Moves<S: Store> {
     // the stores of this node that groups have are steady
     ghost steady: { Self → ℕ → Type 0 };
 
+    // nodes all of whose stores are steady, to which only steady stores may come
+    ghost spared: { Self → ℕ → Type 0 };
+
     /// Begins a move of a group to a node, for which there is one spare store of that node for each table, and enters a MoveStart. In what comes in the
     /// group's rows are pending.
     ///
@@ -110,6 +113,7 @@ pub trait Moves<S: Store> {
         requires mover { IsMover who (seen self.old group) }
         requires incoming { ComesIn S.state (seen self.old group) incoming }
         requires settled { IsSettled incoming }
+        requires spared { (node : ℕ) → spared self.old node → AreSteadyOn S.state node (arriving incoming) }
         ensures ready { ready self.new who group }
         ensures keeps { keeps group self.old self.new }
         ensures goes_on { OnErr result (goes_on group self.old self.new) }
@@ -147,4 +151,7 @@ pub trait Moves<S: Store> {
 
     // steady stores stay so
     ghost steady_on: { (group : ℕ) (a b : Self) (node : ℕ) → keeps group a b → goes_on group a b → steady a node → steady b node };
+
+    // which nodes are spared was so before
+    ghost spared_back: { (group : ℕ) (a b : Self) (node : ℕ) → keeps group a b → spared b node → spared a node };
 }

@@ -1,12 +1,11 @@
 -- What a statement enters in a group, call after call.
-use Rattle.std.proofs.Common.{◌≡◌, ◌≢◌, ◌∙◌, ◌⊎◌, inl, inr, ℕ, true, false, List, [], ◌∷◌, ◌++◌, refl, sym, ap, subst, append-nil, append_assoc}
+use Rattle.std.proofs.Common.{◌≡◌, ◌≢◌, ◌∙◌, ◌⊎◌, inl, inr, true, false, List, [], ◌∷◌, ◌++◌, refl, sym, ap, subst, append-nil, append_assoc}
 use Rattle.std.specs.List.{AllByRecursion}
 use Rattle.std.proofs.lemmas.Bool.Decides.{eqb_tells}
 use Rattle.cq_value.proofs.Lists.{all_append, all_weaker}
 use Rattle.cq_tree.specs.declared.journal.Who.{Who}
 use Rattle.cq_tree.specs.declared.journal.Entry.{Entry}
 use Rattle.cq_tree.specs.declared.journal.EntryKind.{EntryKind}
-use Rattle.cq_journal.specs.Records.{Journal}
 use Rattle.cq_history.specs.Journals.{Step, made_by, steps_after}
 use Rattle.cq_history.proofs.Entries.{AreOthers, entries_by, steps_append, steps_own, steps_others}
 use Rattle.cq_history.proofs.Visiting.{made_own}

@@ -1,12 +1,12 @@
 -- The loop over the rounds of catch-up, and what a whole move enters.
-use Rattle.std.proofs.Common.{◌≡◌, ◌≢◌, ◌∙◌, ◌⊎◌, inl, inr, ◌+◌, ◌≤◌, ◌<◌, ℕ, List, [], ◌∷◌, ◌++◌, length, refl, sym, ap, subst, append-nil, arith, length-append, Result, Ok, Err}
+use Rattle.std.proofs.Common.{◌≡◌, ◌≢◌, ◌∙◌, inl, inr, ◌+◌, ◌<◌, ℕ, List, [], ◌∷◌, ◌++◌, length, refl, sym, ap, subst, append-nil, arith, length-append, Result, Ok, Err}
 use Rattle.std.specs.List.{AllByRecursion, AllZip}
 use Rattle.cq_value.proofs.Lists.{all_append}
 use Rattle.cq_tree.specs.declared.journal.Who.{Who}
 use Rattle.cq_tree.specs.declared.journal.Entry.{Entry}
 use Rattle.cq_tree.specs.declared.journal.EntryKind.TheVariants.{CatchUp, Cutover, MoveStop}
 use Rattle.cq_history.specs.Journals.{Step}
-use Rattle.cq_history.specs.Moves.{AreRounds, last_of, written_between}
+use Rattle.cq_history.specs.Moves.{AreRounds}
 use Rattle.cq_store.specs.Stores.{StoreState}
 use Rattle.cq_group.specs.declared.incoming.Incoming.{Incoming}
 use Rattle.cq_group.specs.declared.moves.Exchanged.{Exchanged}
@@ -16,10 +16,10 @@ use Rattle.cq_group.specs.Moves.{changed_since, parted}
 use Rattle.cq_reach.specs.Seen.{Seen}
 use Rattle.cq_move_calls.specs.Moving.{ComesAside, HadStores, TellsAnything, TellsExchanged, Told, kinds_on}
 use Rattle.cq_move.specs.declared.mover.MoveReport.{MoveReport}
-use Rattle.cq_transfer.specs.Entering.{AreBegun, AreBusy, Catches, Enters, HasCaught, HasTried, IsBehind, Tries}
-use Rattle.cq_transfer.specs.Carrying.{CanStop, CatchesOnce, Finishes, GivesUp, HasFinished, HasGivenUp, IsMoving, IsUnderWay, Stays, TriesOnce}
+use Rattle.cq_transfer.specs.Entering.{AreBegun, AreBusy, HasCaught, HasTried, IsBehind, Tries}
+use Rattle.cq_transfer.specs.Carrying.{CatchesOnce, GivesUp, HasFinished, HasGivenUp, IsMoving, IsUnderWay, Stays, TriesOnce}
 use Rattle.cq_transfer.proofs.EnterLaws.{enters_not, enters_one, enters_then, enters_weaker, step_at, told_weaker}
-use Rattle.cq_transfer.proofs.PassLaws.{any_told, gives_up, moving_stops, stays_twice}
+use Rattle.cq_transfer.proofs.PassLaws.{gives_up, moving_stops, stays_twice}
 use Rattle.cq_move.proofs.StoreLaws.{go_on_twice}
 use Rattle.cq_transfer.proofs.RoundLaws.{IsLoop, busy_begun, busy_more, busy_then, caught_more, next_written, rounds_end, rounds_full}
 

@@ -1,22 +1,21 @@
 -- A move, step after step.
-use Rattle.std.proofs.Common.{◌≡◌, ◌≢◌, ◌∙◌, ◌⊎◌, inl, inr, ◌+◌, ◌≤◌, ◌<◌, ℕ, true, false, List, [], ◌∷◌, ◌++◌, length, refl, sym, ap, subst, vec_capacity, append_assoc, arith, None, Result, Ok, Err, OnErr, IfOk}
+use Rattle.std.proofs.Common.{◌≡◌, ◌≢◌, ◌∙◌, ◌≤◌, ℕ, true, false, List, [], ◌∷◌, ◌++◌, length, refl, sym, ap, subst, vec_capacity, arith, None, Result, Ok, Err, OnErr, IfOk}
 use Rattle.std.specs.List.{AllByRecursion, AllZip, fold}
 use Rattle.std.proofs.lemmas.List.Elements.{length_all_zip}
 use Rattle.std.proofs.lemmas.List.Sums.{fold-append}
-use Rattle.cq_value.proofs.Lists.{all_append, all_weaker}
+use Rattle.cq_value.proofs.Lists.{all_weaker}
 use Rattle.cq_tree.specs.declared.journal.Who.{Who}
 use Rattle.cq_tree.specs.declared.journal.Entry.{Entry}
 use Rattle.cq_tree.specs.declared.journal.EntryKind.{EntryKind}
 use Rattle.cq_tree.specs.declared.journal.EntryKind.TheVariants.{Read, Write, MoveStart, CatchUp, Cutover, MoveStop}
-use Rattle.cq_journal.specs.Records.{Journal}
 use Rattle.cq_journal.specs.Stations.{Station, moved, station_of, moving_of, node_of}
 use Rattle.cq_history.specs.Journals.{Step}
-use Rattle.cq_history.specs.Moves.{IsStopped, AreRounds, last_of, written_between}
+use Rattle.cq_history.specs.Moves.{AreRounds, last_of}
 use Rattle.cq_store.specs.Stores.{StoreState}
 use Rattle.cq_group.specs.declared.incoming.Incoming.{Incoming}
 use Rattle.cq_group.specs.Calls.{GoesOn, Lifted}
-use Rattle.cq_group.specs.Moves.{is_of_move, parted, upto_move, changed_since}
-use Rattle.cq_group.specs.Incoming.{IsIncoming, IsSettled, arriving, rows_in}
+use Rattle.cq_group.specs.Moves.{is_of_move, parted, changed_since}
+use Rattle.cq_group.specs.Incoming.{IsIncoming, arriving, rows_in}
 use Rattle.cq_group.proofs.MoveLaws.{station_push, move_push}
 use Rattle.cq_reach.specs.Seen.{Seen}
 use Rattle.cq_reach.specs.Outlook.{IsGrown}
@@ -76,6 +75,21 @@ module _ (comes : Entry → Type 0) (who : Who) where
     node = ap (λ (v : Seen). node_of v.journal) g.is
         ∙ ap (λ (v : Station). v.node) (station_aside s g.more (all_weaker (ComesAside comes) (λ (e : Entry). is_of_move e.kind ≡ false) (λ e c. c.1) g.more g.all));
   }
+
+  pub found_mover : (s f : Seen) → IsGrown (ComesAside comes) s f → IsMover who s → IsMover who f
+  found_mover s f g m =
+      ap (λ (v : Seen). moving_of v.journal) g.is
+      ∙ ap (λ (v : Station). v.moving) (station_aside s g.more (all_weaker (ComesAside comes) (λ (e : Entry). is_of_move e.kind ≡ false) (λ e c. c.1) g.more g.all))
+      ∙ m
+
+  -- a move that began is to this node, of the same tables
+  pub start_target : (to : ℕ) (fact : Seen → Type 0) (s t : Seen) → Told comes who (MoveStart to ∷ []) fact s t → (station_of t.journal).target ≡ to
+  start_target to fact s t m =
+      ap (λ (v : Seen). (station_of v.journal).target) (told_is m)
+      ∙ ap (λ (v : Station). v.target) (station_push (with_more m.grown.more s).journal (with_more m.grown.more s).journal.entries (record { who = who; kind = MoveStart to }))
+
+  pub told_tables : (kinds : List EntryKind) (fact : Seen → Type 0) (s t : Seen) → Told comes who kinds fact s t → t.tables ≡ s.tables
+  told_tables kinds fact s t m = ap (λ (v : Seen). v.tables) (told_is m)
 
 pub stays_none : (s : Seen) → Stays s s
 stays_none s = record { tables = refl; node = refl }

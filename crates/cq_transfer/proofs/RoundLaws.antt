@@ -1,5 +1,5 @@
 -- The rounds of catch-up of a move, one after the other.
-use Rattle.std.proofs.Common.{◌≡◌, ◌≢◌, ◌∙◌, ◌+◌, ◌<◌, ◌≤◌, ◌⊎◌, inl, inr, zero, suc, ℕ, Bool, true, false, if◌then◌else◌, List, [], ◌∷◌, ◌++◌, drop, length, refl, sym, ap, subst, arith, append-nil, append_assoc, length-append}
+use Rattle.std.proofs.Common.{◌≡◌, ◌≢◌, ◌∙◌, ◌+◌, ◌<◌, ◌≤◌, ◌⊎◌, inl, inr, zero, suc, ℕ, Bool, false, if◌then◌else◌, List, [], ◌∷◌, ◌++◌, drop, length, refl, sym, ap, subst, arith, append-nil, append_assoc, length-append}
 use Rattle.std.specs.List.{AllByRecursion, sum_by, fold}
 use Rattle.std.proofs.lemmas.List.Sums.{fold-append, sum_by-append, sum_by-cons, sum_by_push}
 use Rattle.cq_value.proofs.Lists.{all_append, all_weaker}
@@ -14,7 +14,7 @@ use Rattle.cq_history.proofs.Entries.{entries_by, drop_all, drop_within}
 use Rattle.cq_group.specs.Moves.{is_of_move, Parted, with_entry, parted, changed_since, rows_changed}
 use Rattle.cq_reach.specs.Seen.{Seen}
 use Rattle.cq_move_calls.specs.Moving.{Told, ComesAside}
-use Rattle.cq_transfer.specs.Entering.{AreBegun, AreBusy, HasCaught, HasTried, IsBehind, Enters}
+use Rattle.cq_transfer.specs.Entering.{AreBegun, AreBusy, HasCaught, IsBehind}
 use Rattle.cq_transfer.specs.Carrying.{CatchesOnce}
 use Rattle.cq_transfer.proofs.EnterLaws.{enters_none, enters_one, enters_then, told_behind, told_so, told_weaker, step_at}
 

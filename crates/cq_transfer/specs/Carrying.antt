@@ -1,5 +1,5 @@
 -- A move of a group that is held alone or shared: in flight, and what it comes to.
-use Rattle.std.specs.Prelude.{◌≡◌, ◌≤◌, ◌⊎◌, ℕ, List, [], ◌∷◌, ◌++◌, length, vec_capacity}
+use Rattle.std.specs.Prelude.{◌≡◌, ◌≤◌, ◌⊎◌, ℕ, true, List, [], ◌∷◌, ◌++◌, length, vec_capacity}
 use Rattle.std.specs.List.{AllByRecursion, AllZip}
 use Rattle.cq_tree.specs.declared.journal.Who.{Who}
 use Rattle.cq_tree.specs.declared.journal.Entry.{Entry}
@@ -16,9 +16,11 @@ use Rattle.cq_group.specs.Moves.{changed_since, parted}
 use Rattle.cq_reach.specs.Seen.{Seen}
 use Rattle.cq_move_calls.specs.Moving.{ComesAside, IsMover, RefusesStart, TellsAnything, Told}
 use Rattle.cq_move.specs.declared.mover.MoveReport.{MoveReport}
+use Rattle.cq_move.specs.declared.mover.Moved.{Moved}
 use Rattle.cq_move.specs.declared.mover.NotMoved.{NotMoved}
 use Rattle.cq_transfer.specs.Entering.{AreBegun, Enters, HasStopped, IsBehind}
 use Rattle.cq_move.specs.Outcomes.{EndsMove, KeepShards}
+use Rattle.cq_move.specs.Steps.{IsToldBy}
 
 -- a statement's move is in flight: its last entry is the last that is known, and the group's tables come in up to there
 pub record IsMoving {X : Type 0} (state : X → StoreState) (who : Who) (s : Seen) (i : Incoming X) : Type 0 where
@@ -86,6 +88,25 @@ GivesUp comes who old new = (first : Step) → IsBehind who first old → HasGiv
 pub record AreOf {X : Type 0} (state : X → StoreState) (node n : ℕ) (stores : List X) : Type 0 where
   pub many : length stores ≡ n
   pub on : AllByRecursion (λ (x : X). (state x).node ≡ node) stores
+
+-- a move in flight came to its Cutover: it copied the rows that were due, and these are the stores that the group had
+pub record ComesToEnd {X : Type 0} (state : X → StoreState) (comes : Entry → Type 0) (who : Who) (due : ℕ) (m : Moved X) (old new : Seen) : Type 0 where
+  pub copied : m.report.copied ≡ due
+  pub finishes : Finishes comes who m.report old new
+  pub stores : AreOf state (node_of old.journal) (length old.tables) m.stores.items
+
+-- it is handed back: why it was stopped, and the stores that came in
+pub record HandsBack {X : Type 0} (reason : MoveWhy) (given : List X) (e : NotMoved X) : Type 0 where
+  pub begun : e.begun ≡ true
+  pub why : e.why ≡ reason
+  pub stores : e.stores.items ≡ given
+
+-- or to its MoveStop: one of the stores that came in is blamed, or none, and they are handed back as they went on
+pub record ComesToStop {X : Type 0} (state : X → StoreState) (comes : Entry → Type 0) (who : Who) (given : List X) (e : NotMoved X) (old new : Seen) : Type 0 where
+  pub begun : e.begun ≡ true
+  pub gives_up : GivesUp comes who old new
+  pub why : IsToldBy state e.why given e.stores.items
+  pub stores : AllZip (Lifted state GoesOn) given e.stores.items
 
 -- a move that began and was stopped
 pub record IsGivenUp {X : Type 0} (state : X → StoreState) (comes : Entry → Type 0) (who : Who) (from to : ℕ) (given : List X) (e : NotMoved X) (old new : Seen) : Type 0 where

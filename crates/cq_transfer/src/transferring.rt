@@ -83,7 +83,7 @@ fn catch_up_all<S: Store, M: Moves<S>, G: Gate>(
 ///
 /// Conditions: this statement began the move that is in flight, and `incoming` is what comes in in it. Errors: a store that comes in failed, or want of memory; the move
 /// must be stopped.
-pub fn follow<S: Store, M: Moves<S>, G: Gate>(
+pub(crate) fn follow<S: Store, M: Moves<S>, G: Gate>(
     alloc: Global,
     gate: &G,
     moves: &mut M,

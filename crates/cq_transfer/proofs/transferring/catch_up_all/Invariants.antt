@@ -1,4 +1,3 @@
-use Rattle.std.proofs.Common.{◌≡◌}
 use Rattle.cq_transfer.proofs.LoopLaws.{IsLooping}
 use Rattle.cq_transfer.proofs.transferring.catch_up_all.Given as goal
 

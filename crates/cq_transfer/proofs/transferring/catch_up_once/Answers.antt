@@ -1,4 +1,4 @@
-use Rattle.std.proofs.Common.{◌≡◌, inl, inr, subst}
+use Rattle.std.proofs.Common.{inl, inr, subst}
 use Rattle.std.specs.List.{AllZip}
 use Rattle.cq_journal.specs.Stations.{station_of}
 use Rattle.cq_group.specs.Calls.{GoesOn, Lifted}

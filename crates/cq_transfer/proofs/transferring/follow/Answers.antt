@@ -1,9 +1,8 @@
-use Rattle.std.proofs.Common.{◌≡◌, rules}
+use Rattle.std.proofs.Common.{rules}
 use Rattle.cq_journal.specs.Stations.{station_of}
 use Rattle.cq_group.specs.Incoming.{arriving}
 use Rattle.cq_group.proofs.TableLaws.{blames_later}
 use Rattle.cq_group.proofs.IncomingLaws.{can_settle, settled_either, arriving_goes_on}
-use Rattle.cq_move.proofs.StoreLaws.{go_on_twice}
 use Rattle.cq_transfer.proofs.PassLaws as laws
 use Rattle.cq_transfer.proofs.LoopLaws.{later_way}
 use Rattle.cq_transfer.proofs.transferring.follow.Goals as goal
