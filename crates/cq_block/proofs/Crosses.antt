@@ -31,7 +31,12 @@ use Rattle.cq_group.proofs.moving.Moving.TheSendSync as moving
 use Rattle.cq_value.proofs.reserved.Reserved.TheSendSync as reserved
 use Rattle.cq_tree.proofs.journal.Who.TheSendSync as who
 use Rattle.cq_tree.proofs.write.Reply.TheSendSync as reply
-use Rattle.cq_catalog.specs.contracts.catalog.Catalog as Catalog
+use Rattle.cq_block.specs.contracts.legality.Ground as Ground
+use Rattle.cq_block.specs.contracts.session.Hands as Hands
+use Rattle.cq_cluster.specs.contracts.retired.Retired as Retired
+use Rattle.cq_shared.specs.contracts.errand.Errand as Errand
+use Rattle.cq_shared.specs.contracts.worker.Stock as Stock
+use Rattle.cq_store.proofs.worker.Worker.TheSendSync as worker
 use Rattle.cq_cell.specs.contracts.passes.Pass as Pass
 use Rattle.cq_shared.specs.contracts.note.Note as Note
 use Rattle.cq_tree.specs.contracts.journal.EntryKind as EntryKind
@@ -118,13 +123,25 @@ journal_send : IsSend Journal.the_row
 journal_send = declared_send Journal.the_type (search sendable, (search sendable, (search (sendable, reserved.the_send, entry_send), tt)))
 
 group_send : (S : RattleType) → IsSend S → IsSend (GroupState.the_row S)
-group_send S s = declared_send (GroupState.the_type S) (journal_send, (search sendable, (search sendable, (search (sendable, crosses, group_table.the_send S s, s) depth 20, (search (sendable, crosses, s) depth 20, (search (sendable, option.the_send, moving.the_send) depth 20, tt))))))
+group_send S s = declared_send (GroupState.the_type S) (journal_send, (search sendable, (search sendable, (search (sendable, crosses, group_table.the_send S s) depth 20, (search (sendable, crosses, s) depth 20, (search (sendable, option.the_send, moving.the_send) depth 20, tt))))))
 
 pub shard_send : (S C : RattleType) → IsSend S → IsSend (Shard.the_row S C)
 shard_send S C s = declared_send (Shard.the_type S C) (group_send S s, (search sendable, tt))
 
-pass_send : (S : RattleType) → IsSend S → IsSend (Pass.the_row (Shard.the_row S Catalog.the_row) Note.the_row)
-pass_send S s = pass.the_send (Shard.the_row S Catalog.the_row) Note.the_row (shard_send S Catalog.the_row s)
+pass_send : (S : RattleType) → IsSend S → IsSend (Pass.the_row (Shard.the_row S (Ground.the_row S)) Note.the_row)
+pass_send S s = pass.the_send (Shard.the_row S (Ground.the_row S)) Note.the_row (shard_send S (Ground.the_row S) s)
+
+pub stock_send : (S C : RattleType) → IsSend S → IsSend (Stock.the_row S C)
+stock_send S C s = declared_send (Stock.the_type S C) (search (sendable, worker.the_send, s), (search sendable, tt))
+
+bench_send : (S : RattleType) → IsSend S → IsSend (Pass.the_row (Stock.the_row S (Ground.the_row S)) Errand.the_row)
+bench_send S s = pass.the_send (Stock.the_row S (Ground.the_row S)) Errand.the_row (stock_send S (Ground.the_row S) s)
+
+retired_send : (S : RattleType) → IsSend S → IsSend (Retired.the_row S)
+retired_send S s = declared_send (Retired.the_type S) (search (sendable, who.the_send), (search sendable, (search sendable, (search sendable, (search (sendable, s), tt)))))
+
+hands_send : (S : RattleType) → IsSend S → IsSend (Hands.the_row S)
+hands_send S s = declared_send (Hands.the_type S) (search (sendable, crosses, pass_send S s) depth 20, (search (sendable, crosses, bench_send S s) depth 20, (search (sendable, crosses, retired_send S s) depth 20, tt)))
 
 pub session_send : (κ : NamedLft) (S : RattleType) → IsSend S → IsSend (Session.the_row κ S)
-session_send κ S s = declared_send (Session.the_type κ S) (search sendable, (search (sendable, crosses, draft_send κ), (search (sendable, crosses, answered_send), (search (sendable, crosses, pass_send S s) depth 20, tt))))
+session_send κ S s = declared_send (Session.the_type κ S) (search sendable, (search (sendable, crosses, draft_send κ), (search (sendable, crosses, answered_send), (hands_send S s, tt))))

@@ -1,10 +1,10 @@
 -- The drafts of a block.
-use Rattle.std.proofs.Common.{◌≡◌, ◌≢◌, ◌+◌, ◌<◌, ◌≤◌, inl, inr, ℕ, zero, suc, false, List, [], ◌∷◌, ◌++◌, length, take, drop, get_or, map, refl, sym, ◌∙◌, ap, subst, arith, eq-eqb, ne_eqb, Some, Result, Ok, Err}
+use Rattle.std.proofs.Common.{◌≡◌, ◌≢◌, ◌+◌, ◌<◌, ◌≤◌, inl, inr, ℕ, zero, suc, List, [], ◌∷◌, ◌++◌, length, take, drop, get_or, map, refl, sym, ◌∙◌, ap, subst, arith, eq-eqb, ne_eqb, Some, None, Result, Ok, Err}
 use Rattle.std.specs.Prelude.{nat_eq, slice_index_or, IfOk, IfErr}
-use Rattle.std.specs.List.{AllByRecursion, AllZip, list_any}
+use Rattle.std.specs.List.{AllByRecursion, AllZip}
 use Rattle.std.proofs.lemmas.List.{take_more, drop_more, map-append}
 use Rattle.cq_value.proofs.Lists.{all_weaker, all_more}
-use Rattle.cq_value.proofs.Truths.{two_ways, or_neither}
+use Rattle.cq_value.proofs.Truths.{two_ways}
 use Rattle.cq_tree.specs.declared.statement.Statement.{Statement}
 use Rattle.cq_tree.specs.declared.statement.Statement.TheVariants as statement
 use Rattle.cq_catalog.specs.Contents.{Contents}
@@ -19,7 +19,8 @@ use Rattle.cq_session.specs.declared.copying.Reading.{Reading}
 use Rattle.cq_session.specs.Shared.{CanRun, CanAnswer}
 use Rattle.cq_block.specs.declared.drafts.Draft.{Draft}
 use Rattle.cq_block.specs.declared.drafts.SessionDrafts.{SessionDrafts}
-use Rattle.cq_block.specs.Drafts.{of_session, MayStand, IsDraftOf, is_moving, moves_in, HasRoom, IsDrafted, HaveRooms, HaveDrafts, is_move}
+use Rattle.cq_block.specs.Drafts.{of_session, MayStand, IsDraftOf, HasRoom, IsDrafted, HaveRooms, HaveDrafts}
+use Rattle.cq_block.specs.Running.{move_by, move_in}
 
 -- ---- one statement more of a session
 
@@ -138,30 +139,12 @@ have_drafts c ps old new last few low long rooms count h =
 
 -- ---- where no statement is a move, each is a query or a write
 
-plain_runs : (c : Contents) (s : Statement) → MayBeInBlock (Some s) → IsComputable c s → is_moving s ≡ false → CanRun c s
+plain_runs : (c : Contents) (s : Statement) → MayBeInBlock (Some s) → IsComputable c s → move_by s ≡ None → CanRun c s
 plain_runs c (statement.Select q) may can not = can
 plain_runs c (statement.Write op) may can not = can
 plain_runs c (statement.Move shard from to) may can not = absurd (cc not)
 plain_runs c s may can not = absurd may
 
-pub can_answer : (c : Contents) (read : Result Reading Fault) → MayStand c read → moves_in read ≡ false → CanAnswer c read
+pub can_answer : (c : Contents) (read : Result Reading Fault) → MayStand c read → move_in read ≡ None → CanAnswer c read
 can_answer c (Ok r) stands not = plain_runs c r.statement stands.0 stands.1 not
 can_answer c (Err f) stands not = stands
-
--- a statement's draft that can be answered over groups which sessions share
-abbrev pub IsPlainDraft : Contents → Placed → Draft → Type 0
-IsPlainDraft c p d = IsDraftOf c p d × CanAnswer c d.read
-
-plain_drafts : (c : Contents) (ps : List Placed) (ds : List Draft) → AllZip (IsDraftOf c) ps ds → list_any is_move ds ≡ false → AllZip (IsPlainDraft c) ps ds
-plain_drafts c [] [] h none = tt
-plain_drafts c (p ∷ ps) (d ∷ ds) h none = (let both = or_neither (is_move d) (list_any is_move ds) none in ((h.0, can_answer c d.read h.0.stands both.0), plain_drafts c ps ds h.1 both.1))
-plain_drafts c [] (d ∷ ds) h none = absurd h
-plain_drafts c (p ∷ ps) [] h none = absurd h
-
--- so it is for all statements of a block without a move
-pub all_plain : (c : Contents) (ps : List Placed) (sessions : List SessionDrafts) → AllByRecursion (λ (one : SessionDrafts). IsDrafted c ps one.session one) sessions → list_any (λ (one : SessionDrafts). list_any is_move one.drafts.items) sessions ≡ false →
-    AllByRecursion (λ (one : SessionDrafts). AllZip (IsPlainDraft c) (of_session one.session ps) one.drafts.items) sessions
-all_plain c ps [] h none = tt
-all_plain c ps (one ∷ more) h none =
-    let both = or_neither (list_any is_move one.drafts.items) (list_any (λ (x : SessionDrafts). list_any is_move x.drafts.items) more) none in
-    (plain_drafts c (of_session one.session ps) one.drafts.items h.0.drafts both.0, all_plain c ps more h.1 both.1)

@@ -1,5 +1,5 @@
 -- What a session of a block needs to answer a statement over its passes.
-use Rattle.std.proofs.Common.{◌≡◌, ◌≢◌, ◌≤◌, inl, inr, ℕ, zero, suc, true, false, List, [], ◌∷◌, ◌++◌, filter, length, map, refl, sym, ◌∙◌, ap, subst, arith, eq-eqb, Option, Some}
+use Rattle.std.proofs.Common.{◌≡◌, ◌≢◌, ◌≤◌, ◌+◌, inl, inr, ℕ, Bool, cond, zero, suc, true, false, List, [], ◌∷◌, ◌++◌, filter, length, map, refl, sym, ◌∙◌, ap, subst, arith, eq-eqb, Option, Some}
 use Rattle.std.specs.Prelude.{IsSome, None, Result, Ok, Err, nat_eq, not, slice_get, slice_index_or}
 use Rattle.std.specs.List.{AllZip, AllByRecursion}
 use Rattle.std.proofs.lemmas.Bool.{eqb-true}
@@ -23,7 +23,7 @@ use Rattle.cq_planning.specs.Touched.{among}
 use Rattle.cq_store.specs.Stores.{StoreState}
 use Rattle.cq_group.specs.declared.group.GroupState.{GroupState}
 use Rattle.cq_group.specs.Groups.{Outline, shape_at, or_no_shape, journal_of}
-use Rattle.cq_group.specs.Resting.{IsResting}
+use Rattle.cq_group.specs.Resting.{IsResting, journals_of}
 use Rattle.cq_history.specs.Deeds.{Phase}
 use Rattle.cq_history.specs.Faults.{IsShardIn}
 use Rattle.cq_history.specs.Journals.{journal_in}
@@ -51,14 +51,29 @@ use Rattle.cq_shared.proofs.Legal.{stands_legal}
 use Rattle.cq_shared.proofs.Standing.{seen_same}
 use Rattle.cq_shared.specs.Quiet.{GoesOn, GoOn, Blames}
 use Rattle.cq_desk.specs.Desks.{IsReady, IsOfOthers, known_by, outlook_by}
-use Rattle.cq_block_laws.specs.Serving.{Opening, IsPhaseOf}
-use Rattle.cq_block_laws.specs.Sessions.{journals_by, IsPlain, ServesOne}
+use Rattle.cq_block_laws.specs.Serving.{Opening, IsPhaseOf, IsAnsweredBeside}
+use Rattle.cq_block_laws.specs.Sessions.{Hands, PassGoesOn, PassesGoOn, SettlesOne, IsSpared, journals_by, errands_by, known_by as known, ServesOne}
+use Rattle.cq_place_laws.specs.Placing.{is_table, leaves}
+use Rattle.cq_block_laws.specs.Settling.{lost_in}
+use Rattle.cq_block_move.specs.Hands.{IsPassTo, IsBenchTo, AreReady, AreHands, IsOpenedOver}
+use Rattle.cq_cluster.specs.declared.retired.Retired.{Retired}
+use Rattle.cq_cluster.specs.Accounts.{Retires, tells_retired}
+use Rattle.cq_shared.specs.Errands.{WorkerPass}
+use Rattle.cq_store.specs.declared.worker.Worker.{Worker}
+use Rattle.cq_block.specs.declared.legality.Ground.{Ground}
+use Rattle.cq_block.specs.declared.session.Hands.{Hands as HeldHands}
+use Rattle.cq_block.specs.Ground.{terms_of}
+use Rattle.cq_history.specs.Room.{stores_from, stores_to}
+use Rattle.cq_history.specs.Phases.{MayBeInBlock}
+use Rattle.cq_answer.specs.declared.answer.Answer.{Answer}
+use Rattle.std.proofs.lemmas.List.{append-nil}
 use Rattle.cq_block_laws.specs.Laws.{IsNoMove}
-use Rattle.cq_block_laws.proofs.Histories.{map_got, got_map, got_as}
+use Rattle.cq_block_laws.proofs.Places.{map_got, got_map, got_as}
 use Rattle.cq_block_laws.proofs.Served.{quiet_beside}
-use Rattle.cq_block.specs.Running.{IsPassTo, IsOpeningFor, MayRun, IsSeated}
+use Rattle.cq_block.specs.Running.{IsOpeningFor, IsResponse, MayRun, IsSeated, IsPlain, hands_of}
 use Rattle.cq_session.specs.Shared.{CanRun, CanAnswer, CanServe, IsAnsweredOver, bound_of}
 use Rattle.cq_session.specs.declared.copying.Reading.{Reading}
+use Rattle.cq_session.specs.declared.texts.Response.{Response}
 
 -- ---- lists
 
@@ -122,7 +137,7 @@ module _ {X : Type 0} (state : X → StoreState) (c : Contents) (nodes : ℕ) wh
       shards = subst (λ (ts : List Outline). AllByRecursion (λ (w : Outline). IsShardIn c g w.2) ts) (sym h.remains.tables) is.shards;
     }
 
-  module _ (opened : List (GroupState X)) (may : MayRun state c nodes opened) where
+  module _ (rule : Ground X) (opened : List (GroupState X)) (workers : List (Worker X)) (may : MayRun state c nodes rule opened workers) where
     -- the group at a place stood so, since it was opened
     record HasBeen (g : ℕ) (s : Seen) : Type 0 where
       was : GroupState X
@@ -134,7 +149,7 @@ module _ {X : Type 0} (state : X → StoreState) (c : Contents) (nodes : ℕ) wh
 
     been_shaped : (g : ℕ) (s : Seen) → HasBeen g s → IsShaped c nodes g s
     been_shaped g s b = subst (IsShaped c nodes g) (sym b.is)
-        (stands_shaped g b.was b.group b.notes b.stands (all_got (MayShare state IsLegalKind c) opened g b.was may.share b.there).resting (may.whole.shaped.each g (seen_of b.was) (got_map seen_of opened g b.was b.there)))
+        (stands_shaped g b.was b.group b.notes b.stands (all_got (MayShare state (terms_of state) rule) opened g b.was may.share b.there).resting (may.whole.shaped.each g (seen_of b.was) (got_map seen_of opened g b.was b.there)))
 
     been_legal : (g : ℕ) (s : Seen) → HasBeen g s → IsLegal c g s.journal
     been_legal g s b =
@@ -163,11 +178,11 @@ module _ {X : Type 0} (state : X → StoreState) (c : Contents) (nodes : ℕ) wh
         ]
 
     -- a value of the cell to which a pass is
-    shard_been : (g : ℕ) (o : GroupState X) (p : Pass X Contents) → slice_get opened g ≡ Some o → IsPassTo c o p → (a x : Shard X Contents) (l : List Note) → p.place.me.0.origin ≡ Some a → IsShard state IsLegalKind a x l → (s : Seen) → s ≡ seen_of x.group → HasBeen g s
+    shard_been : (g : ℕ) (o : GroupState X) (p : Pass X (Ground X)) → slice_get opened g ≡ Some o → IsPassTo rule o p → (a x : Shard X (Ground X)) (l : List Note) → p.place.me.0.origin ≡ Some a → IsShard state (terms_of state) a x l → (s : Seen) → s ≡ seen_of x.group → HasBeen g s
     shard_been g o p e to a x l origin h s is =
         let same : a ≡ to.shard = (let t : Some a ≡ Some to.shard = sym origin ∙ to.origin in cc) in
-        let group : a.group ≡ o = ap (λ (v : Shard X Contents). v.group) same ∙ to.shared.0 in
-        let ruled : a.rules.value ≡ c = ap (λ (v : Shard X Contents). v.rules.value) same ∙ to.shared.1 in
+        let group : a.group ≡ o = ap (λ (v : Shard X (Ground X)). v.group) same ∙ to.shared.0 in
+        let ruled : a.rules.value.catalog.value ≡ c = ap (λ (v : Shard X (Ground X)). v.rules.value.catalog.value) same ∙ ap (λ (v : Ground X). v.catalog.value) to.shared.1 ∙ may.over.catalog in
         let number : o.journal.group ≡ g = may.numbered g o e in record {
           was = o;
           there = e;
@@ -180,39 +195,42 @@ module _ {X : Type 0} (state : X → StoreState) (c : Contents) (nodes : ℕ) wh
 
 -- ---- a session
 
-module _ {X : Type 0} (state : X → StoreState) (c : Contents) (nodes : ℕ) (cells : List TableId) (numbers : List ℕ) (n : ℕ) (passes : List (Pass X Contents)) (h : IsSeated state c nodes cells numbers n passes) where
-  found_whole : (who : Who) (found : List Seen) → MayFind (outlook_by state IsLegalKind numbers passes who) found → IsWhole c nodes found
-  found_whole who found f = all_whole state c nodes h.opened h.may found (f.count ∙ (length_map known_by passes ∙ zip_long (IsPassTo c) h.opened passes h.to)) each
+module _ {X : Type 0} (state : X → StoreState) (c : Contents) (nodes : ℕ) (cells stalls : List TableId) (numbers : List ℕ) (n : ℕ) (held : HeldHands X) (h : IsSeated state c nodes cells stalls numbers n held) where
+  abbrev passes : List (Pass X (Ground X))
+  passes = held.passes.items
+
+  found_whole : (who : Who) (found : List Seen) → MayFind (outlook_by state (terms_of state) numbers passes who) found → IsWhole c nodes found
+  found_whole who found f = all_whole state c nodes h.hands.rule h.hands.opened h.hands.workers h.may found (f.count ∙ (length_map known_by passes ∙ zip_long (IsPassTo h.hands.rule) h.hands.opened passes h.hands.to)) each
     where
-      each : (g : ℕ) (s : Seen) → slice_get found g ≡ Some s → HasBeen state c nodes h.opened h.may g s
+      each : (g : ℕ) (s : Seen) → slice_get found g ≡ Some s → HasBeen state c nodes h.hands.rule h.hands.opened h.hands.workers h.may g s
       each g s e = elim (f.each g s e) [
         | inl k ↦
             let p = map_got known_by passes g s k in
-            let o = zip_back (IsPassTo c) h.opened passes g p.0 h.to p.1 in
-            let t = (h.ready.own g p.0 p.1).stood in
-            shard_been state c nodes h.opened h.may g o.item p.0 o.there o.holds t.opening t.shard p.0.place.me.0.news t.origin t.stands s
-            (sym p.2 ∙ ((λ i. seen_since (group_of (t.origin i)) p.0.place.me.0.news) ∙ sym (seen_same state (IsLegalKind t.opening.rules.value t.opening.group.journal.group) t.opening.group t.shard.group p.0.place.me.0.news t.stands.stands)))
+            let o = zip_back (IsPassTo h.hands.rule) h.hands.opened passes g p.0 h.hands.to p.1 in
+            let t = (h.hands.passes.own g p.0 p.1).stood in
+            shard_been state c nodes h.hands.rule h.hands.opened h.hands.workers h.may g o.item p.0 o.there o.holds t.opening t.shard p.0.place.me.0.news t.origin t.stands s
+            (sym p.2 ∙ ((λ i. seen_since (group_of (t.origin i)) p.0.place.me.0.news) ∙ sym (seen_same state (IsLegalKind t.opening.rules.value.catalog.value t.opening.group.journal.group) t.opening.group t.shard.group p.0.place.me.0.news t.stands.stands)))
         | inr m ↦
             let b = m.may in
-            let o = zip_back (IsPassTo c) h.opened passes g b.pass h.to b.there in
-            shard_been state c nodes h.opened h.may g o.item b.pass o.there o.holds b.finds.opening b.shard (b.pass.place.me.0.news ++ b.finds.more) b.finds.origin b.finds.stands s b.is
+            let o = zip_back (IsPassTo h.hands.rule) h.hands.opened passes g b.pass h.hands.to b.there in
+            shard_been state c nodes h.hands.rule h.hands.opened h.hands.workers h.may g o.item b.pass o.there o.holds b.finds.opening b.shard (b.pass.place.me.0.news ++ b.finds.more) b.finds.origin b.finds.stands s b.is
       ]
 
-  may_enter : (g : ℕ) (kind : EntryKind) → IsLegalKind c g kind → (p : Pass X Contents) → slice_get passes g ≡ Some p → (r : Contents) → IsRuled p.place r → IsLegalKind r (seen_by p.place).journal.number kind
+  may_enter : (g : ℕ) (kind : EntryKind) → IsLegalKind c g kind → (p : Pass X (Ground X)) → slice_get passes g ≡ Some p → (r : Ground X) → IsRuled p.place r → IsLegalKind r.catalog.value (seen_by p.place).journal.number kind
   may_enter g kind legal p e r ruled =
-      let o = zip_back (IsPassTo c) h.opened passes g p h.to e in
+      let o = zip_back (IsPassTo h.hands.rule) h.hands.opened passes g p h.hands.to e in
       let to = o.holds in
       let same : ruled.0 ≡ to.shard = (let t : Some ruled.0 ≡ Some to.shard = sym ruled.1 ∙ to.origin in cc) in
-      let rule : r ≡ c = sym ruled.2 ∙ ap (λ (v : Shard X Contents). v.rules.value) same ∙ to.shared.1 in
+      let rule : r.catalog.value ≡ c = ap (λ (v : Ground X). v.catalog.value) (sym ruled.2 ∙ ap (λ (v : Shard X (Ground X)). v.rules.value) same ∙ to.shared.1) ∙ h.may.over.catalog in
       let number : (seen_by p.place).journal.number ≡ g =
       (λ i. (seen_since (group_of (to.origin i)) p.place.me.0.news).journal.number) ∙ ap (λ (v : GroupState X). v.journal.group) to.shared.0 ∙ h.may.numbered g o.item o.there in
       subst (λ (v : Contents × ℕ). IsLegalKind v.0 v.1 kind) (λ i. (sym rule i, sym number i)) legal
 
-  pub can_serve : (who : Who) → who.session ≡ n → CanServe c nodes who (outlook_by state IsLegalKind numbers passes who)
+  pub can_serve : (who : Who) → who.session ≡ n → CanServe c nodes who (outlook_by state (terms_of state) numbers passes who)
   can_serve who own = record {
     some = h.may.some;
     keyed = h.may.keyed;
-    few = (let k = length_map known_by passes in let m = zip_long (IsPassTo c) h.opened passes h.to in let f = h.may.few in omega (arith, k, m, f));
+    few = (let k = length_map known_by passes in let m = zip_long (IsPassTo h.hands.rule) h.hands.opened passes h.hands.to in let f = h.may.few in omega (arith, k, m, f));
     whole = found_whole who;
     may = λ g kind legal p e r ruled. may_enter g kind legal p e r ruled;
     phase = record { journals = []; beside = []; sessions = filter (λ u. not (nat_eq u who.session)) numbers };
@@ -220,23 +238,57 @@ module _ {X : Type 0} (state : X → StoreState) (c : Contents) (nodes : ℕ) (c
   }
 
   -- passes that went on
-  module _ (new : List (Pass X Contents)) (on : GoOn passes new) where
-    old_of : (g : ℕ) (q : Pass X Contents) → slice_get new g ≡ Some q → (p : Pass X Contents) × (slice_get passes g ≡ Some p) × GoesOn p.place q.place
-    old_of g q e = (let p = got_as new passes g q on.count e in (p.0, p.1, on.each g p.0 q p.1 e))
+  module _ (new : HeldHands X) (on : GoOn passes new.passes.items) (benches : new.benches ≡ held.benches) where
+    old_of : (g : ℕ) (q : Pass X (Ground X)) → slice_get new.passes.items g ≡ Some q → (p : Pass X (Ground X)) × (slice_get passes g ≡ Some p) × GoesOn p.place q.place
+    old_of g q e = (let p = got_as new.passes.items passes g q on.count e in (p.0, p.1, on.each g p.0 q p.1 e))
 
-    pub still_seated : (cells' : List TableId) (numbers' : List ℕ) → IsReady state IsLegalKind cells' numbers' new n → IsSeated state c nodes cells numbers n new
+    pub still_seated : (cells' : List TableId) (numbers' : List ℕ) → IsReady state (terms_of state) cells' numbers' new.passes.items n → IsSeated state c nodes cells stalls numbers n new
     still_seated cells' numbers' ready = record {
-      opened = h.opened;
-      may = h.may;
-      to = zip_on (IsPassTo c) h.opened passes new h.to on.count (λ i x y z e f to. record { shard = to.shard; origin = (on.each i y z e f).same.2 ∙ to.origin; shared = to.shared });
-      ready = record {
-        at = record {
-          count = on.count ∙ h.ready.at.count;
-          each = λ k z q e f. (let p = old_of k q f in let a = h.ready.at.each k z p.0 e p.1 in (p.2.same.0 ∙ a.0, a.1));
+      hands = record {
+        rule = h.hands.rule;
+        opened = h.hands.opened;
+        workers = h.hands.workers;
+        ground = h.hands.ground;
+        to = zip_on (IsPassTo h.hands.rule) h.hands.opened passes new.passes.items h.hands.to on.count (λ i x y z e f to. record { shard = to.shard; origin = (on.each i y z e f).same.2 ∙ to.origin; shared = to.shared });
+        to_workers = subst (AllZip (IsBenchTo h.hands.rule) h.hands.workers) (sym (ap (λ v. v.items) benches)) h.hands.to_workers;
+        passes = record {
+          at = record {
+            count = on.count ∙ h.hands.passes.at.count;
+            each = λ k z q e f. (let p = old_of k q f in let a = h.hands.passes.at.each k z p.0 e p.1 in (p.2.same.0 ∙ a.0, a.1));
+          };
+          own = λ g q e. (let p = old_of g q e in let o = h.hands.passes.own g p.0 p.1 in record { rests = (ready.own g q e).rests; stood = (ready.own g q e).stood; numbered = o.numbered ∙ sym p.2.same.3; block = p.2.same.4 ∙ o.block });
         };
-        own = λ g q e. (let p = old_of g q e in let o = h.ready.own g p.0 p.1 in record { rests = (ready.own g q e).rests; stood = (ready.own g q e).stood; numbered = o.numbered ∙ sym p.2.same.3; block = p.2.same.4 ∙ o.block });
+        benches = subst (AreReady state (terms_of state) stalls numbers n) (sym (ap (λ v. v.items) benches)) h.hands.benches;
       };
+      may = h.may;
     }
+
+  -- a move's passes went on
+  pub moved_seated : (new : HeldHands X) → AreHands state (terms_of state) c nodes cells stalls numbers n (hands_of new) → PassesGoOn passes new.passes.items → PassesGoOn held.benches.items new.benches.items → IsSeated state c nodes cells stalls numbers n new
+  moved_seated new now on beside = record {
+    hands = record {
+      rule = h.hands.rule;
+      opened = h.hands.opened;
+      workers = h.hands.workers;
+      ground = h.hands.ground;
+      to = zip_on (IsPassTo h.hands.rule) h.hands.opened passes new.passes.items h.hands.to on.count (λ i x y z e f to. record { shard = to.shard; origin = (on.each i y z e f).same.2 ∙ to.origin; shared = to.shared });
+      to_workers = zip_on (IsBenchTo h.hands.rule) h.hands.workers held.benches.items new.benches.items h.hands.to_workers beside.count (λ i x y z e f to. record { stock = to.stock; origin = (beside.each i y z e f).same.2 ∙ to.origin; shared = to.shared });
+      passes = now.passes;
+      benches = now.benches;
+    };
+    may = h.may;
+  }
+
+  -- a block that may be opened so
+  abbrev pub opening : Settings → Opening
+  opening settings = record { environment = environment_at c settings []; journals = journals_of h.hands.opened; sessions = numbers }
+
+  pub opens : (settings : Settings) → IsOpenedOver c numbers (opening settings)
+  opens settings = record {
+    catalog = refl;
+    sessions = refl;
+    groups = (let count = h.may.whole.shaped.count in let k = length_map seen_of h.hands.opened in let m = length_map journal_of h.hands.opened in omega (arith, count, k, m));
+  }
 
 -- ---- an answer
 
@@ -244,6 +296,12 @@ run_plain : (c : Contents) (s : Statement) → CanRun c s → IsPlain (Some s)
 run_plain c (statement.Select q) can = tt
 run_plain c (statement.Write op) can = tt
 run_plain c s can = absurd can
+
+plain_may : (bound : Option Statement) → IsPlain bound → MayBeInBlock bound
+plain_may None plain = tt
+plain_may (Some (statement.Select q)) plain = tt
+plain_may (Some (statement.Write op)) plain = tt
+plain_may (Some s) plain = absurd plain
 
 pub can_plain : (c : Contents) (read : Result Reading Fault) → CanAnswer c read → IsPlain (bound_of read)
 can_plain c (Ok r) can = run_plain c r.statement can
@@ -254,27 +312,87 @@ plain_stays None plain = tt
 plain_stays (Some (statement.Move shard from to)) plain = absurd plain
 plain_stays bound plain = tt
 
+-- a query or a write moves no group, and loses no store
+none_moved : (bound : Option Statement) (b : Bool) (c : Contents) (node : ℕ) → IsPlain bound → (cond b (stores_from c node bound) 0 ≡ 0) × (cond b (stores_to c node bound) 0 ≡ 0)
+none_moved None true c node plain = (refl, refl)
+none_moved None false c node plain = (refl, refl)
+none_moved (Some (statement.Select q)) true c node plain = (refl, refl)
+none_moved (Some (statement.Select q)) false c node plain = (refl, refl)
+none_moved (Some (statement.Write op)) true c node plain = (refl, refl)
+none_moved (Some (statement.Write op)) false c node plain = (refl, refl)
+none_moved (Some s) b c node plain = absurd plain
+
+none_lost : (node : ℕ) (a : Answer) → tells_retired a ≡ false → lost_in node a ≡ 0
+none_lost node (answer.Failed (fault.Retired failure)) stays = absurd (cc)
+none_lost node (answer.Failed f) stays = refl
+none_lost node (answer.Tag t) stays = refl
+none_lost node (answer.Table names rows) stays = refl
+
+retires_none : {X : Type 0} (who : Who) (a : Answer) (old new : List (Retired X)) → tells_retired a ≡ false → new ≡ old → Retires who a old new
+retires_none who (answer.Failed (fault.Retired failure)) old new stays same = absurd (cc)
+retires_none who (answer.Failed f) old new stays same = same
+retires_none who (answer.Tag t) old new stays same = same
+retires_none who (answer.Table names rows) old new stays same = same
+
+same_pass : {A : Type 0} (xs : List A) (at : ℕ) (p q : A) → slice_get xs at ≡ Some p → slice_get xs at ≡ Some q → q ≡ p
+same_pass xs at p q was is = (let e : Some q ≡ Some p = sym is ∙ was in cc)
+
 module _ {X : Type 0} where
-  journals_known : (passes : List (Pass X Contents)) → journals_in (map known_by passes) ≡ journals_by passes
+  journals_known : (passes : List (Pass X (Ground X))) → journals_in (map known_by passes) ≡ journals_by passes
   journals_known [] = refl
   journals_known (p ∷ passes) = ap (λ v. (known_by p).journal ∷ v) (journals_known passes)
 
-  module _ (state : X → StoreState) (c : Contents) (nodes : ℕ) (settings : Settings) (numbers : List ℕ) (a : Answered) (old new : List (Pass X Contents)) where
-    beside : IsAnsweredOver c nodes settings (who_of a) (outlook_by state IsLegalKind numbers old (who_of a)) (outlook_by state IsLegalKind numbers new (who_of a)) a.bound a.answer →
+  passes_go_on : (old new : List (Pass X (Ground X))) → GoOn old new → PassesGoOn old new
+  passes_go_on old new on = record { count = on.count; each = λ at p q was is. (let g = on.each at p q was is in record { same = g.same; notes = g.notes; mine = g.mine }) }
+
+  benches_stay : (benches : List (WorkerPass X (Ground X))) → PassesGoOn benches benches
+  benches_stay benches = record {
+    count = refl;
+    each = λ at p q was is. subst (λ (v : WorkerPass X (Ground X)). PassGoesOn p v) (sym (same_pass benches at p q was is))
+        (record { same = (refl, refl, refl, refl, refl); notes = []; mine = sym (append-nil p.place.me.0.mine) });
+  }
+
+  module _ (state : X → StoreState) (c : Contents) (nodes : ℕ) (settings : Settings) (numbers : List ℕ) (a : Answered) (old new : HeldHands X) where
+    beside : IsAnsweredOver c nodes settings (who_of a) (outlook_by state (terms_of state) numbers old.passes.items (who_of a)) (outlook_by state (terms_of state) numbers new.passes.items (who_of a)) a.bound a.answer →
         (o : Opening) → IsOpeningFor c settings numbers o → (run : Run) → run.workers ≡ nodes → (p : Phase) → IsPhaseOf o a.session p →
-        IsAnsweredIn rules run o.environment (after o.environment a.bound a.answer) p (who_of a) (journals_by old) (journals_by new) a.bound a.answer
+        IsAnsweredIn rules run o.environment (after o.environment a.bound a.answer) p (who_of a) (journals_by old.passes.items) (journals_by new.passes.items) a.bound a.answer
     beside h o for run of p is =
         let e : Environment = environment_at c settings for.retired in
         let k = h p (others_come p (who_of a) numbers (is.sessions ∙ ap (filter (λ u. not (nat_eq u a.session))) for.sessions)) run for.retired of in
-        subst (λ (v : Environment). IsAnsweredIn rules run v (after v a.bound a.answer) p (who_of a) (journals_by old) (journals_by new) a.bound a.answer) (sym for.environment)
-        (subst (λ (v : Environment). IsAnsweredIn rules run e v p (who_of a) (journals_by old) (journals_by new) a.bound a.answer) (sym k.leads)
-        (subst (λ (v : List Journal × List Journal). IsAnsweredIn rules run e e p (who_of a) v.0 v.1 a.bound a.answer) (λ i. (journals_known old i, journals_known new i)) k))
+        subst (λ (v : Environment). IsAnsweredIn rules run v (after v a.bound a.answer) p (who_of a) (journals_by old.passes.items) (journals_by new.passes.items) a.bound a.answer) (sym for.environment)
+        (subst (λ (v : Environment). IsAnsweredIn rules run e v p (who_of a) (journals_by old.passes.items) (journals_by new.passes.items) a.bound a.answer) (sym k.leads)
+        (subst (λ (v : List Journal × List Journal). IsAnsweredIn rules run e e p (who_of a) v.0 v.1 a.bound a.answer) (λ i. (journals_known old.passes.items i, journals_known new.passes.items i)) k))
 
-    pub serves_one : IsAnsweredOver c nodes settings (who_of a) (outlook_by state IsLegalKind numbers old (who_of a)) (outlook_by state IsLegalKind numbers new (who_of a)) a.bound a.answer → IsPlain a.bound → GoOn old new →
-        ((f : StoreFailure) → a.answer ≡ answer.Failed (fault.Worker f) → Blames (who_of a) f old new) → (o : Opening) → IsOpeningFor c settings numbers o → ServesOne rules nodes o a old new
-    serves_one h plain on blames o for = record {
-      answered = λ run of. quiet_beside rules run o a (journals_by old) (journals_by new) (λ at. []) (plain_stays a.bound plain) (beside h o for run of);
-      plain = plain;
-      goes_on = on;
-      blames = blames;
-    }
+    -- a query or a write, as it is answered over the passes, and leaves the rest of the hands
+    pub serves_one : IsAnsweredOver c nodes settings (who_of a) (outlook_by state (terms_of state) numbers old.passes.items (who_of a)) (outlook_by state (terms_of state) numbers new.passes.items (who_of a)) a.bound a.answer → IsPlain a.bound →
+        tells_retired a.answer ≡ false → GoOn old.passes.items new.passes.items → ((f : StoreFailure) → a.answer ≡ answer.Failed (fault.Worker f) → Blames (who_of a) f old.passes.items new.passes.items) →
+        new.benches ≡ old.benches → new.retired ≡ old.retired → (o : Opening) → IsOpeningFor c settings numbers o → ServesOne state (terms_of state) rules nodes o a (hands_of old) (hands_of new)
+    serves_one h plain stays on blames benches retired o for =
+        let bs : new.benches.items ≡ old.benches.items = ap (λ v. v.items) benches in
+        let rs : new.retired.items ≡ old.retired.items = ap (λ v. v.items) retired in
+        record {
+          answered = λ run of free.
+              subst (λ (v : List (WorkerPass X (Ground X))). IsAnsweredBeside rules run o a (known (hands_of old)) (record { journals = journals_by new.passes.items; errands = errands_by v })) (sym bs)
+              (quiet_beside rules run o a (journals_by old.passes.items) (journals_by new.passes.items) (errands_by old.benches.items) (plain_stays a.bound plain) (beside h o for run of));
+          allowed = plain_may a.bound plain;
+          goes_on = passes_go_on old.passes.items new.passes.items on;
+          benches = subst (PassesGoOn old.benches.items) (sym bs) (benches_stay old.benches.items);
+          settles = λ at p q was is.
+              let same : q ≡ p = same_pass old.benches.items at p q was (subst (λ (v : List (WorkerPass X (Ground X))). slice_get v at ≡ Some q) bs is) in
+              let moved = none_moved a.bound (is_table a.answer) o.environment.catalog (at + 1) plain in
+              let out = moved.0 in
+              let back = moved.1 in
+              let none = none_lost (at + 1) a.answer stays in
+              subst (λ (v : WorkerPass X (Ground X)). SettlesOne o (at + 1) a p v) (sym same) (omega (arith, out, back, none));
+          blames = blames;
+          retires = retires_none (who_of a) a.answer old.retired.items new.retired.items stays rs;
+          fresh = λ r under all. subst (AllByRecursion (IsSpared state (terms_of state) r)) (sym rs) all;
+        }
+
+    -- the same, by the response
+    pub serves_by : (who : Who) (r : Response) → IsResponse who settings r a → IsAnsweredOver c nodes settings who (outlook_by state (terms_of state) numbers old.passes.items who) (outlook_by state (terms_of state) numbers new.passes.items who) r.bound r.answer → IsPlain r.bound →
+        tells_retired r.answer ≡ false → GoOn old.passes.items new.passes.items → ((f : StoreFailure) → r.answer ≡ answer.Failed (fault.Worker f) → Blames who f old.passes.items new.passes.items) →
+        new.benches ≡ old.benches → new.retired ≡ old.retired → (o : Opening) → IsOpeningFor c settings numbers o → ServesOne state (terms_of state) rules nodes o a (hands_of old) (hands_of new)
+    serves_by who r is h plain stays on blames =
+        let answered = subst (λ (v : Who × Option Statement × Answer). IsAnsweredOver c nodes settings v.0 (outlook_by state (terms_of state) numbers old.passes.items v.0) (outlook_by state (terms_of state) numbers new.passes.items v.0) v.1 v.2) (λ i. (sym is.by i, sym is.bound i, sym is.answer i)) h in
+        serves_one answered (subst IsPlain (sym is.bound) plain) (ap tells_retired is.answer ∙ stays) on (λ f e. subst (λ (w : Who). Blames w f old.passes.items new.passes.items) (sym is.by) (blames f (sym is.answer ∙ e)))

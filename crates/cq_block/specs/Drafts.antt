@@ -1,8 +1,6 @@
 -- The statements of a block, as they are read before its sessions run.
-use Rattle.std.specs.Prelude.{◌≡◌, ◌≤◌, ◌<◌, ℕ, Bool, true, false, List, [], filter, length, nat_eq, Some, Result, Ok, Err, map, vec_capacity}
+use Rattle.std.specs.Prelude.{◌≡◌, ◌≤◌, ◌<◌, ℕ, List, [], filter, length, nat_eq, Some, Result, Ok, Err, map, vec_capacity}
 use Rattle.std.specs.List.{AllByRecursion, AllZip}
-use Rattle.cq_tree.specs.declared.statement.Statement.{Statement}
-use Rattle.cq_tree.specs.declared.statement.Statement.TheVariants.{Move}
 use Rattle.cq_catalog.specs.Contents.{Contents}
 use Rattle.cq_answer.specs.declared.fault.Fault.{Fault}
 use Rattle.cq_history.specs.Computable.{IsComputable}
@@ -31,18 +29,6 @@ pub record IsDraftOf (c : Contents) (p : Placed) (d : Draft) : Type 0 where
   pub placed : d.placed.now ≡ p
   pub reads : IsReadAs p.session p.item.text p.item.copied c.tables d.read
   pub stands : MayStand c d.read
-
--- whether it is the move of a shard group
-abbrev pub is_moving : Statement → Bool
-is_moving (Move shard from to) = true
-is_moving s = false
-
-abbrev pub moves_in : Result Reading Fault → Bool
-moves_in (Ok r) = is_moving r.statement
-moves_in (Err f) = false
-
-abbrev pub is_move : Draft → Bool
-is_move d = moves_in d.read
 
 -- ---- a session
 

@@ -1,3 +1,4 @@
 pub mod Drafts
+pub mod Ground
 pub mod Running
 pub mod Seating

@@ -1,15 +1,14 @@
 ghost use Rattle.std.specs.Prelude.{◌≡◌, ◌≤◌, ◌<◌, ℕ, List, length, vec_len, vec_capacity, slice_index_or, IfOk, All};
-ghost use Rattle.std.specs.List.{AllByRecursion, list_any};
+ghost use Rattle.std.specs.List.{AllByRecursion};
 ghost use Rattle.cq_catalog.specs.Whole.{IsWhole};
 ghost use Rattle.cq_bound_laws.specs.Laws.{HasColumns};
 ghost use Rattle.cq_script.specs.Directives.{IsSession};
-ghost use Rattle.cq_block.specs.Drafts.{of_session, is_move, HasRoom, IsDrafted, HaveRooms, HaveDrafts};
+ghost use Rattle.cq_block.specs.Drafts.{of_session, HasRoom, IsDrafted, HaveRooms, HaveDrafts};
 
 use cq_answer::Fault;
 use cq_catalog::Catalog;
 use cq_script::{MOST_SESSIONS, Placed};
 use cq_session::{Reading, read};
-use cq_tree::Statement;
 use cq_value::NoMemory;
 use std::alloc::Global;
 use std::thread;
@@ -27,33 +26,6 @@ pub struct Draft<'a> {
 pub struct SessionDrafts<'a> {
     pub session: u32,
     pub drafts: Vec<Draft<'a>>,
-}
-
-/// Whether a statement is the move of a shard group.
-fn is_moving(draft: &Draft<'_>) -> bool
-    ensures { result ≡ is_move draft.now }
-{
-    match &draft.read {
-        Ok(reading) => match reading.statement {
-            Statement::Move { .. } => true,
-            _ => false,
-        },
-        Err(_) => false,
-    }
-}
-
-/// Whether a statement of a session is the move of a shard group.
-fn has_move(session: &SessionDrafts<'_>) -> bool
-    ensures { result ≡ list_any is_move session.now.drafts.items }
-{
-    session.drafts.iter().any(|draft| is_moving(draft))
-}
-
-/// Whether a statement of a block is the move of a shard group.
-pub fn moves(sessions: &[SessionDrafts<'_>]) -> bool
-    ensures { result ≡ list_any (λ one. list_any is_move one.drafts.items) sessions.now }
-{
-    sessions.iter().any(|session| has_move(session))
 }
 
 /// The highest session of a block's statements.

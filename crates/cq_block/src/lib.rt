@@ -1,4 +1,4 @@
-//! The sessions of a parallel block that has no move: their statements are answered over the shard groups that they share, on threads of their own.
+//! The sessions of a parallel block: their statements are answered over the shard groups and the workers that they share, on threads of their own.
 #![tactic(auto)]
 
 mod drafts;
@@ -7,6 +7,6 @@ mod running;
 mod seating;
 mod session;
 
-pub use drafts::{Draft, SessionDrafts, moves, read_block};
-pub use legality::OfCatalog;
-pub use running::run_sessions;
+pub use drafts::{Draft, SessionDrafts, read_block};
+pub use legality::{Ground, OfGround};
+pub use running::{Shares, run_sessions};

@@ -14,12 +14,11 @@ use Rattle.cq_history.specs.Laws.{StoreGoesOn}
 use Rattle.cq_group.specs.Calls.{GoesOn, Lifted, SomeZip, Failed}
 use Rattle.cq_cluster.proofs.AnswerLaws.{IsOther, AreKeyed}
 use Rattle.cq_block_accounts.proofs.Blocks.{climbs_from}
-use Rattle.cq_block_accounts.proofs.Staying.{plain_whole}
+use Rattle.cq_block_accounts.proofs.Staying.{CutsNone}
 use Rattle.cq_block_accounts.proofs.Parts.{IsPart}
 use Rattle.cq_shared.specs.declared.note.Note.{Note}
 use Rattle.cq_shared.specs.declared.note.Note.TheVariants as note
 use Rattle.cq_shared.specs.Notes.{Went}
-use Rattle.cq_shared.specs.Quiet.{IsQuiet}
 
 -- ---- climbing
 
@@ -122,12 +121,6 @@ module _ {X : Type 0} (state : X → StoreState) where
   keyed_on (x ∷ xs) [] all keyed = absurd all
   keyed_on (x ∷ xs) (y ∷ ys) all keyed = (other_on x y xs ys all.0 all.1 keyed.0, keyed_on xs ys all.1 keyed.1)
 
-  shards_on : (P : ℕ → Type 0) (xs ys : List X) → AllZip (Lifted state GoesOn) xs ys → AllByRecursion (λ x. P (state x).shard) xs → AllByRecursion (λ x. P (state x).shard) ys
-  shards_on P [] [] all p = tt
-  shards_on P [] (y ∷ ys) all p = absurd all
-  shards_on P (x ∷ xs) [] all p = absurd all
-  shards_on P (x ∷ xs) (y ∷ ys) all p = (subst P (sym (stays_on (state x) (state y) all.0).shard) p.0, shards_on P xs ys all.1 p.1)
-
   abbrev AreTold : List Note → List X → List X → Type 0
   AreTold notes xs ys = AllZip (λ x y. NotesTell notes (state x) (state y)) xs ys
 
@@ -164,28 +157,16 @@ module _ {X : Type 0} (state : X → StoreState) where
       | inr later ↦ (one_stays who f notes (state x) (state m) (state y) on.0 told.0 (not_named f (state x) (apart x xs ms keyed.0 later)), some_fails xs ms ys on.1 told.1 keyed.1 later)
     ]
 
-  -- stores that became others over notes of reads and writes alone
-  pub notes_tell : (notes : List Note) (xs ys : List X) → AllByRecursion IsQuiet notes → AreKeyed state xs → Went state xs notes ys → AllZip (λ x y. NotesTell notes (state x) (state y)) xs ys
-  notes_tell [] xs ys quiet keyed went = at_first xs ys went
-  notes_tell (note.Entered e ∷ notes) xs ys quiet keyed went =
-      entered xs ys (notes_tell notes xs ys quiet.1 keyed (subst (λ v. Went state v notes ys) (went.1 (plain_whole e.kind quiet.0)) went.2))
+  -- stores that became others over notes with no cutover among them
+  pub notes_tell : (notes : List Note) (xs ys : List X) → AllByRecursion CutsNone notes → AreKeyed state xs → Went state xs notes ys → AllZip (λ x y. NotesTell notes (state x) (state y)) xs ys
+  notes_tell [] xs ys none keyed went = at_first xs ys went
+  notes_tell (note.Entered e ∷ notes) xs ys none keyed went =
+      entered xs ys (notes_tell notes xs ys none.1 keyed (subst (λ v. Went state v notes ys) (went.1 none.0) went.2))
     where
       entered : (us vs : List X) → AreTold notes us vs → AreTold (note.Entered e ∷ notes) us vs
       entered [] [] told = tt
       entered [] (v ∷ vs) told = absurd told
       entered (u ∷ us) [] told = absurd told
       entered (u ∷ us) (v ∷ vs) told = (record { on = told.0.on; climbs = told.0.climbs; steady = told.0.steady }, entered us vs told.1)
-  notes_tell (note.Failed who f ∷ notes) xs ys quiet keyed went =
-      some_fails who f notes xs went.0 ys went.1 (notes_tell notes went.0 ys quiet.1 (keyed_on xs went.0 went.1 keyed) went.3) keyed went.2
-
-  -- ---- the shards that failed
-
-  failed_shard : (f : StoreFailure) (P : ℕ → Type 0) (xs ys : List X) → SomeZip (Lifted state (Failed f)) xs ys → AllByRecursion (λ x. P (state x).shard) xs → P f.shard
-  failed_shard f P [] ys some all = absurd some
-  failed_shard f P (x ∷ xs) [] some all = absurd some
-  failed_shard f P (x ∷ xs) (y ∷ ys) some all = elim some [ inl h ↦ subst P h.of_shard all.0 | inr later ↦ failed_shard f P xs ys later all.1 ]
-
-  pub shards_failed : (P : ℕ → Type 0) (notes : List Note) (xs ys : List X) → AllByRecursion IsQuiet notes → AllByRecursion (λ x. P (state x).shard) xs → Went state xs notes ys → AllByRecursion (IsOfFailed P) notes
-  shards_failed P [] xs ys quiet all went = tt
-  shards_failed P (note.Entered e ∷ notes) xs ys quiet all went = (tt, shards_failed P notes xs ys quiet.1 all (subst (λ v. Went state v notes ys) (went.1 (plain_whole e.kind quiet.0)) went.2))
-  shards_failed P (note.Failed who f ∷ notes) xs ys quiet all went = (failed_shard f P xs went.0 went.2 all, shards_failed P notes went.0 ys quiet.1 (shards_on P xs went.0 went.1 all) went.3)
+  notes_tell (note.Failed who f ∷ notes) xs ys none keyed went =
+      some_fails who f notes xs went.0 ys went.1 (notes_tell notes went.0 ys none.1 (keyed_on xs went.0 went.1 keyed) went.3) keyed went.2

@@ -61,9 +61,18 @@ module _ {X : Type 0} where
       answered_low e of = subst (λ (w : Who). w.statement ≤ most) of.is (all_at (λ (a : Answered). a.statement ≤ most) answers of.place of.answered early of.there)
 
   pub sessions_are_new : SessionsAreNew X
-  sessions_are_new rules run before past answers e groups count given sessions whole are =
-      let all = past ++ answers in (
-        distinct (length all + 1) count given 1 sessions are,
-        no_movers answers (answers_of sessions) groups (length all) whole.log.of_answers (all_right (λ (a : Answered). a.statement ≤ length all) past answers whole.complete)
-            (each_answer (length all + 1) count given (λ (a : Answered). length all < a.statement) 1 sessions (λ s a l of. (let h = of.low in omega (arith, h))) are),
-      )
+  sessions_are_new rules run before past answers e groups count given sessions whole are = record {
+    distinct = distinct (length all + 1) count given 1 sessions are;
+    movers = no_movers answers (answers_of sessions) groups (length all) whole.log.of_answers early late;
+    numbers = all_weaker (λ (a : Answered). length all < a.statement) (λ (a : Answered). AllByRecursion (λ (b : Answered). b.statement ≢ a.statement) answers)
+        (λ a l. all_weaker (λ (b : Answered). b.statement ≤ length all) (λ (b : Answered). b.statement ≢ a.statement) (λ b le same. omega (arith, l, le, same)) answers early) (answers_of sessions) late;
+  }
+    where
+      all : List Answered
+      all = past ++ answers
+
+      early : AllByRecursion (λ (a : Answered). a.statement ≤ length all) answers
+      early = all_right (λ (a : Answered). a.statement ≤ length all) past answers whole.complete
+
+      late : AllByRecursion (λ (a : Answered). length all < a.statement) (answers_of sessions)
+      late = each_answer (length all + 1) count given (λ (a : Answered). length all < a.statement) 1 sessions (λ s a l of. (let h = of.low in omega (arith, h))) are

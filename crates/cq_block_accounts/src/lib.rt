@@ -1,10 +1,10 @@
-//! What a parallel block leaves of the accounts of a cluster: the counts of faults and the retired stores. Definitions in `specs/`; a law is the contract of
-//! a function that does nothing.
+//! What a parallel block leaves of a cluster and of its accounts: the groups and workers, the counts of faults and the retired stores. Definitions in
+//! `specs/`; a law is the contract of a function that does nothing.
 #![tactic(auto)]
 
 ghost use Rattle.cq_block_accounts.specs.Accounts.{BlockIsAccounted, RetiredOn, SessionsRetire, BlockRetires};
-ghost use Rattle.cq_block_accounts.specs.Cluster.{GroupsMayBeShared, BlockLeavesGroups, BlockLeavesEnvironment, BlockLeavesCluster};
-ghost use Rattle.cq_block_accounts.specs.Blames.{BlockTells, BlockNamesBelow, SessionsAreNew, RetiresNone};
+ghost use Rattle.cq_block_accounts.specs.Cluster.{ClusterMayBeShared, WorkersAreFree, BlockLeavesCluster, ClosedMayRetire};
+ghost use Rattle.cq_block_accounts.specs.Blames.{BlockTells, BlockNamesBelow, SessionsAreNew};
 
 use cq_shared::Legality;
 use cq_store::Store;
@@ -17,19 +17,18 @@ pub fn cluster_laws<S: Store>()
     ensures environment { BlockRetires S }
 {}
 
-/// The groups of a cluster between two phases may be shared by sessions, and the cluster to which they come back is sound, has all its stores, and keeps its
-/// steady nodes. Does nothing.
+/// The groups of a cluster between two phases, and the workers of the run, may be shared by sessions, and the cluster to which they come back is sound, has
+/// all its stores, and keeps its steady nodes. Of a closed block's statements moves alone retire stores. Does nothing.
 pub fn sharing_laws<S: Store, C, L: Legality<C>>()
-    ensures share { GroupsMayBeShared S.state }
-    ensures groups { BlockLeavesGroups S.state C L.allows }
-    ensures environment { BlockLeavesEnvironment S.state C L.allows }
-    ensures cluster { BlockLeavesCluster S.state C L.allows }
+    ensures share { ClusterMayBeShared S.state C L.terms }
+    ensures free { WorkersAreFree S.state }
+    ensures cluster { BlockLeavesCluster S.state C L.terms }
+    ensures retires { ClosedMayRetire }
 {}
 
-/// The answers of a block of reads and writes tell of the groups' stores, and of no retired one. Does nothing.
+/// The answers of a block tell of the stores of the groups that it didn't move. Does nothing.
 pub fn telling_laws<S: Store, C, L: Legality<C>>()
-    ensures tells { BlockTells S.state C L.allows }
-    ensures below { BlockNamesBelow S.state C L.allows }
+    ensures tells { BlockTells S.state C L.terms }
+    ensures below { BlockNamesBelow S.state C L.terms }
     ensures new { SessionsAreNew S }
-    ensures none { RetiresNone S }
 {}

@@ -4,5 +4,10 @@ pub mod Rooms
 pub mod Served
 pub mod Phases
 pub mod Still
+pub mod Places
+pub mod Cells
 pub mod Histories
+pub mod Starting
 pub mod Closed
+pub mod Settled
+pub mod Retiring

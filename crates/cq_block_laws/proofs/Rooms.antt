@@ -21,7 +21,7 @@ use Rattle.cq_block_laws.specs.Closing.{AreApart}
 
 -- ---- sums in which a term may come in once more
 
-abbrev AtMostOne : {X : Type 0} → (X → Bool) → List X → Type 0
+abbrev pub AtMostOne : {X : Type 0} → (X → Bool) → List X → Type 0
 AtMostOne t [] = ⊤
 AtMostOne t (x ∷ xs) = (t x ≡ true → AllByRecursion (λ y. t y ≡ false) xs) × AtMostOne t xs
 
@@ -44,7 +44,7 @@ module _ {X : Type 0} (t : X → Bool) (v : ℕ) (g k : X → ℕ) (yes : (x : X
       let d : g x ≤ k x = elim (two_ways (t x)) [ inl y ↦ (let e : k x ≡ v + g x = yes x y in omega (arith, e)) | inr n ↦ (let e : k x ≡ g x = no x n in omega (arith, e)) ] in
       omega (arith, a, b, c, d)
 
-  one_more : (xs : List X) → list_any t xs ≡ true → v + sum_by g xs ≤ sum_by k xs
+  pub one_more : (xs : List X) → list_any t xs ≡ true → v + sum_by g xs ≤ sum_by k xs
   one_more [] any = absurd (cc any)
   one_more (x ∷ xs) any =
       let a : sum_by k (x ∷ xs) ≡ k x + sum_by k xs = sum_by-cons k x xs in
@@ -54,7 +54,7 @@ module _ {X : Type 0} (t : X → Bool) (v : ℕ) (g k : X → ℕ) (yes : (x : X
         | inr n ↦ (let e : k x ≡ g x = no x n in let c : v + sum_by g xs ≤ sum_by k xs = one_more xs (let rest : list_any t xs ≡ true = rw n at any in rest) in omega (arith, a, b, c, e))
       ]
 
-  at_most : (xs : List X) → AtMostOne t xs → sum_by k xs ≤ v + sum_by g xs
+  pub at_most : (xs : List X) → AtMostOne t xs → sum_by k xs ≤ v + sum_by g xs
   at_most [] once = omega arith
   at_most (x ∷ xs) once =
       let a : sum_by k (x ∷ xs) ≡ k x + sum_by k xs = sum_by-cons k x xs in

@@ -1,7 +1,6 @@
 -- The laws.
-use Rattle.std.specs.Prelude.{◌≡◌, ◌+◌, ◌++◌, ⊤, ℕ, List, [], ◌∷◌, length, Option, Some, None}
+use Rattle.std.specs.Prelude.{◌≡◌, ◌+◌, ◌++◌, ◌<◌, ⊤, ℕ, List, [], ◌∷◌, length, slice_get, Option, Some, None}
 use Rattle.std.specs.List.{AllByRecursion}
-use Rattle.cq_tree.specs.declared.journal.EntryKind.{EntryKind}
 use Rattle.cq_tree.specs.declared.statement.Statement.{Statement}
 use Rattle.cq_tree.specs.declared.statement.Statement.TheVariants.{Move}
 use Rattle.cq_answer.specs.declared.answered.Answered.{Answered}
@@ -12,13 +11,17 @@ use Rattle.cq_history.specs.Run.{Run, Rules, Environment, after, environment_fro
 use Rattle.cq_history.specs.Phases.{who_of, MayBeInBlock}
 use Rattle.cq_history.specs.Deeds.{Phase}
 use Rattle.cq_history.specs.Log.{Era, joined, IsLaidOut, IsConsistentIn, AreConsistent, IsAnsweredIn, IsPhase}
+use Rattle.cq_cell.specs.Lists.{Distinct}
 use Rattle.cq_shared.specs.declared.errand.Errand.{Errand}
+use Rattle.cq_shared.specs.Terms.{Terms}
 use Rattle.cq_store.specs.Stores.{StoreState}
+use Rattle.cq_store.specs.declared.worker.Worker.{Worker}
 use Rattle.cq_group.specs.declared.group.GroupState.{GroupState}
 use Rattle.cq_group.specs.Resting.{journals_of}
-use Rattle.cq_block_laws.specs.Serving.{Opening, Known, IsPhaseOf, IsAnsweredBeside, AreAnswered}
+use Rattle.cq_cluster.specs.Accounts.{AreRetired}
+use Rattle.cq_block_laws.specs.Serving.{Opening, Known, free_first, IsPhaseOf, IsAnsweredBeside, AreAnswered}
 use Rattle.cq_block_laws.specs.Closing.{Session, numbers_of, answers_of, AreApart, AreSessions, History, IsClosed}
-use Rattle.cq_block_laws.specs.Sessions.{HasRun}
+use Rattle.cq_block_laws.specs.Sessions.{IsSpared, retired_by, HasRun, RanAt}
 
 -- a session goes on by one more answer
 abbrev pub AnswersOn : Type 0
@@ -59,7 +62,23 @@ abbrev pub MovesAreOver : Type 0
 MovesAreOver = (rules : Rules) (run : Run) (before : Era) (all : List Answered) (e : Environment) (answers : List Answered) (journals : List Journal) → IsConsistentIn rules run before all e answers journals →
     (g : ℕ) → moving_of (journal_in journals g) ≡ None
 
--- a block over groups is closed behind what its sessions did: of each group the notes are those of its cell, and of the workers there are none
-abbrev pub BlockCloses : {X : Type 0} → (X → StoreState) → (C : Type 0) → (C → ℕ → EntryKind → Type 0) → Type 0
-BlockCloses {X} state C allows = (rules : Rules) (run : Run) (nodes : ℕ) (o : Opening) (opened : List (GroupState X)) (sessions : List Session) (closed : List (GroupState X)) → HasRun state allows rules nodes o opened sessions closed →
-    run.workers ≡ nodes → o.journals ≡ journals_of opened → (h : History) × IsClosed rules run o h sessions (journals_of closed)
+-- each worker that a run uses has as many stores as are spare at the opening
+abbrev pub HaveFree : {X : Type 0} → Run → Opening → List (Worker X) → Type 0
+HaveFree {X} run o workers = (at : ℕ) (w : Worker X) → at < run.workers → slice_get workers at ≡ Some w → length w.stores.items ≡ free_first run o at
+
+module _ {X : Type 0} (state : X → StoreState) (C : Type 0) (terms : C → Terms) where
+  -- a block over groups and workers is closed behind what its sessions did: the notes are those of their cells
+  abbrev pub BlockCloses : Type 0
+  BlockCloses = (rules : Rules) (run : Run) (nodes : ℕ) (o : Opening) (opened : List (GroupState X)) (workers : List (Worker X)) (sessions : List Session) (closed : List (GroupState X)) (returned : List (Worker X)) →
+      HasRun state terms rules nodes o opened workers sessions closed returned → run.workers ≡ nodes → o.journals ≡ journals_of opened → HaveFree run o workers → (h : History) × IsClosed rules run o h sessions (journals_of closed)
+
+  -- each worker came back from its sessions, whose notes settle
+  abbrev pub BlockSettles : Type 0
+  BlockSettles = (rules : Rules) (nodes : ℕ) (o : Opening) (opened : List (GroupState X)) (workers : List (Worker X)) (sessions : List Session) (closed : List (GroupState X)) (returned : List (Worker X)) →
+      (h : HasRun state terms rules nodes o opened workers sessions closed returned) → Distinct (numbers_of sessions) →
+      (length returned ≡ length workers) × ((at : ℕ) (w v : Worker X) → slice_get workers at ≡ Some w → slice_get returned at ≡ Some v → RanAt state terms h.shared_by o (answers_of sessions) at w v)
+
+  -- the stores that the sessions retired are those of their answers, on nodes of which not all stores are steady
+  abbrev pub BlockRetiresAll : Type 0
+  BlockRetiresAll = (rules : Rules) (nodes : ℕ) (o : Opening) (opened : List (GroupState X)) (workers : List (Worker X)) (sessions : List Session) (closed : List (GroupState X)) (returned : List (Worker X)) →
+      (h : HasRun state terms rules nodes o opened workers sessions closed returned) → AreRetired (answers_of sessions) (retired_by h.lasts) × AllByRecursion (IsSpared state terms h.shared_by) (retired_by h.lasts)

@@ -1,4 +1,5 @@
 pub mod Serving
 pub mod Closing
+pub mod Settling
 pub mod Laws
 pub mod Sessions

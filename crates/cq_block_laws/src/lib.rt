@@ -2,7 +2,7 @@
 //! law is the contract of a function that does nothing.
 #![tactic(auto)]
 
-ghost use Rattle.cq_block_laws.specs.Laws.{QuietBeside, AnswersOn, BlockIsPhase, BlockGoesOn, BlockKeeps, MovesAreOver, BlockCloses};
+ghost use Rattle.cq_block_laws.specs.Laws.{QuietBeside, AnswersOn, BlockIsPhase, BlockGoesOn, BlockKeeps, MovesAreOver, BlockCloses, BlockSettles, BlockRetiresAll};
 
 use cq_shared::Legality;
 use cq_store::Store;
@@ -18,7 +18,10 @@ pub fn block_laws()
     ensures over { MovesAreOver }
 {}
 
-/// A block over shard groups is closed as it has run: its sessions answered by what their passes saw, and nobody else noted anything. Does nothing.
+/// A block over shard groups and workers is closed as it has run: its sessions answered by what their passes saw, and nobody else noted anything; what they
+/// noted of the workers settles; and the stores that they retired are those that their answers tell of. Does nothing.
 pub fn closing_law<S: Store, C, L: Legality<C>>()
-    ensures { BlockCloses S.state C L.allows }
+    ensures closes { BlockCloses S.state C L.terms }
+    ensures settles { BlockSettles S.state C L.terms }
+    ensures retires { BlockRetiresAll S.state C L.terms }
 {}

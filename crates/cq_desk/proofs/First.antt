@@ -5,7 +5,6 @@ use Rattle.std.proofs.lemmas.Option.{same_Some}
 use Rattle.std.specs.List.{AllZip, AllByRecursion}
 use Rattle.atomic_table.specs.Seated.{TableId}
 use Rattle.cq_value.specs.Tables.{empty_table}
-use Rattle.cq_tree.specs.declared.journal.EntryKind.{EntryKind}
 use Rattle.cq_store.specs.Stores.{StoreState}
 use Rattle.cq_history.proofs.Lists.{all_at}
 use Rattle.cq_group.specs.declared.group.GroupState.{GroupState}
@@ -16,6 +15,7 @@ use Rattle.cq_cell.specs.Turn.{IsAt}
 use Rattle.cq_reach.specs.Seen.{seen_of, all_seen}
 use Rattle.cq_reach.proofs.Growth.{got, got_below}
 use Rattle.cq_shared.specs.declared.content.Shard.{Shard}
+use Rattle.cq_shared.specs.Terms.{Terms}
 use Rattle.cq_shared.specs.Blocks.{MayShare, IsShared, AreShared}
 use Rattle.cq_shared.specs.Notes.{IsShard}
 use Rattle.cq_shared.specs.Quiet.{GoOn}
@@ -57,13 +57,13 @@ ids {X} {C} cs = map (λ (c : TableId × Key (Shard X C)). c.0) cs
 -- ---- as they are given out
 
 -- the opening of a pass is the group at its place
-record IsOpening {X C : Type 0} (state : X → StoreState) (allows : C → ℕ → EntryKind → Type 0) (rules : C) (groups : List (GroupState X)) (g : ℕ) (p : Pass X C) : Type 0 where
+record IsOpening {X C : Type 0} (state : X → StoreState) (terms : C → Terms) (rules : C) (groups : List (GroupState X)) (g : ℕ) (p : Pass X C) : Type 0 where
   opening : Shard X C
   origin : p.place.me.0.origin ≡ Some opening
   group : slice_get groups g ≡ Some opening.group
   ruled : opening.rules.value ≡ rules
   nothing : p.place.me.0.news ≡ []
-  stands : IsShard state allows opening opening []
+  stands : IsShard state terms opening opening []
 
 seen_each : {X C : Type 0} (rules : C) (numbers : List ℕ) (n : ℕ) (groups : List (GroupState X)) (cs : List (TableId × Key (Shard X C))) (row : List (Pass X C)) → AllZip (IsShared rules) groups (map origin_in cs) → AllZip (IsFirst numbers n) cs row →
     map (λ (p : Pass X C). known_by p) row ≡ all_seen groups
@@ -79,9 +79,9 @@ seen_each {X} {C} rules numbers n (g ∷ gs) (c ∷ cs) (p ∷ row) a b =
     let rest = seen_each rules numbers n gs cs row a.1 b.1 in
     λ i. one i ∷ rest i
 
-module _ {X C : Type 0} (state : X → StoreState) (allows : C → ℕ → EntryKind → Type 0) (rules : C) (numbers : List ℕ) (groups : List (GroupState X)) (cs : List (TableId × Key (Shard X C))) (roots : List (Pass X C)) (rows : List (List (Pass X C)))
-    (may : AllByRecursion (MayShare state allows rules) groups) (shared : AreShared numbers rules groups cs roots rows) (n : ℕ) (row : List (Pass X C)) (first : AllZip (IsFirst numbers n) cs row) where
-  opening_at : (g : ℕ) (p : Pass X C) → slice_get row g ≡ Some p → IsOpening state allows rules groups g p
+module _ {X C : Type 0} (state : X → StoreState) (terms : C → Terms) (rules : C) (numbers : List ℕ) (groups : List (GroupState X)) (cs : List (TableId × Key (Shard X C))) (roots : List (Pass X C)) (rows : List (List (Pass X C)))
+    (may : AllByRecursion (MayShare state terms rules) groups) (shared : AreShared numbers rules groups cs roots rows) (n : ℕ) (row : List (Pass X C)) (first : AllZip (IsFirst numbers n) cs row) where
+  opening_at : (g : ℕ) (p : Pass X C) → slice_get row g ≡ Some p → IsOpening state terms rules groups g p
   opening_at g p there =
       let c = beside (IsFirst numbers n) cs row first g p there in
       let o = origin_in c.item in
@@ -92,10 +92,10 @@ module _ {X C : Type 0} (state : X → StoreState) (allows : C → ℕ → Entry
         group = h.there ∙ ap Some (sym h.holds.0);
         ruled = h.holds.1;
         nothing = ap (λ m. m.0.news) c.holds.me;
-        stands = all_at (λ (x : Shard X C). IsShard state allows x x []) shared.shards g o (all_stand state allows rules groups shared.shards shared.are may) at;
+        stands = all_at (λ (x : Shard X C). IsShard state terms x x []) shared.shards g o (all_stand state terms rules groups shared.shards shared.are may) at;
       }
 
-  own_first : (g : ℕ) (p : Pass X C) → slice_get row g ≡ Some p → IsOwn state allows numbers n p.place
+  own_first : (g : ℕ) (p : Pass X C) → slice_get row g ≡ Some p → IsOwn state terms numbers n p.place
   own_first g p there =
       let c = beside (IsFirst numbers n) cs row first g p there in
       let o = opening_at g p there in
@@ -103,11 +103,11 @@ module _ {X C : Type 0} (state : X → StoreState) (allows : C → ℕ → Entry
         rests = (ap (λ m. m.0.live) me, ap (λ m. m.0.root) me, ap (λ m. m.0.turn) me, ap (λ m. m.1) me);
         numbered = sym (ap (λ m. m.0.number) me);
         block = ap (λ m. m.0.sessions) me;
-        stood = record { opening = o.opening; origin = o.origin; shard = o.opening; stands = subst (IsShard state allows o.opening o.opening) (sym o.nothing) o.stands };
+        stood = record { opening = o.opening; origin = o.origin; shard = o.opening; stands = subst (IsShard state terms o.opening o.opening) (sym o.nothing) o.stands };
       }
 
   -- the passes of a session are ready
-  pub first_ready : IsReady state allows (ids cs) numbers row n
+  pub first_ready : IsReady state terms (ids cs) numbers row n
   first_ready = record {
     at = record {
       count = as_many (IsFirst numbers n) (λ (c : TableId × Key (Shard X C)). c.0) cs row first;
@@ -134,9 +134,9 @@ module _ {X C : Type 0} (state : X → StoreState) (allows : C → ℕ → Entry
 
 -- ---- as they come back
 
-module _ {X C : Type 0} (state : X → StoreState) (allows : C → ℕ → EntryKind → Type 0) (sessions : List ℕ) (n : ℕ) where
+module _ {X C : Type 0} (state : X → StoreState) (terms : C → Terms) (sessions : List ℕ) (n : ℕ) where
   each_back : (cs : List (TableId × Key (Shard X C))) (row : List (Pass X C)) → length row ≡ length (ids cs) → ((k : ℕ) (z : TableId) (q : Pass X C) → slice_get (ids cs) k ≡ Some z → slice_get row k ≡ Some q → IsAt z q.place) →
-      ((g : ℕ) (p : Pass X C) → slice_get row g ≡ Some p → IsOwn state allows sessions n p.place) → AllZip (IsBack n) cs row
+      ((g : ℕ) (p : Pass X C) → slice_get row g ≡ Some p → IsOwn state terms sessions n p.place) → AllZip (IsBack n) cs row
   each_back [] [] long at own = tt
   each_back [] (p ∷ row) long at own = absurd (omega (arith, long))
   each_back (c ∷ cs) [] long at own = absurd (omega (arith, long))
@@ -147,5 +147,5 @@ module _ {X C : Type 0} (state : X → StoreState) (allows : C → ℕ → Entry
       )
 
   -- passes that are ready are at rest, and can come back
-  pub come_back : (cs : List (TableId × Key (Shard X C))) (row : List (Pass X C)) → IsReady state allows (ids cs) sessions row n → AllZip (IsBack n) cs row
+  pub come_back : (cs : List (TableId × Key (Shard X C))) (row : List (Pass X C)) → IsReady state terms (ids cs) sessions row n → AllZip (IsBack n) cs row
   come_back cs row ready = each_back cs row ready.at.count ready.at.each ready.own

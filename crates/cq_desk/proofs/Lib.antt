@@ -4,3 +4,4 @@ pub mod Written
 pub mod First
 pub mod Finding
 pub mod Going
+pub mod Moves

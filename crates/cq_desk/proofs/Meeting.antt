@@ -19,6 +19,7 @@ use Rattle.cq_cell.specs.Turn.{IsAt, Rests, IsSame}
 use Rattle.cq_shared.specs.declared.content.Shard.{Shard}
 use Rattle.cq_shared.specs.declared.note.Note.{Note}
 use Rattle.cq_shared.specs.declared.note.Note.TheVariants as note
+use Rattle.cq_shared.specs.Terms.{Terms}
 use Rattle.cq_shared.specs.Notes.{who_of, entries_in}
 use Rattle.cq_shared.specs.Quiet.{IsQuiet, GoesOn, GoOn}
 use Rattle.cq_shared.specs.Seen.{Place, Pass, Finds, HasStood, Looks, group_of, seen_since, seen_by}
@@ -100,38 +101,38 @@ module _ {X C : Type 0} where
       subst (λ (w : Option (Shard X C)). seen_since (group_of w) (l ++ m) ≡ with_more (entries_in m) (seen_since (group_of w) l)) (sym is)
       (λ i. record { journal = record { number = v.group.journal.group; opening = v.group.journal.opening; base = λ table. empty_table; entries = more i }; tables = outlines v.group; nodes = v.group.nodes })
 
-module _ {X C : Type 0} (state : X → StoreState) (allows : C → ℕ → EntryKind → Type 0) where
+module _ {X C : Type 0} (state : X → StoreState) (terms : C → Terms) where
   -- a group as it was found is what the pass had seen, with notes of others
-  found_since : (p : Place X C) (x : Shard X C) (f : Finds state allows p x) → seen_of x.group ≡ seen_since (group_of p.me.0.origin) (p.me.0.news ++ f.more)
-  found_since p x f = seen_same state (allows f.opening.rules.value f.opening.group.journal.group) f.opening.group x.group (p.me.0.news ++ f.more) f.stands.stands ∙ (λ i. seen_since (group_of (sym f.origin i)) (p.me.0.news ++ f.more))
+  found_since : (p : Place X C) (x : Shard X C) (f : Finds state terms p x) → seen_of x.group ≡ seen_since (group_of p.me.0.origin) (p.me.0.news ++ f.more)
+  found_since p x f = seen_same state ((terms f.opening.rules.value).allows f.opening.group.journal.group) f.opening.group x.group (p.me.0.news ++ f.more) f.stands.stands ∙ (λ i. seen_since (group_of (sym f.origin i)) (p.me.0.news ++ f.more))
 
-  found_grown : (p : Place X C) (x : Shard X C) (f : Finds state allows p x) → seen_of x.group ≡ with_more (entries_in f.more) (seen_by p)
+  pub found_grown : (p : Place X C) (x : Shard X C) (f : Finds state terms p x) → seen_of x.group ≡ with_more (entries_in f.more) (seen_by p)
   found_grown p x f = found_since p x f ∙ known_more p.me.0.origin f.opening p.me.0.news f.more f.origin
 
-  pub known_after : (p q : Place X C) (notes : List Note) (fact : Seen → Type 0) (l : Looks state allows p notes q fact) → seen_by q ≡ with_more (entries_in notes) (seen_of l.shard.group)
+  pub known_after : (p q : Place X C) (notes : List Note) (fact : Seen → Type 0) (l : Looks state terms p notes q fact) → seen_by q ≡ with_more (entries_in notes) (seen_of l.shard.group)
   known_after p q notes fact l =
       let f = l.finds in
       (λ i. seen_since (group_of (l.same.2 i)) (l.news i))
       ∙ (known_more p.me.0.origin f.opening (p.me.0.news ++ f.more) notes f.origin ∙ ap (with_more (entries_in notes)) (sym (found_since p l.shard f)))
 
-  module _ (cells : List TableId) (sessions : List ℕ) (passes : List (Pass X C)) (who : Who) (g : ℕ) (p : Pass X C) (ready : IsReady state allows cells sessions passes who.session) (there : slice_get passes g ≡ Some p) where
-    -- what the turn of a pass finds, the session may meet
-    pub meets : (x : Shard X C) → Finds state allows p.place x → Meets (outlook_by state allows sessions passes who) g (seen_of x.group)
-    meets x f =
+  module _ (cells : List TableId) (sessions : List ℕ) (passes : List (Pass X C)) (who : Who) (g : ℕ) (p : Pass X C) (ready : IsReady state terms cells sessions passes who.session) (there : slice_get passes g ≡ Some p) where
+    -- others are of other sessions of the block
+    pub others_come : (x : Shard X C) (f : Finds state terms p.place x) → AllByRecursion (IsOfOthers sessions who) (entries_in f.more)
+    others_come x f =
         let o = ready.own g p there in
-        record {
-          was = known_by p;
-          there = cell_at (λ (r : Pass X C). known_by r) passes g p there;
-          grown = record {
-            more = entries_in f.more;
-            all = come sessions who f.more (subst (λ n. own who_of n f.more ≡ []) (sym o.numbered) f.others.not_own) (λ n none. f.others.of_sessions n (subst (NotIn n) (sym o.block) none));
-            is = found_grown p.place x f;
-          };
-          may = record { pass = p; there = there; shard = x; finds = f; is = refl };
-        }
+        come sessions who f.more (subst (λ n. own who_of n f.more ≡ []) (sym o.numbered) f.others.not_own) (λ n none. f.others.of_sessions n (subst (NotIn n) (sym o.block) none))
+
+    -- what the turn of a pass finds, the session may meet
+    pub meets : (x : Shard X C) → Finds state terms p.place x → Meets (outlook_by state terms sessions passes who) g (seen_of x.group)
+    meets x f = record {
+      was = known_by p;
+      there = cell_at (λ (r : Pass X C). known_by r) passes g p there;
+      grown = record { more = entries_in f.more; all = others_come x f; is = found_grown p.place x f };
+      may = record { pass = p; there = there; shard = x; finds = f; is = refl };
+    }
 
     module _ (q : Pass X C) where
-      here : slice_get (set passes g q) g ≡ Some q
+      pub here : slice_get (set passes g q) g ≡ Some q
       here = set_there passes g q (got_below passes g p there)
 
       -- a pass is the one that had the turn, or as it was
@@ -142,8 +143,8 @@ module _ {X C : Type 0} (state : X → StoreState) (allows : C → ℕ → Entry
       ]
 
       -- what its turn told
-      pub tells : (notes : List Note) (kinds : List EntryKind) (fact : Seen → Type 0) → entries_in notes ≡ map (λ (k : EntryKind). record { who = who; kind = k }) kinds → Looks state allows p.place notes q.place fact →
-          Tells who g kinds fact (outlook_by state allows sessions passes who) (outlook_by state allows sessions (set passes g q) who)
+      pub tells : (notes : List Note) (kinds : List EntryKind) (fact : Seen → Type 0) → entries_in notes ≡ map (λ (k : EntryKind). record { who = who; kind = k }) kinds → Looks state terms p.place notes q.place fact →
+          Tells who g kinds fact (outlook_by state terms sessions passes who) (outlook_by state terms sessions (set passes g q) who)
       tells notes kinds fact same l = record {
         found = seen_of l.shard.group;
         visit = record {
@@ -158,7 +159,7 @@ module _ {X C : Type 0} (state : X → StoreState) (allows : C → ℕ → Entry
       }
 
       -- a store that failed is noted
-      pub noted : {V : Type 0} (r : Result V GroupError) (fact : Seen → Type 0) → Looks state allows p.place (read_notes who r) q.place fact → IfErr r (IfFailed (HasNoted who g passes (set passes g q)))
+      pub noted : {V : Type 0} (r : Result V GroupError) (fact : Seen → Type 0) → Looks state terms p.place (read_notes who r) q.place fact → IfErr r (IfFailed (HasNoted who g passes (set passes g q)))
       noted (Ok v) fact l = tt
       noted (Err (Worker f)) fact l = record { before = p; after = q; was = there; is = here; holds = l.mine }
       noted (Err Memory) fact l = tt
@@ -173,7 +174,7 @@ module _ {X C : Type 0} (state : X → StoreState) (allows : C → ℕ → Entry
       }
 
       -- and the passes are ready again
-      pub again : IsSame p.place q.place → Rests q.place → HasStood state allows q.place → IsReady state allows cells sessions (set passes g q) who.session
+      pub again : IsSame p.place q.place → Rests q.place → HasStood state terms q.place → IsReady state terms cells sessions (set passes g q) who.session
       again same rests stood =
           let o = ready.own g p there in
           record {
@@ -185,7 +186,7 @@ module _ {X C : Type 0} (state : X → StoreState) (allows : C → ℕ → Entry
               ];
             };
             own = λ i r e. elim (which i r e) [
-              | inl y ↦ subst (λ (t : Pass X C). IsOwn state allows sessions who.session t.place) y.1 (record { rests = rests; numbered = o.numbered ∙ sym same.3; block = same.4 ∙ o.block; stood = stood })
+              | inl y ↦ subst (λ (t : Pass X C). IsOwn state terms sessions who.session t.place) y.1 (record { rests = rests; numbered = o.numbered ∙ sym same.3; block = same.4 ∙ o.block; stood = stood })
               | inr y ↦ ready.own i r y.1
             ];
           }

@@ -26,6 +26,7 @@ use Rattle.cq_reach.proofs.Growth.{got, got_below, one_item, set_there, set_besi
 use Rattle.cq_shared.specs.declared.groups.Stop.{Stop}
 use Rattle.cq_shared.specs.declared.groups.Stop.TheVariants.{Refused, Failed}
 use Rattle.cq_shared.specs.declared.note.Note.{Note}
+use Rattle.cq_shared.specs.Terms.{Terms}
 use Rattle.cq_shared.specs.Notes.{entries_in}
 use Rattle.cq_shared.specs.Quiet.{IsQuiet, GoesOn, GoOn}
 use Rattle.cq_shared.specs.Seen.{Pass, HasStood, Looks}
@@ -105,14 +106,14 @@ one_here i kind = rw (eq-eqb i i refl) refl
 one_there : (k i : ℕ) (kind : EntryKind) → i ≢ k → in_each (k ∷ []) (λ h. kind) i ≡ []
 one_there k i kind n = rw (ne_eqb i k n) refl
 
-module _ {X C : Type 0} (state : X → StoreState) (allows : C → ℕ → EntryKind → Type 0) (cells : List TableId) (sessions : List ℕ) (who : Who) (olds : List (Pass X C)) (ready : IsReady state allows cells sessions olds who.session) where
+module _ {X C : Type 0} (state : X → StoreState) (terms : C → Terms) (cells : List TableId) (sessions : List ℕ) (who : Who) (olds : List (Pass X C)) (ready : IsReady state terms cells sessions olds who.session) where
   abbrev o : Outlook
-  o = outlook_by state allows sessions olds who
+  o = outlook_by state terms sessions olds who
 
   -- ---- before
 
   -- each part can be made by the pass to its group
-  pub all_open : (parts : List Part) → AllByRecursion (CanTake o) parts → AreOpen state allows who.session olds parts
+  pub all_open : (parts : List Part) → AllByRecursion (CanTake o) parts → AreOpen state terms who.session olds parts
   all_open [] takes = tt
   all_open (p ∷ parts) takes =
       let long = length_map (λ (r : Pass X C). known_by r) olds in
@@ -127,7 +128,7 @@ module _ {X C : Type 0} (state : X → StoreState) (allows : C → ℕ → Entry
             own = own.numbered;
             takes = record {
               may = λ reply. takes.0.allowed reply a.0 a.1;
-              takes = λ x f. takes.0.takes (seen_of x.group) (meets state allows cells sessions olds who p.group a.0 ready a.1 x f);
+              takes = λ x f. takes.0.takes (seen_of x.group) (meets state terms cells sessions olds who p.group a.0 ready a.1 x f);
             };
           };
         },
@@ -155,18 +156,18 @@ module _ {X C : Type 0} (state : X → StoreState) (allows : C → ℕ → Entry
       so : fact seen
 
     visited : (p : Part) (a b : Pass X C) (notes : List Note) (kinds : List EntryKind) (fact : Seen → Type 0) → entries_in notes ≡ map (λ (k : EntryKind). record { who = who; kind = k }) kinds →
-        slice_get olds p.group ≡ Some a → slice_get news p.group ≡ Some b → Looks state allows a.place notes b.place fact → Visited p kinds fact
+        slice_get olds p.group ≡ Some a → slice_get news p.group ≡ Some b → Looks state terms a.place notes b.place fact → Visited p kinds fact
     visited p a b notes kinds fact same was is l = record {
       seen = seen_of l.shard.group;
-      met = meets state allows cells sessions olds who p.group a ready was l.shard l.finds;
-      now = cell_at (λ (r : Pass X C). known_by r) news p.group b is ∙ ap Some (known_after state allows a.place b.place notes fact l ∙ ap (λ es. with_more es (seen_of l.shard.group)) same);
+      met = meets state terms cells sessions olds who p.group a ready was l.shard l.finds;
+      now = cell_at (λ (r : Pass X C). known_by r) news p.group b is ∙ ap Some (known_after state terms a.place b.place notes fact l ∙ ap (λ es. with_more es (seen_of l.shard.group)) same);
       so = l.so;
     }
 
-    was_entered : (p : Part) (reply : Reply) → InBoth olds news p.group (Enters state allows who p.op reply) → Visited p (Write p.op reply ∷ []) (Replies p.op reply)
+    was_entered : (p : Part) (reply : Reply) → InBoth olds news p.group (Enters state terms who p.op reply) → Visited p (Write p.op reply ∷ []) (Replies p.op reply)
     was_entered p reply b = visited p b.before b.after (entry_note who p.op reply ∷ []) (Write p.op reply ∷ []) (Replies p.op reply) refl b.was b.is b.holds.looks
 
-    was_let : (p : Part) → InBoth olds news p.group (Lets state allows who p.op) → Visited p [] (CouldBeMade p.op)
+    was_let : (p : Part) → InBoth olds news p.group (Lets state terms who p.op) → Visited p [] (CouldBeMade p.op)
     was_let p b = visited p b.before b.after [] [] (CouldBeMade p.op) refl b.was b.is b.holds.looks
 
     no_entries : (e : WriteError) → entries_in (failed_notes who e) ≡ []
@@ -174,7 +175,7 @@ module _ {X C : Type 0} (state : X → StoreState) (allows : C → ℕ → Entry
     no_entries (Worker f) = refl
     no_entries Memory = refl
 
-    has_failed : (p : Part) (e : WriteError) → InBoth olds news p.group (Fails state allows who p.op e) → Visited p [] (TellsError p.op e)
+    has_failed : (p : Part) (e : WriteError) → InBoth olds news p.group (Fails state terms who p.op e) → Visited p [] (TellsError p.op e)
     has_failed p e b = visited p b.before b.after (failed_notes who e) [] (TellsError p.op e) (no_entries e) b.was b.is b.holds.looks
 
     -- ---- all were made
@@ -189,7 +190,7 @@ module _ {X C : Type 0} (state : X → StoreState) (allows : C → ℕ → Entry
       recounted p k f ps away.1 h.1,
     )
 
-    counted : (low : ℕ) (parts : List Part) (n : ℕ) → AscendFrom low parts → Ended state allows who olds news parts (Ok n) → (counts : Part → ℕ) × (n ≡ sum_by counts parts) × AllMade counts parts
+    counted : (low : ℕ) (parts : List Part) (n : ℕ) → AscendFrom low parts → Ended state terms who olds news parts (Ok n) → (counts : Part → ℕ) × (n ≡ sum_by counts parts) × AllMade counts parts
     counted low [] n up h = ((λ p. 0), h, tt)
     counted low (p ∷ parts) n up h =
         let k = h.0 in
@@ -235,10 +236,10 @@ module _ {X C : Type 0} (state : X → StoreState) (allows : C → ℕ → Entry
       back : List Part
       all : parts ≡ front ++ part ∷ back
       lets : AllByRecursion (λ (p : Part). Visited p [] (CouldBeMade p.op)) front
-      stops : InBoth olds news part.group (Stops state allows who part.op e)
-      left : AreLeft state allows who olds news back
+      stops : InBoth olds news part.group (Stops state terms who part.op e)
+      left : AreLeft state terms who olds news back
 
-    stopped : (parts : List Part) (e : Stop) → Ended state allows who olds news parts (Err e) → Stopped parts e
+    stopped : (parts : List Part) (e : Stop) → Ended state terms who olds news parts (Err e) → Stopped parts e
     stopped [] e h = absurd h
     stopped (p ∷ parts) e h = elim h [
       | inl a ↦
@@ -247,7 +248,7 @@ module _ {X C : Type 0} (state : X → StoreState) (allows : C → ℕ → Entry
       | inr b ↦ record { front = []; part = p; back = parts; all = refl; lets = tt; stops = b.0; left = b.1 }
     ]
 
-    known_left : (parts : List Part) → AreLeft state allows who olds news parts → AllByRecursion (λ (p : Part). slice_get now p.group ≡ slice_get o.known p.group) parts
+    known_left : (parts : List Part) → AreLeft state terms who olds news parts → AllByRecursion (λ (p : Part). slice_get now p.group ≡ slice_get o.known p.group) parts
     known_left [] h = tt
     known_left (p ∷ parts) h = (got_both (λ (r : Pass X C). known_by r) news olds p.group h.0, known_left parts h.1)
 
@@ -284,7 +285,7 @@ module _ {X C : Type 0} (state : X → StoreState) (allows : C → ℕ → Entry
         stopped : IsStopped parts found part
         so : InGroup found part fact
 
-      halted : (parts front back : List Part) → parts ≡ front ++ part ∷ back → AscendFrom 0 parts → AllByRecursion (λ (p : Part). Visited p [] (CouldBeMade p.op)) front → AreLeft state allows who olds news back →
+      halted : (parts front back : List Part) → parts ≡ front ++ part ∷ back → AscendFrom 0 parts → AllByRecursion (λ (p : Part). Visited p [] (CouldBeMade p.op)) front → AreLeft state terms who olds news back →
           (fact : Seen → Type 0) → Visited part (kinds part.group) fact → Halted parts fact
       halted parts front back all up lets left fact v =
           let below = got_below o.known part.group v.met.was v.met.there in
@@ -304,7 +305,7 @@ module _ {X C : Type 0} (state : X → StoreState) (allows : C → ℕ → Entry
     Found parts r = (found : List Seen) × MayFind o found × IsWritten who parts found now r
 
     module _ (parts : List Part) (up : AscendFrom 0 parts) where
-      module _ (r : Result ℕ Stop) (w : Wrote state allows who olds news parts r) where
+      module _ (r : Result ℕ Stop) (w : Wrote state terms who olds news parts r) where
         as_many : length now ≡ length o.known
         as_many = length_map (λ (r : Pass X C). known_by r) news ∙ (w.count ∙ sym (length_map (λ (r : Pass X C). known_by r) olds))
 
@@ -314,7 +315,7 @@ module _ {X C : Type 0} (state : X → StoreState) (allows : C → ℕ → Entry
         entering : (kinds : Kinds) (found : List Seen) → Came who o now parts kinds found → Makes who kinds found now
         entering kinds found c = all_enter who o now parts kinds found c as_many beside
 
-      was_made : (n : ℕ) → Wrote state allows who olds news parts (Ok n) → Found parts (Ok (Count n))
+      was_made : (n : ℕ) → Wrote state terms who olds news parts (Ok n) → Found parts (Ok (Count n))
       was_made n w =
           let c = counted 0 parts n up w.ended in
           let m = made_came c.0 0 parts up c.2 in (
@@ -323,7 +324,7 @@ module _ {X C : Type 0} (state : X → StoreState) (allows : C → ℕ → Entry
             record { counts = c.0; sum = c.1; replied = m.2; enters = entering (Ok n) w (entered c.0 parts) m.0 m.1 },
           )
 
-      was_refused : (reply : Reply) → Wrote state allows who olds news parts (Err (Refused reply)) → (found : List Seen) × MayFind o found × IsRefused who parts found now reply
+      was_refused : (reply : Reply) → Wrote state terms who olds news parts (Err (Refused reply)) → (found : List Seen) × MayFind o found × IsRefused who parts found now reply
       was_refused reply w =
           let s = stopped parts (Refused reply) w.ended in
           let p = s.part in
@@ -336,7 +337,7 @@ module _ {X C : Type 0} (state : X → StoreState) (allows : C → ℕ → Entry
             record { part = p; stopped = h.stopped; replied = h.so; enters = entering (Err (Refused reply)) w kinds h.found h.came },
           )
 
-      was_unmade : (e : WriteError) → Wrote state allows who olds news parts (Err (Failed e)) → (found : List Seen) × MayFind o found × IsUnmade who parts found now (λ p. TellsError p.op e)
+      was_unmade : (e : WriteError) → Wrote state terms who olds news parts (Err (Failed e)) → (found : List Seen) × MayFind o found × IsUnmade who parts found now (λ p. TellsError p.op e)
       was_unmade e w =
           let s = stopped parts (Failed e) w.ended in
           let p = s.part in
@@ -347,7 +348,7 @@ module _ {X C : Type 0} (state : X → StoreState) (allows : C → ℕ → Entry
           )
 
       -- what the write is answered
-      answered : (r : Result Reply WriteError) → IsAnswered state allows who olds news parts r → Found parts r
+      answered : (r : Result Reply WriteError) → IsAnswered state terms who olds news parts r → Found parts r
       answered (Ok (Count n)) w = was_made n w
       answered (Ok Duplicate) w = was_refused Duplicate w
       answered (Ok OutOfRange) w = was_refused OutOfRange w
@@ -359,7 +360,7 @@ module _ {X C : Type 0} (state : X → StoreState) (allows : C → ℕ → Entry
 
     module _ (parts : List Part) where
       -- the store that an error names failed
-      lost : (r : Result Reply WriteError) → IsAnswered state allows who olds news parts r → IfErr r (IfLost (λ f. (group : ℕ) × HasNoted who group olds news f))
+      lost : (r : Result Reply WriteError) → IsAnswered state terms who olds news parts r → IfErr r (IfLost (λ f. (group : ℕ) × HasNoted who group olds news f))
       lost (Ok reply) w = tt
       lost (Err Ids) w = tt
       lost (Err (Worker f)) w =
@@ -372,9 +373,9 @@ module _ {X C : Type 0} (state : X → StoreState) (allows : C → ℕ → Entry
       record Served (p q : Pass X C) : Type 0 where
         rests : Rests q.place
         goes_on : GoesOn p.place q.place
-        stood : HasStood state allows q.place
+        stood : HasStood state terms q.place
 
-      looked : (a b : Pass X C) (notes : List Note) (fact : Seen → Type 0) → AllByRecursion IsQuiet notes → Rests b.place → Looks state allows a.place notes b.place fact → Served a b
+      looked : (a b : Pass X C) (notes : List Note) (fact : Seen → Type 0) → AllByRecursion IsQuiet notes → Rests b.place → Looks state terms a.place notes b.place fact → Served a b
       looked a b notes fact quiet rests l = record { rests = rests; goes_on = record { same = l.same; notes = notes; mine = l.mine; quiet = quiet }; stood = l.stood }
 
       quiet_error : (e : WriteError) → AllByRecursion IsQuiet (failed_notes who e)
@@ -382,13 +383,13 @@ module _ {X C : Type 0} (state : X → StoreState) (allows : C → ℕ → Entry
       quiet_error (Worker f) = (tt, tt)
       quiet_error Memory = tt
 
-      enter_served : (op : ShardOp) (reply : Reply) (a b : Pass X C) → Enters state allows who op reply a b → Served a b
+      enter_served : (op : ShardOp) (reply : Reply) (a b : Pass X C) → Enters state terms who op reply a b → Served a b
       enter_served op reply a b h = looked a b (entry_note who op reply ∷ []) (Replies op reply) (tt, tt) h.rests h.looks
 
-      let_served : (op : ShardOp) (a b : Pass X C) → Lets state allows who op a b → Served a b
+      let_served : (op : ShardOp) (a b : Pass X C) → Lets state terms who op a b → Served a b
       let_served op a b h = looked a b [] (CouldBeMade op) tt h.rests h.looks
 
-      stop_served : (op : ShardOp) (e : Stop) (a b : Pass X C) → Stops state allows who op e a b → Served a b
+      stop_served : (op : ShardOp) (e : Stop) (a b : Pass X C) → Stops state terms who op e a b → Served a b
       stop_served op (Refused reply) a b h = enter_served op reply a b h.enters
       stop_served op (Failed error) a b h = looked a b (failed_notes who error) (TellsError op error) (quiet_error error) h.rests h.looks
 
@@ -405,28 +406,28 @@ module _ {X C : Type 0} (state : X → StoreState) (allows : C → ℕ → Entry
         | inr z ↦ elim rest [ inl x ↦ inl (z.1, x) | inr x ↦ inr x ]
       ]
 
-      left_done : (ps : List Part) (g : ℕ) (a q : Pass X C) → AreLeft state allows who olds news ps → IsDone ps g a q
+      left_done : (ps : List Part) (g : ℕ) (a q : Pass X C) → AreLeft state terms who olds news ps → IsDone ps g a q
       left_done [] g a q h = inl tt
       left_done (p ∷ ps) g a q h = elim (eqb_tells g p.group) [
         | inl y ↦ inr (inl (subst (λ n. slice_get news n ≡ slice_get olds n) (sym y.1) h.0))
         | inr z ↦ elim (left_done ps g a q h.1) [ inl x ↦ inl (z.1, x) | inr x ↦ inr x ]
       ]
 
-      done : (ps : List Part) (r : Result ℕ Stop) → Ended state allows who olds news ps r → (g : ℕ) (a q : Pass X C) → slice_get olds g ≡ Some a → slice_get news g ≡ Some q → IsDone ps g a q
+      done : (ps : List Part) (r : Result ℕ Stop) → Ended state terms who olds news ps r → (g : ℕ) (a q : Pass X C) → slice_get olds g ≡ Some a → slice_get news g ≡ Some q → IsDone ps g a q
       done [] (Ok n) h g a q was is = inl tt
       done [] (Err e) h g a q was is = absurd h
-      done (p ∷ ps) (Ok n) h g a q was is = one_done (Enters state allows who p.op (Count h.0)) p ps h.3 (enter_served p.op (Count h.0)) g a q was is (done ps (Ok h.1) h.4 g a q was is)
+      done (p ∷ ps) (Ok n) h g a q was is = one_done (Enters state terms who p.op (Count h.0)) p ps h.3 (enter_served p.op (Count h.0)) g a q was is (done ps (Ok h.1) h.4 g a q was is)
       done (p ∷ ps) (Err e) h g a q was is = elim h [
-        | inl x ↦ one_done (Lets state allows who p.op) p ps x.0 (let_served p.op) g a q was is (done ps (Err e) x.1 g a q was is)
-        | inr y ↦ one_done (Stops state allows who p.op e) p ps y.0 (stop_served p.op e) g a q was is (left_done ps g a q y.1)
+        | inl x ↦ one_done (Lets state terms who p.op) p ps x.0 (let_served p.op) g a q was is (done ps (Err e) x.1 g a q was is)
+        | inr y ↦ one_done (Stops state terms who p.op e) p ps y.0 (stop_served p.op e) g a q was is (left_done ps g a q y.1)
       ]
 
-      module _ (r : Result ℕ Stop) (w : Wrote state allows who olds news parts r) where
+      module _ (r : Result ℕ Stop) (w : Wrote state terms who olds news parts r) where
         -- each pass was served or is as it was
         each_served : (g : ℕ) (p q : Pass X C) → slice_get olds g ≡ Some p → slice_get news g ≡ Some q → Served p q
         each_served g p q was is = elim (done parts r w.ended g p q was is) [ inl x ↦ still (w.others g x) | inr y ↦ elim y [ inl u ↦ still u | inr v ↦ v ] ]
           where
-            own : IsOwn state allows sessions who.session p.place
+            own : IsOwn state terms sessions who.session p.place
             own = ready.own g p was
 
             still : slice_get news g ≡ slice_get olds g → Served p q
@@ -435,7 +436,7 @@ module _ {X C : Type 0} (state : X → StoreState) (allows : C → ℕ → Entry
         go_on : GoOn olds news
         go_on = record { count = w.count; each = λ g p q was is. (each_served g p q was is).goes_on }
 
-        ready_again : IsReady state allows cells sessions news who.session
+        ready_again : IsReady state terms cells sessions news who.session
         ready_again = record {
           at = at_on cells olds news w.count w.same ready.at;
           own = λ g q is.
@@ -450,15 +451,15 @@ module _ {X C : Type 0} (state : X → StoreState) (allows : C → ℕ → Entry
 
     -- ---- the passes in their list again
 
-    module _ (n : ℕ) (long : length olds ≡ n) (parts : List Part) (r : Result Reply WriteError) (w : IsAnswered state allows who olds news parts r) where
+    module _ (n : ℕ) (long : length olds ≡ n) (parts : List Part) (r : Result Reply WriteError) (w : IsAnswered state terms who olds news parts r) where
       abbrev again : List (Pass X C)
       again = take n (news ++ drop (length news) olds)
 
       same_again : again ≡ news
       same_again = ap (λ k. take k (news ++ drop (length news) olds)) (sym (w.count ∙ long)) ∙ all_taken news (drop (length news) olds)
 
-      pub ready_back : IsReady state allows cells sessions again who.session
-      ready_back = subst (λ (l : List (Pass X C)). IsReady state allows cells sessions l who.session) (sym same_again) (ready_again parts (outcome r) w)
+      pub ready_back : IsReady state terms cells sessions again who.session
+      ready_back = subst (λ (l : List (Pass X C)). IsReady state terms cells sessions l who.session) (sym same_again) (ready_again parts (outcome r) w)
 
       pub goes_back : GoOn olds again
       goes_back = subst (λ (l : List (Pass X C)). GoOn olds l) (sym same_again) (go_on parts (outcome r) w)

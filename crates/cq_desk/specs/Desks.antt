@@ -10,6 +10,7 @@ use Rattle.cq_cell.specs.Lists.{NotIn}
 use Rattle.cq_cell.specs.Turn.{Rests}
 use Rattle.cq_shared.specs.declared.content.Shard.{Shard}
 use Rattle.cq_shared.specs.declared.note.Note.TheVariants as note
+use Rattle.cq_shared.specs.Terms.{Terms}
 use Rattle.cq_shared.specs.Seen.{Place, Pass, MayEnter, Finds, HasStood, seen_by}
 use Rattle.cq_shared.specs.Writes.{AreAt, InBoth}
 use Rattle.cq_reach.specs.Seen.{Seen, seen_of}
@@ -24,33 +25,33 @@ module _ {X C : Type 0} where
   known_by p = seen_by p.place
 
   -- the turn of the group's pass may find it so
-  pub record MayBe (state : X → StoreState) (allows : C → ℕ → EntryKind → Type 0) (passes : List (Pass X C)) (g : ℕ) (s : Seen) : Type 0 where
+  pub record MayBe (state : X → StoreState) (terms : C → Terms) (passes : List (Pass X C)) (g : ℕ) (s : Seen) : Type 0 where
     pub pass : Pass X C
     pub there : slice_get passes g ≡ Some pass
     pub shard : Shard X C
-    pub finds : Finds state allows pass.place shard
+    pub finds : Finds state terms pass.place shard
     pub is : s ≡ seen_of shard.group
 
   -- an entry of this kind is allowed in a group by the rules under which it is shared
-  abbrev pub IsAllowed : (C → ℕ → EntryKind → Type 0) → List (Pass X C) → ℕ → EntryKind → Type 0
-  IsAllowed allows passes g kind = (p : Pass X C) → slice_get passes g ≡ Some p → MayEnter allows p.place kind
+  abbrev pub IsAllowed : (C → Terms) → List (Pass X C) → ℕ → EntryKind → Type 0
+  IsAllowed terms passes g kind = (p : Pass X C) → slice_get passes g ≡ Some p → MayEnter terms p.place kind
 
   -- what a session knows by its passes, and may find
-  abbrev pub outlook_by : (X → StoreState) → (C → ℕ → EntryKind → Type 0) → List ℕ → List (Pass X C) → Who → Outlook
-  outlook_by state allows sessions passes who = record {
+  abbrev pub outlook_by : (X → StoreState) → (C → Terms) → List ℕ → List (Pass X C) → Who → Outlook
+  outlook_by state terms sessions passes who = record {
     known = map known_by passes;
     comes = IsOfOthers sessions who;
-    finds = MayBe state allows passes;
-    allows = IsAllowed allows passes;
+    finds = MayBe state terms passes;
+    allows = IsAllowed terms passes;
   }
 
-  module _ (state : X → StoreState) (allows : C → ℕ → EntryKind → Type 0) where
+  module _ (state : X → StoreState) (terms : C → Terms) where
     -- a pass that rests, of the session of this number, in a block of these sessions. What it has seen stood so
     pub record IsOwn (sessions : List ℕ) (session : ℕ) (p : Place X C) : Type 0 where
       pub rests : Rests p
       pub numbered : session ≡ p.me.0.number
       pub block : p.me.0.sessions ≡ sessions
-      pub stood : HasStood state allows p
+      pub stood : HasStood state terms p
 
     -- the passes of a session, one to each cell, between two calls
     pub record IsReady (cells : List TableId) (sessions : List ℕ) (passes : List (Pass X C)) (session : ℕ) : Type 0 where

@@ -28,9 +28,9 @@ pub struct Desk<'a, S: Store, C, L: Legality<C>, R> {
 
 /// Groups that the block's sessions share: each call waits for the turn in its groups, and other sessions may have entered what is allowed meanwhile.
 impl<'a, S: Store, C, L: Legality<C>, R: Wait> Groups for Desk<'a, S, C, L, R> {
-    ghost outlook = { λ desk who. outlook_by S.state L.allows desk.sessions.value.items desk.passes.items who };
+    ghost outlook = { λ desk who. outlook_by S.state L.terms desk.sessions.value.items desk.passes.items who };
 
-    ghost ready = { λ desk session. IsReady S.state L.allows (map (λ c. c.shared.table_id) desk.cells.now) desk.sessions.value.items desk.passes.items session };
+    ghost ready = { λ desk session. IsReady S.state L.terms (map (λ c. c.shared.table_id) desk.cells.now) desk.sessions.value.items desk.passes.items session };
 
     ghost goes_on = { λ old new. GoOn old.passes.items new.passes.items };
 

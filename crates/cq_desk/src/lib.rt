@@ -2,5 +2,6 @@
 #![tactic(auto)]
 
 mod desk;
+mod moving;
 
 pub use desk::Desk;

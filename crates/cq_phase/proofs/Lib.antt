@@ -1,6 +1,5 @@
 pub mod Orders
 pub mod Blocks
-pub mod TurnLaws
 pub mod RunLaws
 pub mod SteadyLaws
 pub mod Sessions

@@ -1,8 +1,7 @@
 -- The statements of a block, session after session: each of them once, and in the order of a script.
-use Rattle.std.proofs.Common.{◌≡◌, ◌≢◌, ◌⊎◌, inl, inr, ℕ, zero, suc, ◌+◌, ◌<◌, ◌≤◌, Bool, cond, List, [], ◌∷◌, ◌++◌, length, take, drop, get_or, refl, sym, ap, ◌∙◌, arith, length-append, append_assoc, append-nil, eq-eqb, ne_eqb}
+use Rattle.std.proofs.Common.{◌≡◌, ◌≢◌, ◌⊎◌, inl, inr, ℕ, zero, suc, ◌+◌, ◌<◌, ◌≤◌, Bool, cond, List, [], ◌∷◌, ◌++◌, length, refl, sym, ap, ◌∙◌, arith, length-append, append_assoc, ne_eqb}
 use Rattle.std.specs.Prelude.{⊤, filter, nat_eq}
 use Rattle.std.specs.List.{AllByRecursion, flat_map}
-use Rattle.std.proofs.lemmas.List.{take_more, drop_more}
 use Rattle.cq_value.proofs.Lists.{all_weaker, all_both, all_append, all_filtered}
 use Rattle.cq_value.proofs.Truths.{two_ways, same_number, nat_eq_itself}
 use Rattle.cq_script.specs.declared.reader.Placed.{Placed}
@@ -11,76 +10,12 @@ use Rattle.cq_phase.specs.Phases.{of_session, sessions, by_session}
 
 -- ---- lists of sessions
 
--- one session more, from the first
-pub sessions_more : (s : ℕ) → s ≤ 8 → take (s + 1) sessions ≡ take s sessions ++ s ∷ []
-sessions_more zero h = refl
-sessions_more (suc zero) h = refl
-sessions_more (suc (suc zero)) h = refl
-sessions_more (suc (suc (suc zero))) h = refl
-sessions_more (suc (suc (suc (suc zero)))) h = refl
-sessions_more (suc (suc (suc (suc (suc zero))))) h = refl
-sessions_more (suc (suc (suc (suc (suc (suc zero)))))) h = refl
-sessions_more (suc (suc (suc (suc (suc (suc (suc zero))))))) h = refl
-sessions_more (suc (suc (suc (suc (suc (suc (suc (suc zero)))))))) h = refl
-sessions_more (suc (suc (suc (suc (suc (suc (suc (suc (suc s))))))))) h = absurd (omega (arith, h))
-
--- and those that are left
-pub sessions_left : (s : ℕ) → s ≤ 8 → drop s sessions ≡ s ∷ drop (s + 1) sessions
-sessions_left zero h = refl
-sessions_left (suc zero) h = refl
-sessions_left (suc (suc zero)) h = refl
-sessions_left (suc (suc (suc zero))) h = refl
-sessions_left (suc (suc (suc (suc zero)))) h = refl
-sessions_left (suc (suc (suc (suc (suc zero))))) h = refl
-sessions_left (suc (suc (suc (suc (suc (suc zero)))))) h = refl
-sessions_left (suc (suc (suc (suc (suc (suc (suc zero))))))) h = refl
-sessions_left (suc (suc (suc (suc (suc (suc (suc (suc zero)))))))) h = refl
-sessions_left (suc (suc (suc (suc (suc (suc (suc (suc (suc s))))))))) h = absurd (omega (arith, h))
-
 abbrev pub of_sessions : List ℕ → List Placed → List Placed
 of_sessions xs ps = flat_map (λ s. of_session s ps) xs
 
 pub of_sessions_both : (xs ys : List ℕ) (ps : List Placed) → of_sessions (xs ++ ys) ps ≡ of_sessions xs ps ++ of_sessions ys ps
 of_sessions_both [] ys ps = refl
 of_sessions_both (s ∷ xs) ys ps = ap (λ v. of_session s ps ++ v) (of_sessions_both xs ys ps) ∙ sym (append_assoc (of_session s ps) (of_sessions xs ps) (of_sessions ys ps))
-
--- the statements of one session more
-pub of_sessions_more : (s : ℕ) (ps : List Placed) → s ≤ 8 → of_sessions (take (s + 1) sessions) ps ≡ of_sessions (take s sessions) ps ++ of_session s ps
-of_sessions_more s ps h =
-    ap (λ xs. of_sessions xs ps) (sessions_more s h) ∙ of_sessions_both (take s sessions) (s ∷ []) ps ∙ ap (λ v. of_sessions (take s sessions) ps ++ v) (append-nil (of_session s ps))
-
--- how many are left
-pub of_sessions_left : (s : ℕ) (ps : List Placed) → s ≤ 8 → length (of_sessions (drop s sessions) ps) ≡ length (of_session s ps) + length (of_sessions (drop (s + 1) sessions) ps)
-of_sessions_left s ps h = ap (λ xs. length (of_sessions xs ps)) (sessions_left s h) ∙ length-append (of_session s ps) (of_sessions (drop (s + 1) sessions) ps)
-
--- ---- one statement more
-
-pub session_more : (s : ℕ) (ps : List Placed) (p : Placed) → p.session ≡ s → of_session s (ps ++ p ∷ []) ≡ of_session s ps ++ p ∷ []
-session_more s [] p is = rw (eq-eqb p.session s is) refl
-session_more s (q ∷ ps) p is = elim (two_ways (nat_eq q.session s)) [ inl y ↦ rw y (ap (λ v. q ∷ v) (session_more s ps p is)) | inr n ↦ rw n (session_more s ps p is) ]
-
-pub session_same : (s : ℕ) (ps : List Placed) (p : Placed) → p.session ≢ s → of_session s (ps ++ p ∷ []) ≡ of_session s ps
-session_same s [] p isnt = rw (ne_eqb p.session s isnt) refl
-session_same s (q ∷ ps) p isnt = elim (two_ways (nat_eq q.session s)) [ inl y ↦ rw y (ap (λ v. q ∷ v) (session_same s ps p isnt)) | inr n ↦ rw n (session_same s ps p isnt) ]
-
-pub session_first : (s : ℕ) (ps : List Placed) (p : Placed) → p.session ≡ s → of_session s (p ∷ ps) ≡ p ∷ of_session s ps
-session_first s ps p is = rw (eq-eqb p.session s is) refl
-
-pub session_other : (s : ℕ) (ps : List Placed) (p : Placed) → p.session ≢ s → of_session s (p ∷ ps) ≡ of_session s ps
-session_other s ps p isnt = rw (ne_eqb p.session s isnt) refl
-
--- at a place of the list
-pub taken_of : (s i : ℕ) (ps : List Placed) (p : Placed) → i < length ps → p ≡ get_or ps i p → p.session ≡ s → of_session s (take (i + 1) ps) ≡ of_session s (take i ps) ++ p ∷ []
-taken_of s i ps p lt at is = ap (of_session s) (take_more ps i p lt ∙ ap (λ (q : Placed). take i ps ++ q ∷ []) (sym at)) ∙ session_more s (take i ps) p is
-
-pub taken_same : (s i : ℕ) (ps : List Placed) (p : Placed) → i < length ps → p ≡ get_or ps i p → p.session ≢ s → of_session s (take (i + 1) ps) ≡ of_session s (take i ps)
-taken_same s i ps p lt at isnt = ap (of_session s) (take_more ps i p lt ∙ ap (λ (q : Placed). take i ps ++ q ∷ []) (sym at)) ∙ session_same s (take i ps) p isnt
-
-pub left_of : (s i : ℕ) (ps : List Placed) (p : Placed) → i < length ps → p ≡ get_or ps i p → p.session ≡ s → length (of_session s (drop i ps)) ≡ 1 + length (of_session s (drop (i + 1) ps))
-left_of s i ps p lt at is = ap (λ v. length (of_session s v)) (drop_more ps i p lt ∙ ap (λ (q : Placed). q ∷ drop (i + 1) ps) (sym at)) ∙ ap (λ v. length v) (session_first s (drop (i + 1) ps) p is) ∙ omega arith
-
-pub left_same : (s i : ℕ) (ps : List Placed) (p : Placed) → i < length ps → p ≡ get_or ps i p → p.session ≢ s → length (of_session s (drop i ps)) ≡ length (of_session s (drop (i + 1) ps))
-left_same s i ps p lt at isnt = ap (λ v. length (of_session s v)) (drop_more ps i p lt ∙ ap (λ (q : Placed). q ∷ drop (i + 1) ps) (sym at)) ∙ ap (λ v. length v) (session_other s (drop (i + 1) ps) p isnt)
 
 -- ---- all statements
 
@@ -243,10 +178,6 @@ sessions_rise = (omega arith, (omega arith, (omega arith, (omega arith, (omega a
 
 pub are_ordered : (phase n : ℕ) (ps : List Placed) → AreNumbered phase n ps → AreOrdered (by_session ps)
 are_ordered phase n ps h = (let rising = are_rising phase n ps h in ordered_from (session_for ps) 0 sessions ps sessions_rise rising (one_session ps rising))
-
--- the statements of all sessions but 0 are at most all
-pub inside_count : (ps : List Placed) → AllByRecursion (λ (p : Placed). IsSession p.session) ps → length (of_sessions (drop 1 sessions) ps) ≤ length ps
-inside_count ps all = (let whole = all_counted ps all in let parts = of_sessions_left 0 ps (omega arith) in omega (arith, whole, parts))
 
 -- a statement outside blocks is answered alone
 pub only_outside : (p : Placed) → p.session ≡ 0 → by_session (p ∷ []) ≡ p ∷ []

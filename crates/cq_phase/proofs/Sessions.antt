@@ -1,5 +1,5 @@
 -- The sessions of a block that ran side by side, by their statements.
-use Rattle.std.proofs.Common.{◌≡◌, ◌≢◌, ℕ, zero, suc, ◌+◌, ◌-◌, ◌<◌, ◌≤◌, List, [], ◌∷◌, ◌++◌, length, refl, sym, ap, subst, ◌∙◌, arith}
+use Rattle.std.proofs.Common.{◌≡◌, ◌≢◌, inl, inr, ℕ, zero, suc, ◌+◌, ◌-◌, ◌<◌, ◌≤◌, List, [], ◌∷◌, ◌++◌, length, refl, sym, ap, subst, ◌∙◌, arith}
 use Rattle.std.specs.Prelude.{⊤, nat_eq}
 use Rattle.std.specs.List.{AllByRecursion, AllZip}
 use Rattle.cq_value.proofs.Lists.{all_append, all_both, append_nil}
@@ -14,8 +14,6 @@ use Rattle.cq_script.specs.Directives.{IsSession, IsBlockAt}
 use Rattle.cq_phase.specs.Phases.{of_session, by_session, sessions, IsAnswerTo}
 use Rattle.cq_phase.proofs.Orders.{AreRising as ArePlacedRising, IsNumberOf, all_numbered, are_rising, rising_filtered, are_of_session, none_outside, of_sessions, of_sessions_both, all_of_sessions}
 use Rattle.cq_phase.proofs.Blocks.{answers_all}
-use Rattle.cq_phase.proofs.RunLaws.{stand_apart}
-use Rattle.cq_phase.proofs.TurnLaws.{zips_both}
 
 -- the sessions are 0, those up to a number, and the others
 sessions_parted : (k : ℕ) → k ≤ 8 → sessions ≡ 0 ∷ numbers 1 k ++ numbers (k + 1) (8 - k)
@@ -41,6 +39,10 @@ block_of k ps few inside others =
     ∙ of_sessions_both (numbers 1 k) (numbers (k + 1) (8 - k)) ps ∙ ap (λ v. of_sessions (numbers 1 k) ps ++ v) (none_from (k + 1) (8 - k) ps (λ s le. others s (omega (arith, le))))
     ∙ append_nil (of_sessions (numbers 1 k) ps)
 
+stand_apart : (first : ℕ) (a b : Answered) → a.phase ≡ first → b.phase ≡ first → StandsBefore a b → a.statement ≢ b.statement
+stand_apart first a b pa pb (inl h) same = (let lt = h.0 in absurd (omega (arith, lt, pa, pb)))
+stand_apart first a b pa pb (inr i) same = elim i.order [ inl apart ↦ absurd (apart.1 same) | inr within ↦ (let lt = within.1 in absurd (omega (arith, lt, same))) ]
+
 -- no statement of a script stands twice
 pub apart_in_order : (first : ℕ) (done : List Answered) → AllByRecursion (λ (a : Answered). a.phase ≡ first) done → AreInScriptOrder done → AreApart done
 apart_in_order first [] phases order = tt
@@ -48,6 +50,12 @@ apart_in_order first (a ∷ done) phases order = (
   all_both (λ (b : Answered). b.phase ≡ first) (StandsBefore a) (λ (b : Answered). a.statement ≢ b.statement) (λ b is stands. stand_apart first a b phases.0 is stands) done phases.1 order.0,
   apart_in_order first done phases.1 order.1,
 )
+
+zips_both : {A B : Type 0} (R : A → B → Type 0) (xs us : List A) (ys vs : List B) → AllZip R xs ys → AllZip R us vs → AllZip R (xs ++ us) (ys ++ vs)
+zips_both R [] us [] vs p q = q
+zips_both R [] us (y ∷ ys) vs p q = absurd p
+zips_both R (x ∷ xs) us [] vs p q = absurd p
+zips_both R (x ∷ xs) us (y ∷ ys) vs p q = (p.0, zips_both R xs us ys vs p.1 q)
 
 module _ (tables : List TableInfo) (given : Settings) (ps : List Placed) where
   -- the session of this number answered its statements

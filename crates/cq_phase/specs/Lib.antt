@@ -1,3 +1,4 @@
 pub mod Steady
 pub mod Phases
 pub mod Turns
+pub mod Beside

@@ -1,13 +1,13 @@
--- What one statement does to a coordinator, and what a block's statements do one after the other.
+-- What one statement does to a coordinator, and what a phase does.
 use Rattle.std.specs.Prelude.{◌≡◌, ℕ, List, [], ◌∷◌, ◌++◌}
-use Rattle.std.specs.List.{AllByRecursion, AllZip}
+use Rattle.std.specs.List.{AllZip}
 use Rattle.cq_answer.specs.declared.answered.Answered.{Answered}
 use Rattle.cq_answer.specs.declared.answered.Settings.{Settings}
 use Rattle.cq_bound_laws.specs.Laws.{HasColumns}
 use Rattle.cq_history.specs.Journals.{journal_in}
 use Rattle.cq_history.specs.Legality.{IsLegal, IsKeyed}
 use Rattle.cq_history.specs.Log.{IsAnswered}
-use Rattle.cq_history.specs.Phases.{who_of, MayBeInBlock}
+use Rattle.cq_history.specs.Phases.{who_of}
 use Rattle.cq_history.specs.Refusals.{rules}
 use Rattle.cq_store.specs.Stores.{StoreState}
 use Rattle.cq_store.specs.declared.worker.Worker.{Worker}
@@ -37,21 +37,6 @@ pub record TakesTurn {X : Type 0} (state : X → StoreState) (old new : Coordina
       AreAccounted state new.cluster.catalog (answers ++ a ∷ []) new.cluster.groups.items
   pub retires : Retires (who_of a) a.answer old.cluster.retired.items new.cluster.retired.items
   pub steady : SparesSteady state a.answer old.cluster new.cluster
-
--- statements one after the other
-abbrev pub TakeTurns : {X : Type 0} → (X → StoreState) → Coordinator X → List Answered → Coordinator X → Type 0
-TakeTurns state old [] new = new ≡ old
-TakeTurns {X} state old (a ∷ more) new = (mid : Coordinator X) × TakesTurn state old mid a × TakeTurns state mid more new
-
--- these statements of a block were answered one after the other, and their answers put last
-pub record HaveTurns {X : Type 0} (state : X → StoreState) (ps : List Placed) (old new : Coordinator X) (before after : List Answered) : Type 0 where
-  pub more : List Answered
-  pub log : after ≡ before ++ more
-  pub turns : TakeTurns state old more new
-  pub answers : AllZip (IsAnswerTo old.cluster.catalog.tables) ps more
-  pub settings : AllByRecursion (λ (a : Answered). a.settings ≡ old.settings) more
-  pub allowed : AllByRecursion (λ (a : Answered). MayBeInBlock a.bound) more
-  pub keeps : (new.cluster.catalog ≡ old.cluster.catalog) × (new.settings ≡ old.settings)
 
 -- a phase was run: each of its statements is answered, and what stood before it stands behind it
 pub record RunsPhase {X : Type 0} (state : X → StoreState) (ps : List Placed) (old new : Coordinator X) (before after : List Answered) : Type 0 where

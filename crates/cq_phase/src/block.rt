@@ -1,72 +1,63 @@
-ghost use Rattle.std.specs.Prelude.{◌≡◌, ◌+◌, ◌≤◌, List, length, map, vec_len, vec_capacity, OnOk, OnErr};
-ghost use Rattle.std.specs.List.{AllByRecursion, flat_map};
+ghost use Rattle.std.specs.Prelude.{◌≡◌, ◌+◌, ◌++◌, ◌≤◌, List, length, map, take, drop, vec_len, vec_capacity, IfOk, OnOk, OnErr};
+ghost use Rattle.std.specs.List.{AllByRecursion};
 ghost use Rattle.cq_answer.specs.declared.answered.Settings.{Settings};
 ghost use Rattle.cq_store.specs.declared.worker.Worker.{Worker};
 ghost use Rattle.cq_script.specs.Directives.{IsBlockAt};
-ghost use Rattle.cq_block_accounts.specs.Cluster.{IsSameBeside};
 ghost use Rattle.cq_cell.specs.Lists.{Distinct};
-ghost use Rattle.cq_block.specs.Running.{IsDraftIn, HasRunSessions};
-ghost use Rattle.cq_phase.specs.Phases.{of_session, IsRunning};
-ghost use Rattle.cq_phase.specs.Turns.{IsReady, HaveTurns, RunsPhase, RunsNothing};
+ghost use Rattle.cq_block.specs.Running.{AreApart, IsDraftIn};
+ghost use Rattle.cq_phase.specs.Phases.{IsRunning};
+ghost use Rattle.cq_phase.specs.Beside.{RunsBeside, IsAsBefore, drafts_in};
+ghost use Rattle.cq_phase.specs.Turns.{RunsPhase, RunsNothing};
 
-use crate::statement::answer;
 use cq_answer::Answered;
-use cq_block::{SessionDrafts, moves, read_block, run_sessions};
+use cq_block::{SessionDrafts, Shares, read_block, run_sessions};
 use cq_coordinator::Coordinator;
-use cq_group::{Gate, Point};
-use cq_script::{MOST_SESSIONS, Placed};
+use cq_group::Gate;
+use cq_script::Placed;
 use cq_session::Scene;
-use cq_store::Store;
+use cq_store::{Store, Worker};
 use cq_value::NoMemory;
 use std::alloc::Global;
 use std::mem;
 use std::sync::Wait;
 use std::thread::Threads;
 
-/// Answers the statements of a session of a block, in order. Takes no memory for the log.
-fn answer_session<S: Store, G: Gate>(
+/// Takes the workers that a run uses out of a list, in which there is room for them then.
+///
+/// Errors: want of memory; nothing is taken.
+fn take_used<S: Drop>(
     alloc: Global,
-    gate: &G,
-    coordinator: &mut Coordinator<S>,
-    log: &mut Vec<Answered>,
-    block: &[Placed],
-    session: u32,
-)
-    requires ready { IsReady S.state coordinator.old }
-    requires inside { 1 ≤ session }
-    requires room { vec_len log.old + length (of_session session block.now) ≤ vec_capacity log.old }
-    ensures turns { HaveTurns S.state (of_session session block.now) coordinator.old coordinator.new log.old.items log.new.items }
-    ensures ready { IsReady S.state coordinator.new }
-    ensures room { vec_capacity log.new ≡ vec_capacity log.old }
+    workers: &mut Vec<Worker<S>>,
+    nodes: u32,
+) -> Result<Vec<Worker<S>>, NoMemory>
+    requires { nodes ≤ length workers.old.items }
+    ensures used { IfOk result (λ used. used.items ≡ take nodes workers.old.items) }
+    ensures others { OnOk result (workers.new.items ≡ drop nodes workers.old.items) }
+    ensures room { OnOk result (length workers.old.items ≤ vec_capacity workers.new) }
+    ensures err { OnErr result (workers.new.items ≡ workers.old.items) }
 {
-    for placed in block {
-        if placed.session == session {
-            log.push_reserved(answer(alloc, gate, coordinator, placed));
-            gate.at(session, Point::Answered);
-        }
+    let Ok(mut used) = Vec::with_capacity(alloc, nodes as usize) else {
+        return Err(NoMemory);
+    };
+    for _ in 0..nodes {
+        used.push_reserved(workers.remove(0));
+    }
+    Ok(used)
+}
+
+/// Puts workers in front of the others of a list with room for them. Takes no memory.
+fn put_back<S: Drop>(workers: &mut Vec<Worker<S>>, mut used: Vec<Worker<S>>)
+    requires room { vec_len workers.old + length used.items ≤ vec_capacity workers.old }
+    ensures { workers.new.items ≡ used.items ++ workers.old.items }
+{
+    let others = workers.len();
+    match workers.append(&mut used) {
+        Ok(()) => workers.rotate_left(others),
+        Err(_) => unreachable!(),
     }
 }
 
-/// Answers the statements of a block, session after session. Takes no memory for the log.
-fn answer_in_turns<S: Store, G: Gate>(
-    alloc: Global,
-    gate: &G,
-    coordinator: &mut Coordinator<S>,
-    log: &mut Vec<Answered>,
-    block: &[Placed],
-)
-    requires next { IsBlockAt (length log.old.items) block.now }
-    requires room { vec_len log.old + length block.now ≤ vec_capacity log.old }
-    requires running { (initial : Settings) × (entry : List (Worker S)) × IsRunning S.state initial entry coordinator.old log.old.items }
-    ensures { RunsPhase S.state block.now coordinator.old coordinator.new log.old.items log.new.items }
-{
-    for session in 1..MOST_SESSIONS + 1 {
-        answer_session(alloc, gate, coordinator, log, block, session);
-    }
-}
-
-/// Answers the statements of a block of which none is the move of a shard group, the sessions side by side, each on a thread of its own. There is room for
-/// the answers.
+/// Answers the statements of a block, the sessions side by side, each on a thread of its own. There is room for the answers and for the stores that moves retire.
 ///
 /// Errors: there is no memory for what the sessions share; nothing is done then.
 fn answer_beside<S: Store + Send, G: Gate, R: Threads + Wait + Sync>(
@@ -78,13 +69,20 @@ fn answer_beside<S: Store + Send, G: Gate, R: Threads + Wait + Sync>(
     sessions: Vec<SessionDrafts<'_>>,
 ) -> Result<(), NoMemory>
     requires apart { Distinct (map (λ one. one.session) sessions.items) }
+    requires numbered { AllByRecursion (λ one. AreApart one.drafts.items) sessions.items }
     requires drafts { AllByRecursion (λ one. AllByRecursion (IsDraftIn coordinator.old.cluster.catalog one.session) one.drafts.items) sessions.items }
-    requires room { vec_len log.old + length (flat_map (λ one. one.drafts.items) sessions.items) ≤ vec_capacity log.old }
+    requires room { vec_len log.old + drafts_in sessions.items ≤ vec_capacity log.old }
+    requires space { vec_len coordinator.old.cluster.retired + drafts_in sessions.items ≤ vec_capacity coordinator.old.cluster.retired }
     requires running { (initial : Settings) × (entry : List (Worker S)) × IsRunning S.state initial entry coordinator.old log.old.items }
-    ensures ran { OnOk result (HasRunSessions S.state coordinator.old.cluster.catalog coordinator.old.cluster.nodes coordinator.old.settings sessions.entry.items coordinator.old.cluster.groups.items coordinator.new.cluster.groups.items log.old.items log.new.items) }
-    ensures same { IsSameBeside coordinator.old.cluster coordinator.new.cluster × (coordinator.new.settings ≡ coordinator.old.settings) }
-    ensures err { OnErr result ((coordinator.new.cluster.groups.items ≡ coordinator.old.cluster.groups.items) × (log.new.items ≡ log.old.items)) }
+    ensures ran { OnOk result (RunsBeside S.state sessions.entry.items coordinator.old coordinator.new log.old.items log.new.items) }
+    ensures err { OnErr result (IsAsBefore coordinator.old coordinator.new log.old.items log.new.items) }
 {
+    let workers = take_used(
+        alloc,
+        &mut coordinator.cluster.workers,
+        coordinator.cluster.nodes,
+    )?;
+    let mut retired = mem::replace(&mut coordinator.cluster.retired, Vec::new(alloc));
     let groups = mem::replace(&mut coordinator.cluster.groups, Vec::new(alloc));
     let scene = Scene {
         catalog: &coordinator.cluster.catalog,
@@ -92,21 +90,26 @@ fn answer_beside<S: Store + Send, G: Gate, R: Threads + Wait + Sync>(
         settings: coordinator.settings,
         hash: coordinator.hash,
     };
-    match run_sessions(rt, alloc, gate, &scene, groups, sessions, log) {
-        Ok(closed) => {
-            coordinator.cluster.groups = closed;
+    let shares = Shares { groups, workers };
+    let ran = run_sessions(rt, alloc, gate, &scene, shares, sessions, log, &mut retired);
+    coordinator.cluster.retired = retired;
+    match ran {
+        Ok(Shares { groups, workers }) => {
+            coordinator.cluster.groups = groups;
+            put_back(&mut coordinator.cluster.workers, workers);
             Ok(())
         }
-        Err(groups) => {
+        Err(Shares { groups, workers }) => {
             coordinator.cluster.groups = groups;
+            put_back(&mut coordinator.cluster.workers, workers);
             Err(NoMemory)
         }
     }
 }
 
-/// Answers the statements of a block: the sessions side by side, or session after session where a statement moves a shard group. There is room for the answers.
+/// Answers the statements of a block, the sessions side by side. There is room for the answers.
 ///
-/// Errors: there is no memory for the list of statements or for what the sessions share; nothing is done then.
+/// Errors: there is no memory for the list of statements, for the stores that moves may retire, or for what the sessions share; nothing is done then.
 pub(crate) fn answer_block<S: Store + Send, G: Gate, R: Threads + Wait + Sync>(
     rt: &R,
     alloc: Global,
@@ -122,9 +125,8 @@ pub(crate) fn answer_block<S: Store + Send, G: Gate, R: Threads + Wait + Sync>(
     ensures err { OnErr result (RunsNothing S.state coordinator.old coordinator.new log.old.items log.new.items) }
 {
     let sessions = read_block(rt, alloc, &coordinator.cluster.catalog, block)?;
-    if moves(&sessions) {
-        answer_in_turns(alloc, gate, coordinator, log, block);
-        return Ok(());
+    if coordinator.cluster.retired.reserve(block.len()).is_err() {
+        return Err(NoMemory);
     }
     answer_beside(rt, alloc, gate, coordinator, log, sessions)
 }

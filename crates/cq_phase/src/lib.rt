@@ -1,4 +1,4 @@
-//! A phase of a script is run: a statement outside blocks, or a block's statements, session after session.
+//! A phase of a script is run: a statement outside blocks, or a block's statements, its sessions side by side.
 #![tactic(auto)]
 
 mod block;

@@ -49,8 +49,8 @@ fn answer_all<S: Store + Send, G: Gate, R: Threads + Wait + Sync>(
     }
 }
 
-/// Answers a phase of a script: a statement outside blocks, or the statements of a block, whose sessions run side by side, or one after the other where a
-/// statement moves a shard group. Their answers are the last then, in a block by session. A gate is called behind each statement of a block.
+/// Answers a phase of a script: a statement outside blocks, or the statements of a block, whose sessions run side by side, moves of shard groups among them.
+/// Their answers are the last then, in a block by session. A gate is called behind each statement of a block, and in each move.
 ///
 /// Conditions: the phase is the next one, and what stands between two phases stands, which it does behind it too.
 ///

@@ -1,14 +1,15 @@
 ghost use Rattle.std.specs.Prelude.{◌≡◌, ◌≤◌, ℕ, List, [], map, vec_len, vec_capacity, IfOk, IfErr};
 ghost use Rattle.std.specs.List.{AllZip, AllByRecursion};
 ghost use Rattle.cq_cell.specs.Lists.{Distinct};
-ghost use Rattle.cq_cell.specs.Many.{IsOpened, AreOpened, AllFirst, AllBack, HaveClosed};
-ghost use Rattle.cq_shared.specs.Blocks.{MayShare, MaySpare, IsShared, AreShared, HaveParted, group_in};
-ghost use Rattle.cq_shared.specs.Errands.{sent_by, IsBench};
+ghost use Rattle.cq_cell.specs.Many.{IsOpened, AreOpened, AllFirst, AllBack};
+ghost use Rattle.cq_shared.specs.Blocks.{MayShare, MaySpare, IsShared, AreShared, AreStocked, HaveParted, HaveReturned, group_in, worker_in};
+ghost use Rattle.cq_shared.specs.Errands.{IsBench};
 
 use crate::content::{GroupCell, GroupPass, Legality, OfGroup, Shard};
 use crate::errand::Errand;
 use crate::note::Note;
-use crate::worker::{OfWorker, WorkerCell, WorkerPass};
+use crate::worker::{OfWorker, Stock, WorkerCell, WorkerPass};
+use crate::workers::{close_workers, return_all, stock_all};
 use cq_cell::{Row, close_all, open_all, take_room};
 use cq_group::GroupState;
 use cq_store::{Store, Worker};
@@ -19,15 +20,16 @@ use std::snapshot::Snapshot;
 #[derive(Drop)]
 pub struct Shared<S: Store, C, L: Legality<C>> {
     pub groups: Vec<GroupCell<S, C, L>>,
-    pub workers: Vec<WorkerCell<S>>,
+    pub workers: Vec<WorkerCell<S, C, L>>,
 }
 
 /// What closes a block: the roots of its cells, and lists with room for the groups and the workers.
 #[derive(Drop)]
 pub struct Closing<S: Store, C> {
     pub group_roots: Vec<GroupPass<S, C>>,
-    pub worker_roots: Vec<WorkerPass<S>>,
+    pub worker_roots: Vec<WorkerPass<S, C>>,
     pub shards: Vec<Shard<S, C>>,
+    pub stocks: Vec<Stock<S, C>>,
     pub groups: Vec<GroupState<S>>,
     pub workers: Vec<Worker<S>>,
 }
@@ -37,7 +39,7 @@ pub struct Closing<S: Store, C> {
 pub struct Block<S: Store, C, L: Legality<C>> {
     pub shared: Shared<S, C, L>,
     pub groups: Vec<Row<Shard<S, C>, Note>>,
-    pub workers: Vec<Row<Worker<S>, Errand>>,
+    pub workers: Vec<Row<Stock<S, C>, Errand>>,
     pub closing: Closing<S, C>,
 }
 
@@ -96,7 +98,7 @@ fn open_groups<S: Store, C, L: Legality<C>>(
     numbers: &Vec<u64>,
 ) -> Result<GroupBlock<S, C, L>, Vec<GroupState<S>>>
     requires apart { Distinct numbers.now.items }
-    requires groups { AllByRecursion (MayShare S.state L.allows rules.now) groups.items }
+    requires groups { AllByRecursion (MayShare S.state L.terms rules.now) groups.items }
     ensures opened { IfOk result (λ b. AreShared numbers.now.items rules.now groups.items (map (λ c. (c.shared.table_id, c.shared.key)) b.block.cells.items) b.block.roots.items (map (λ r. r.items) b.block.passes.items)) }
     ensures room { IfOk result (λ b. (b.block.room.items ≡ []) × (vec_len b.block.cells ≤ vec_capacity b.block.room) × (b.room.items ≡ []) × (vec_len b.block.cells ≤ vec_capacity b.room)) }
     ensures err { IfErr result (λ gs. gs.items ≡ groups.items) }
@@ -127,37 +129,38 @@ fn close_groups<S: Store, C, L: Legality<C>>(
 ) -> Vec<GroupState<S>>
     requires back { (numbers : List ℕ) × AllZip (IsOpened numbers []) (map (λ c. (c.shared.table_id, c.shared.key)) cells.items) roots.items × AllBack (map (λ c. (c.shared.table_id, c.shared.key)) cells.items) numbers (map (λ r. r.items) passes.items) }
     requires room { (shards.items ≡ []) × (vec_len cells ≤ vec_capacity shards) × (room.items ≡ []) × (vec_len cells ≤ vec_capacity room) }
-    ensures { HaveParted S.state L.allows (map (λ c. (c.shared.table_id, c.shared.key)) cells.items) result.items (map (λ r. r.items) passes.items) }
+    ensures { HaveParted S.state L.terms (map (λ c. (c.shared.table_id, c.shared.key)) cells.items) result.items (map (λ r. r.items) passes.items) }
 {
     let closed = close_all(cells, roots, passes, shards);
     part_all(closed, room)
 }
 
-/// Opens a block for sessions of these numbers: each group, with the rules by which it is shared, and each worker stands in a cell of its own, to which each
-/// session has a pass that has seen nothing.
+/// Opens the cells of groups and of workers that have their rules, with a list that has room for the workers.
 ///
-/// Conditions: the numbers differ, the groups may be shared by the rules, and the workers' stores are spare and of their nodes. Errors: want of memory;
-/// the groups and the workers come back.
-pub fn open_block<S: Store, C, L: Legality<C>>(
+/// Errors: want of memory; the groups and the workers come back.
+fn open_cells<S: Store, C, L: Legality<C>>(
     alloc: Global,
     rules: &C,
     groups: Vec<GroupState<S>>,
-    workers: Vec<Worker<S>>,
+    stocks: Vec<Stock<S, C>>,
+    room: Vec<Worker<S>>,
     numbers: &Vec<u64>,
 ) -> Result<Block<S, C, L>, OpenRefused<S>>
     requires apart { Distinct numbers.now.items }
-    requires may { AllByRecursion (MayShare S.state L.allows rules.now) groups.items × AllByRecursion (MaySpare S.state) workers.items }
+    requires may { AllByRecursion (MayShare S.state L.terms rules.now) groups.items × AllByRecursion (λ x. IsBench S.state L.terms x x []) stocks.items }
+    requires room { (room.items ≡ []) × (vec_len stocks ≤ vec_capacity room) }
     ensures groups { IfOk result (λ b. AreShared numbers.now.items rules.now groups.items (map (λ c. (c.shared.table_id, c.shared.key)) b.shared.groups.items) b.closing.group_roots.items (map (λ r. r.items) b.groups.items)) }
-    ensures workers { IfOk result (λ b. AreOpened numbers.now.items [] workers.items (map (λ c. (c.shared.table_id, c.shared.key)) b.shared.workers.items) b.closing.worker_roots.items × AllFirst numbers.now.items (map (λ c. (c.shared.table_id, c.shared.key)) b.shared.workers.items) numbers.now.items (map (λ r. r.items) b.workers.items)) }
-    ensures room { IfOk result (λ b. (b.closing.shards.items ≡ []) × (vec_len b.shared.groups ≤ vec_capacity b.closing.shards) × (b.closing.groups.items ≡ []) × (vec_len b.shared.groups ≤ vec_capacity b.closing.groups) × (b.closing.workers.items ≡ []) × (vec_len b.shared.workers ≤ vec_capacity b.closing.workers)) }
-    ensures err { IfErr result (λ e. (e.groups.items ≡ groups.items) × (e.workers.items ≡ workers.items)) }
+    ensures workers { IfOk result (λ b. AreOpened numbers.now.items [] stocks.items (map (λ c. (c.shared.table_id, c.shared.key)) b.shared.workers.items) b.closing.worker_roots.items × AllFirst numbers.now.items (map (λ c. (c.shared.table_id, c.shared.key)) b.shared.workers.items) numbers.now.items (map (λ r. r.items) b.workers.items)) }
+    ensures room { IfOk result (λ b. (b.closing.shards.items ≡ []) × (vec_len b.shared.groups ≤ vec_capacity b.closing.shards) × (b.closing.groups.items ≡ []) × (vec_len b.shared.groups ≤ vec_capacity b.closing.groups) × (b.closing.stocks.items ≡ []) × (vec_len b.shared.workers ≤ vec_capacity b.closing.stocks) × (b.closing.workers.items ≡ []) × (vec_len b.shared.workers ≤ vec_capacity b.closing.workers)) }
+    ensures err { IfErr result (λ e. (e.groups.items ≡ groups.items) × (e.workers.items ≡ map worker_in stocks.items)) }
 {
-    let Ok(room) = take_room::<Worker<S>, Errand, OfWorker>(alloc, &workers, numbers) else {
+    let Ok(cells) = take_room::<Stock<S, C>, Errand, OfWorker<L>>(alloc, &stocks, numbers) else {
+        let workers = return_all(stocks, room);
         return Err(OpenRefused { groups, workers });
     };
     match open_groups(alloc, rules, groups, numbers) {
         Ok(of_groups) => {
-            let of_workers = open_all(room, workers, numbers);
+            let of_workers = open_all(cells, stocks, numbers);
             let GroupBlock {
                 block: of_groups,
                 room: groups,
@@ -173,13 +176,45 @@ pub fn open_block<S: Store, C, L: Legality<C>>(
                     group_roots: of_groups.roots,
                     worker_roots: of_workers.roots,
                     shards: of_groups.room,
+                    stocks: of_workers.room,
                     groups,
-                    workers: of_workers.room,
+                    workers: room,
                 },
             })
         }
-        Err(groups) => Err(OpenRefused { groups, workers }),
+        Err(groups) => {
+            let workers = return_all(stocks, room);
+            Err(OpenRefused { groups, workers })
+        }
     }
+}
+
+/// Opens a block for sessions of these numbers: each group and each worker, with the rules by which it is shared, stands in a cell of its own, to which each
+/// session has a pass that has seen nothing.
+///
+/// Conditions: the numbers differ, and the groups and the workers may be shared by the rules. Errors: want of memory; the groups and the workers come back.
+pub fn open_block<S: Store, C, L: Legality<C>>(
+    alloc: Global,
+    rules: &C,
+    groups: Vec<GroupState<S>>,
+    workers: Vec<Worker<S>>,
+    numbers: &Vec<u64>,
+) -> Result<Block<S, C, L>, OpenRefused<S>>
+    requires apart { Distinct numbers.now.items }
+    requires may { AllByRecursion (MayShare S.state L.terms rules.now) groups.items × AllByRecursion (MaySpare S.state L.terms rules.now) workers.items }
+    ensures groups { IfOk result (λ b. AreShared numbers.now.items rules.now groups.items (map (λ c. (c.shared.table_id, c.shared.key)) b.shared.groups.items) b.closing.group_roots.items (map (λ r. r.items) b.groups.items)) }
+    ensures workers { IfOk result (λ b. AreStocked numbers.now.items rules.now workers.items (map (λ c. (c.shared.table_id, c.shared.key)) b.shared.workers.items) b.closing.worker_roots.items (map (λ r. r.items) b.workers.items)) }
+    ensures room { IfOk result (λ b. (b.closing.shards.items ≡ []) × (vec_len b.shared.groups ≤ vec_capacity b.closing.shards) × (b.closing.groups.items ≡ []) × (vec_len b.shared.groups ≤ vec_capacity b.closing.groups) × (b.closing.stocks.items ≡ []) × (vec_len b.shared.workers ≤ vec_capacity b.closing.stocks) × (b.closing.workers.items ≡ []) × (vec_len b.shared.workers ≤ vec_capacity b.closing.workers)) }
+    ensures err { IfErr result (λ e. (e.groups.items ≡ groups.items) × (e.workers.items ≡ workers.items)) }
+{
+    let Ok(stocks) = Vec::with_capacity(alloc, workers.len()) else {
+        return Err(OpenRefused { groups, workers });
+    };
+    let Ok(room) = Vec::with_capacity(alloc, workers.len()) else {
+        return Err(OpenRefused { groups, workers });
+    };
+    let stocks = stock_all(workers, rules, stocks);
+    open_cells(alloc, rules, groups, stocks, room, numbers)
 }
 
 /// Closes a block to which all passes came back, each session's to each group and to each worker: the groups and the workers come back. Takes no memory.
@@ -190,9 +225,9 @@ pub fn close_block<S: Store, C, L: Legality<C>>(
 ) -> (Vec<GroupState<S>>, Vec<Worker<S>>)
     requires groups { (numbers : List ℕ) × AllZip (IsOpened numbers []) (map (λ c. (c.shared.table_id, c.shared.key)) block.shared.groups.items) block.closing.group_roots.items × AllBack (map (λ c. (c.shared.table_id, c.shared.key)) block.shared.groups.items) numbers (map (λ r. r.items) block.groups.items) }
     requires workers { (numbers : List ℕ) × AllZip (IsOpened numbers []) (map (λ c. (c.shared.table_id, c.shared.key)) block.shared.workers.items) block.closing.worker_roots.items × AllBack (map (λ c. (c.shared.table_id, c.shared.key)) block.shared.workers.items) numbers (map (λ r. r.items) block.workers.items) }
-    requires room { (block.closing.shards.items ≡ []) × (vec_len block.shared.groups ≤ vec_capacity block.closing.shards) × (block.closing.groups.items ≡ []) × (vec_len block.shared.groups ≤ vec_capacity block.closing.groups) × (block.closing.workers.items ≡ []) × (vec_len block.shared.workers ≤ vec_capacity block.closing.workers) }
-    ensures groups { HaveParted S.state L.allows (map (λ c. (c.shared.table_id, c.shared.key)) block.shared.groups.items) result.0.items (map (λ r. r.items) block.groups.items) }
-    ensures workers { HaveClosed sent_by (IsBench S.state) (map (λ c. (c.shared.table_id, c.shared.key)) block.shared.workers.items) result.1.items (map (λ r. r.items) block.workers.items) }
+    requires room { (block.closing.shards.items ≡ []) × (vec_len block.shared.groups ≤ vec_capacity block.closing.shards) × (block.closing.groups.items ≡ []) × (vec_len block.shared.groups ≤ vec_capacity block.closing.groups) × (block.closing.stocks.items ≡ []) × (vec_len block.shared.workers ≤ vec_capacity block.closing.stocks) × (block.closing.workers.items ≡ []) × (vec_len block.shared.workers ≤ vec_capacity block.closing.workers) }
+    ensures groups { HaveParted S.state L.terms (map (λ c. (c.shared.table_id, c.shared.key)) block.shared.groups.items) result.0.items (map (λ r. r.items) block.groups.items) }
+    ensures workers { HaveReturned S.state L.terms (map (λ c. (c.shared.table_id, c.shared.key)) block.shared.workers.items) result.1.items (map (λ r. r.items) block.workers.items) }
 {
     let Block {
         shared,
@@ -207,10 +242,11 @@ pub fn close_block<S: Store, C, L: Legality<C>>(
         closing.shards,
         closing.groups,
     );
-    let workers = close_all(
+    let workers = close_workers(
         shared.workers,
         closing.worker_roots,
         worker_passes,
+        closing.stocks,
         closing.workers,
     );
     (groups, workers)

@@ -24,6 +24,8 @@ loop-one-preserved g c =
           drafts = refl;
           none = c.in_ok-log.ensures.items;
           room = (let wide = c.in_ok-log.ensures.capacity in let long = c.len-in-loop-one.ensures in omega (arith, wide, long));
+          nothing = c.in_ok-retired.ensures.items;
+          space = (let wide = c.in_ok-retired.ensures.capacity in let long = c.len-in-loop-one-2.ensures in omega (arith, wide, long));
         })),
       );
       room = let a = inv.room in let more = p.len in let wide = p.capacity in omega (arith, a, more, wide, short);

@@ -7,7 +7,7 @@ use Rattle.cq_shared.proofs.Sharing.{all_stand, parted}
 use Rattle.cq_shared.proofs.block.open_groups.Goals as goal
 
 pub open_all-block-requires-clause-stands : goal.open_all-block-requires-clause-stands
-open_all-block-requires-clause-stands g c = all_stand g.S.Store.state g.L.Legality.allows c.args.rules.now c.args.groups.items c.share_all-shards.result.items c.share_all-shards.ensures c.requires.groups
+open_all-block-requires-clause-stands g c = all_stand g.S.Store.state g.L.Legality.terms c.args.rules.now c.args.groups.items c.share_all-shards.result.items c.share_all-shards.ensures c.requires.groups
 
 pub part_all-requires : goal.part_all-requires
 part_all-requires g c =

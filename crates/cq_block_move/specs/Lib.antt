@@ -1,0 +1,4 @@
+pub mod Hands
+pub mod Benches
+pub mod Moves
+pub mod Moving
