@@ -7,3 +7,4 @@ pub mod Yielding
 pub mod Opening
 pub mod Touching
 pub mod Refusing
+pub mod Nested
