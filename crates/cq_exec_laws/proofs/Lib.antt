@@ -1,2 +1,4 @@
 mod Naming
 mod Ordering
+mod Growing
+mod Nested
