@@ -29,7 +29,7 @@ use Rattle.cq_plan_laws.proofs.Scoping.{from_named, answers_named}
 -- ---- the queries of tasks and of the coordinator name what the block names
 
 module _ (P : ℕ → Type 0) where
-  columns_name : (at n : ℕ) → AllByRecursion (Names P) (columns_from at n)
+  pub columns_name : (at n : ℕ) → AllByRecursion (Names P) (columns_from at n)
   columns_name at zero = tt
   columns_name at (suc n) = (tt, columns_name (suc at) n)
 

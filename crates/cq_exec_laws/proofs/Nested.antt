@@ -12,9 +12,10 @@ use Rattle.cq_meaning.specs.Results.{ins_in, ins_in_from, ins_in_all, ins_in_cte
 use Rattle.cq_meaning.proofs.RowLaws.{has_left, has_right}
 use Rattle.cq_meaning_laws.specs.WholeRules.{Step, steps_in, steps_in_from, steps_in_all, steps_in_ctes, steps_of, no_results, with_step, with_steps}
 use Rattle.cq_meaning_laws.proofs.WholeLaws.{from_in_steps, all_in_steps, ctes_in_steps, results_in_steps}
-use Rattle.cq_plan_laws.specs.Scoping.{CondNames, FromNames, QueryNames, AreScoped, IsScoped}
-use Rattle.cq_plan_laws.specs.Nested.{numbers_from, Sees, IsNested, FromIsNested, AreNested, CtesAreNested, IsNestedBehind, IsNestedStatement}
-use Rattle.cq_plan_laws.specs.Touching.{IsOutermost, HasNoCtes, FromHasNone, EachHasNone}
+use Rattle.cq_plan_laws.specs.Scoping.{CondNames, FromNames, QueryNames, AreScoped}
+use Rattle.cq_plan_laws.specs.Nested.{numbers_from, Sees, IsNested, FromIsNested, AreNested, CtesAreNested, IsNestedBehind}
+use Rattle.cq_plan_laws.specs.Touching.{HasNoCtes, FromHasNone, EachHasNone}
+use Rattle.cq_exec_laws.specs.Ordering.{NestedIsScoped, NestedIsOutermost}
 use Rattle.cq_exec_laws.proofs.Growing.{wider, cond_grows, clauses_grow, query_grows}
 
 -- ---- WITH
@@ -41,7 +42,7 @@ none_in_ctes : (i k : ℕ) {n : _} (qs : Row_of-Query n) → CtesAreNested i k q
 none_in_ctes i k query.end_of-Query h = tt
 none_in_ctes i k (query.more_of-Query q more) h = (no_ctes (λ j. j < i) k q h.0, none_in_ctes (i + 1) (k + ins_in q) more h.1)
 
-pub nested_is_outermost : (q : Query) → IsNestedStatement q → IsOutermost q
+pub nested_is_outermost : NestedIsOutermost
 nested_is_outermost (Query' cs ctes ss subs from filter_ grouped keys aggs having items shown distinct order limit offset names) h =
     let P : ℕ → Type 0 = λ j. j < count_of ctes in
     let m : ℕ = count_of ctes + ins_in_ctes ctes in
@@ -221,7 +222,7 @@ module _ (n : ℕ) where
       next j (inl before) = inl (inl (out j before))
       next j (inr e) = inr e
 
-pub nested_is_scoped : (q : Query) → IsNestedStatement q → IsScoped q
+pub nested_is_scoped : NestedIsScoped
 nested_is_scoped (Query' cs ctes ss subs from filter_ grouped keys aggs having items shown distinct order limit offset names) h =
     let q : Query = Query' cs ctes ss subs from filter_ grouped keys aggs having items shown distinct order limit offset names in
     let n : ℕ = count_of ctes in

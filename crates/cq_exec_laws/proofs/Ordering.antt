@@ -23,7 +23,7 @@ mutual
     | inr own ↦ elim own [ inl e ↦ o.3 (inl (subst P (sym e) s)) | inr none ↦ none ]
   ]
 
-  all_fresh : {n : _} (count : ℕ) (P : ℕ → Type 0) (ps : Row_of-Plan n) → AreOrdered count P ps → (i : ℕ) → Has (set_by_all ps) i → P i → ⊥
+  pub all_fresh : {n : _} (count : ℕ) (P : ℕ → Type 0) (ps : Row_of-Plan n) → AreOrdered count P ps → (i : ℕ) → Has (set_by_all ps) i → P i → ⊥
   all_fresh count P end_of-Plan o i h s = h
   all_fresh count P (more_of-Plan p more) o i h s = elim (has_either (set_by p) (set_by_all more) i h) [
     | inl first ↦ fresh count P p o.0 i first s

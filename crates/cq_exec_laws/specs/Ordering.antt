@@ -1,12 +1,17 @@
 -- Plans whose blocks read only what was computed before them, and the law that computing such a plan gives what it yields.
-use Rattle.std.specs.Prelude.{◌<◌, ◌⊎◌, ◌++◌, ⊤, ℕ, List, [], ◌∷◌, length}
+use Rattle.std.specs.Prelude.{◌+◌, ◌<◌, ◌⊎◌, ◌++◌, ⊤, ℕ, List, [], ◌∷◌, length}
+use Rattle.cq_tree.specs.declared.query.Query.{Query}
 use Rattle.cq_meaning.specs.Lists.{Has}
 use Rattle.cq_meaning.specs.Values.{Results, result_at}
 use Rattle.cq_catalog.specs.Contents.{Contents}
 use Rattle.cq_planning.specs.Database.{Held}
 use Rattle.cq_one_plan.specs.declared.plan.Plan.{Plan, Plan', Row_of-Plan, end_of-Plan, more_of-Plan}
+use Rattle.cq_one_plan.specs.Stays.{leaves_of}
+use Rattle.cq_one_plan.specs.Plans.{whole_plan, first_free}
 use Rattle.cq_one_plan.specs.Yields.{IsDone, Yields, number_of}
-use Rattle.cq_plan_laws.specs.Scoping.{QueryNames}
+use Rattle.cq_plan_laws.specs.Scoping.{QueryNames, IsScoped}
+use Rattle.cq_plan_laws.specs.Nested.{IsNestedStatement}
+use Rattle.cq_plan_laws.specs.Touching.{IsOutermost}
 use Rattle.cq_exec_laws.specs.Computing.{Computes}
 
 abbrev mutual
@@ -32,3 +37,17 @@ abbrev mutual
 abbrev pub ComputingYields : Type 0
 ComputingYields = (c : Contents) (held : Held) (p : Plan) (rs after : Results) → IsOrdered (length rs) (λ i. ⊥) p → Computes c held rs p after →
     IsDone c held after p × Yields c held p (result_at after (number_of p))
+
+-- ---- statements whose queries name the results that they see alone
+
+-- their plans are such, beginning with no result that is set: of CTEs and IN subqueries, of relations, and of the query itself, which is the last
+abbrev pub PlansAreOrdered : Type 0
+PlansAreOrdered = (c : Contents) (q : Query) → IsNestedStatement q → IsOrdered (first_free q + leaves_of q + 1) (λ i. ⊥) (whole_plan c q)
+
+-- each step names results of steps before it alone
+abbrev pub NestedIsScoped : Type 0
+NestedIsScoped = (q : Query) → IsNestedStatement q → IsScoped q
+
+-- and WITH stands only before the outermost query
+abbrev pub NestedIsOutermost : Type 0
+NestedIsOutermost = (q : Query) → IsNestedStatement q → IsOutermost q

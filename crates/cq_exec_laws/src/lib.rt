@@ -1,9 +1,13 @@
 //! How a plan is computed, and the laws on it, as the contract of a function that does nothing.
 #![tactic(auto)]
 
-ghost use Rattle.cq_exec_laws.specs.Ordering.{ComputingYields};
+ghost use Rattle.cq_exec_laws.specs.Ordering.{ComputingYields, PlansAreOrdered, NestedIsScoped, NestedIsOutermost};
 
-/// Results that are set one after the other, each over those before it, are the results of the plan. Does nothing.
+/// Results that are set one after the other, each over those before it, are the results of the plan; and so the plan of a statement whose
+/// queries name what they see sets them. Does nothing.
 pub fn exec_laws()
-    ensures { ComputingYields }
+    ensures computing { ComputingYields }
+    ensures ordered { PlansAreOrdered }
+    ensures scoped { NestedIsScoped }
+    ensures outermost { NestedIsOutermost }
 {}
