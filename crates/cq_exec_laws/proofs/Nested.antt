@@ -1,5 +1,5 @@
 -- A statement whose queries name only the results that they see has WITH before its outermost query alone, and each of its steps names results of steps before it.
-use Rattle.std.proofs.Common.{◌≡◌, ◌+◌, ◌<◌, ◌≤◌, ℕ, true, List, [], ◌∷◌, ◌++◌, map, length, sym, ap, subst, ◌∙◌, ◌⊎◌, inl, inr, arith, suc, refl}
+use Rattle.std.proofs.Common.{◌≡◌, ◌+◌, ◌<◌, ◌≤◌, ℕ, List, [], ◌∷◌, ◌++◌, map, length, sym, ap, subst, ◌∙◌, ◌⊎◌, inl, inr, arith, refl}
 use Rattle.std.specs.Prelude.{replicate}
 use Rattle.std.proofs.lemmas.List.{map-append, length-set, length-replicate}
 use Rattle.cq_tree.specs.declared.query.FromTree.{FromTree, Table, Result, Cross', Inner', Left', Sub', end_of-FromTree, more_of-FromTree, end_of-Query, more_of-Query}
@@ -12,11 +12,11 @@ use Rattle.cq_meaning.specs.Results.{ins_in, ins_in_from, ins_in_all, ins_in_cte
 use Rattle.cq_meaning.proofs.RowLaws.{has_left, has_right}
 use Rattle.cq_meaning_laws.specs.WholeRules.{Step, steps_in, steps_in_from, steps_in_all, steps_in_ctes, steps_of, no_results, with_step, with_steps}
 use Rattle.cq_meaning_laws.proofs.WholeLaws.{from_in_steps, all_in_steps, ctes_in_steps, results_in_steps}
-use Rattle.cq_plan_laws.specs.Scoping.{CondNames, FromNames, QueryNames, AreScoped}
-use Rattle.cq_plan_laws.specs.Nested.{numbers_from, Sees, IsNested, FromIsNested, AreNested, CtesAreNested, IsNestedBehind}
+use Rattle.cq_plan_laws.specs.Scoping.{FromNames, QueryNames, AreScoped}
+use Rattle.cq_plan_laws.specs.Nested.{numbers_from, IsNested, FromIsNested, AreNested, CtesAreNested, IsNestedBehind}
 use Rattle.cq_plan_laws.specs.Touching.{HasNoCtes, FromHasNone, EachHasNone}
 use Rattle.cq_exec_laws.specs.Ordering.{NestedIsScoped, NestedIsOutermost}
-use Rattle.cq_exec_laws.proofs.Growing.{wider, cond_grows, clauses_grow, query_grows}
+use Rattle.cq_exec_laws.proofs.Growing.{cond_grows, clauses_grow, query_grows}
 
 -- ---- WITH
 
@@ -233,6 +233,6 @@ nested_is_scoped (Query' cs ctes ss subs from filter_ grouped keys aggs having i
     let ys : List Step = steps_in m q in
     let out : (j : ℕ) → j < n → Has (numbers_of xs) j = λ j low. cte_numbers 0 n ctes j (omega arith) (omega (arith, low)) in (
       scoped_append count (λ i. ⊥) xs ys (scoped_ctes count (λ i. ⊥) 0 n ctes (λ j low. absurd (omega (arith, low))) h.0 (omega (arith, e)) (omega (arith, e)))
-      (scoped_in count (λ j. j < n) (λ i. ⊥ ⊎ Has (numbers_of xs) i) (λ j low. inr (out j low)) m q h.1 (omega (arith, e))),
+          (scoped_in count (λ j. j < n) (λ i. ⊥ ⊎ Has (numbers_of xs) i) (λ j low. inr (out j low)) m q h.1 (omega (arith, e))),
       query_named (λ j. j < n) (λ i. Has (numbers_of (xs ++ ys)) i) (λ j low. left xs ys j (out j low)) m q h.1 (λ i g. right xs ys i g),
     )

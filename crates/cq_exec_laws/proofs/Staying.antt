@@ -1,6 +1,6 @@
 -- What stays of a query names what it sees from outside, and results of the plans that its block is computed over.
 use denote.Hole.Carrier.{hidden}
-use Rattle.std.proofs.Common.{◌≡◌, ◌+◌, ◌-◌, ◌/◌, ℕ, zero, suc, length, take, drop, List, [], ◌∷◌, ◌++◌, map, Bool, true, false, cond, Option, None, Some, sym, subst, ◌⊎◌, inl, inr}
+use Rattle.std.proofs.Common.{◌+◌, ◌-◌, ◌/◌, ℕ, zero, suc, length, take, drop, List, [], ◌∷◌, ◌++◌, map, Bool, true, false, cond, Option, None, Some, sym, subst, ◌⊎◌, inl, inr}
 use Rattle.std.specs.Prelude.{is_some}
 use Rattle.std.specs.List.{AllByRecursion}
 use Rattle.std.proofs.lemmas.List.{take-append-drop}
@@ -27,19 +27,17 @@ use Rattle.cq_planning.specs.Relations.{OuterJoin, Relation, distribution_at}
 use Rattle.cq_planning.specs.Pushable.{pushable, relations, distribution_by}
 use Rattle.cq_planning.specs.Narrowing.{distribution_in, right_sets, sets_in, given_to}
 use Rattle.cq_planning.specs.Occurrences.{Occurrence, occurrence_of, occurrences_in}
-use Rattle.cq_outline.specs.declared.joining.Joined.{Joined}
-use Rattle.cq_outline.specs.Joining.{nothing_joined}
 use Rattle.cq_outline.specs.declared.outline.Leaving.{Leaving}
 use Rattle.cq_outline.specs.Leaving.{leaves, leaves_subquery, inside}
-use Rattle.cq_outline.specs.Tasking.{touch_of, planner_of, leaving_by, parting_by, shares_rows}
+use Rattle.cq_outline.specs.Tasking.{touch_of, leaving_by}
 use Rattle.cq_outline.specs.Outlines.{table_planner, subquery_planner}
 use Rattle.cq_one_plan.specs.declared.plan.Plan.{Plan}
 use Rattle.cq_one_plan.specs.declared.plan.Part.{Part}
 use Rattle.cq_one_plan.specs.declared.plan.Part.TheVariants.{Stays, Leaves, Asks}
 use Rattle.cq_one_plan.specs.Stays.{leaves_in, leaves_of, leaves_of_all, result_if, set_filter, from_staying, query_staying, lone_query}
-use Rattle.cq_one_plan.specs.Plans.{no_grounds, grounds_of, plan_with, lone_plan, part_of_table, parts_of_subquery, key_of, output_of, output_set, plan_of, cte_plans, in_plans, parts_inside, parts_from}
+use Rattle.cq_one_plan.specs.Plans.{lone_plan, key_of, output_of, output_set, plan_of, in_plans, parts_inside, parts_from}
 use Rattle.cq_plan_laws.specs.Scoping.{CondNames, FromNames, QueryNames}
-use Rattle.cq_plan_laws.specs.Nested.{numbers_from, Sees, IsNested, FromIsNested, AreNested, IsNestedBehind}
+use Rattle.cq_plan_laws.specs.Nested.{numbers_from, FromIsNested, IsNestedBehind}
 use Rattle.cq_exec_laws.specs.Ordering.{set_by}
 use Rattle.cq_exec_laws.proofs.Growing.{cond_grows, clauses_grow}
 use Rattle.cq_exec_laws.proofs.Naming.{columns_name}

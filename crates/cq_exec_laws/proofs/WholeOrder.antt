@@ -1,5 +1,5 @@
 -- The plan of a statement whose queries name what they see is ordered: each of its blocks names results alone that are set before it, and sets one that isn't.
-use Rattle.std.proofs.Common.{◌≡◌, ◌+◌, ◌<◌, ◌≤◌, ℕ, List, [], ◌∷◌, ◌++◌, map, length, Bool, true, false, cond, Option, None, Some, refl, sym, ap, subst, ◌∙◌, ◌⊎◌, inl, inr, arith}
+use Rattle.std.proofs.Common.{◌≡◌, ◌+◌, ◌<◌, ◌≤◌, ℕ, List, [], ◌∷◌, ◌++◌, map, Bool, true, false, cond, Option, None, Some, refl, sym, subst, ◌⊎◌, inl, inr, arith}
 use Rattle.std.specs.Prelude.{is_some}
 use Rattle.cq_value.specs.declared.value.Value.{Value}
 use Rattle.cq_tree.specs.declared.plan.Planner.{Planner}
@@ -10,7 +10,6 @@ use Rattle.cq_meaning.specs.Lists.{Has}
 use Rattle.cq_meaning.specs.Queries.{columns_in}
 use Rattle.cq_meaning.specs.Results.{ins_in, ins_in_from, ins_in_all, ins_in_ctes, count_of}
 use Rattle.cq_meaning.proofs.RowLaws.{has_either}
-use Rattle.cq_meaning_laws.specs.WholeRules.{steps_of}
 use Rattle.cq_catalog.specs.Contents.{Contents}
 use Rattle.cq_catalog.specs.Placement.{place_at}
 use Rattle.cq_planning.specs.Conjuncts.{conjuncts, conjuncts_of, equalities}
@@ -31,9 +30,9 @@ use Rattle.cq_one_plan.specs.declared.plan.Plan.{Plan}
 use Rattle.cq_one_plan.specs.declared.plan.Part.{Part}
 use Rattle.cq_one_plan.specs.declared.plan.Part.TheVariants.{Stays, Leaves, Asks}
 use Rattle.cq_one_plan.specs.Stays.{leaves_in, leaves_of, leaves_of_all, query_staying, lone_query}
-use Rattle.cq_one_plan.specs.Plans.{no_grounds, grounds_of, plan_with, lone_plan, key_of, output_of, output_set, plan_of, cte_plans, in_plans, parts_inside, parts_from, whole_plan, first_free}
+use Rattle.cq_one_plan.specs.Plans.{no_grounds, grounds_of, plan_with, lone_plan, key_of, output_of, output_set, plan_of, cte_plans, in_plans, parts_inside, parts_from, first_free}
 use Rattle.cq_plan_laws.specs.Scoping.{QueryNames}
-use Rattle.cq_plan_laws.specs.Nested.{numbers_from, IsNested, FromIsNested, AreNested, CtesAreNested, IsNestedBehind, IsNestedStatement}
+use Rattle.cq_plan_laws.specs.Nested.{numbers_from, IsNested, FromIsNested, AreNested, CtesAreNested, IsNestedBehind}
 use Rattle.cq_exec_laws.specs.Ordering.{set_by, IsOrdered, PlansAreOrdered}
 use Rattle.cq_exec_laws.proofs.Nested.{behind, length_of}
 use Rattle.cq_exec_laws.proofs.Apart.{set_in, set_either, split, joined, InOrder, order_grows, AreApart, apart_append, plans_in, plans_append, asked_plans, block_sets, block_order}
@@ -60,9 +59,6 @@ in_both : (q : Query) → leaves_of q ≡ in_ctes q + in_body q
 in_both (Query' cs ctes ss subs from filter_ grouped keys aggs having items shown distinct order limit offset names) = refl
 
 -- ---- plans that name the first m results alone, beside those below them
-
-parts_plans : (xs : List Part) (asked : List Plan) → plans_in (xs ++ map Asks asked) ≡ plans_in xs ++ asked
-parts_plans xs asked = plans_append xs (map Asks asked) ∙ ap (λ (ps : List Plan). plans_in xs ++ ps) (asked_plans asked)
 
 no_plans : (c : Contents) (i k l : ℕ) {n : _} (qs : Row_of-Query n) → is_none_of_them qs ≡ true → cte_plans c i k l qs ≡ []
 no_plans c i k l query.end_of-Query h = refl
@@ -110,6 +106,10 @@ module _ (c : Contents) (count m : ℕ) where
       within : (i : ℕ) → Has (set_in ps) i ⊎ Has (set_in qs) i → Between k (k + (a + a')) l (l + (b + b')) i
       within i (inl x) = between k (k + a) l (l + b) k (k + (a + a')) l (l + (b + b')) i (omega arith) (omega arith) (omega arith) (omega arith) (h.1 i x)
       within i (inr y) = between k' (k' + a') l' (l' + b') k (k + (a + a')) l (l + (b + b')) i (omega (arith, e)) (omega (arith, e)) (omega (arith, f)) (omega (arith, f)) (g.1 i y)
+
+  -- parts, and those behind them in the text
+  join_fits : (xs ys : List Part) (k a l b a' b' : ℕ) → Fit k a l b (plans_in xs) → Fit (k + a) a' (l + b) b' (plans_in ys) → k + (a + a') ≤ l → Fit k (a + a') l (b + b') (plans_in (xs ++ ys))
+  join_fits xs ys k a l b a' b' h g room = subst (Fit k (a + a') l (b + b')) (sym (plans_append xs ys)) (fit_both k a l b (k + a) a' (l + b) b' (plans_in xs) (plans_in ys) h g refl refl room)
 
   -- ---- a block without WITH
 
@@ -226,10 +226,10 @@ module _ (c : Contents) (count m : ℕ) where
         let lf : ℕ = l + leaves_of_all ctes in
         let xs : List Part = parts_from c leaving (relations c from 0 None) (value_set outer (conjuncts_of filter_ from)) from 0 None k lf in
         let asked : List Plan = in_plans c (k + ins_in_from from) (lf + leaves_in from) subs in
-        subst (Fit k (ins_in_from from + ins_in_all subs) lf (leaves_in from + leaves_of_all subs)) (sym (parts_plans xs asked))
-        (fit_both k (ins_in_from from) lf (leaves_in from) (k + ins_in_from from) (ins_in_all subs) (lf + leaves_in from) (leaves_of_all subs) (plans_in xs) asked
+        join_fits xs (map Asks asked) k (ins_in_from from) lf (leaves_in from) (ins_in_all subs) (leaves_of_all subs)
         (from_fits leaving (relations c from 0 None) (value_set outer (conjuncts_of filter_ from)) from 0 None k lf (numbers_from (k + ins_in_from from) subs) h.0 (omega (arith, room)))
-        (ins_fit (k + ins_in_from from) (lf + leaves_in from) subs h.1 (omega (arith, room))) refl refl (omega (arith, room)))
+        (subst (Fit (k + ins_in_from from) (ins_in_all subs) (lf + leaves_in from) (leaves_of_all subs)) (sym (asked_plans asked)) (ins_fit (k + ins_in_from from) (lf + leaves_in from) subs h.1 (omega (arith, room))))
+        (omega (arith, room))
 
     from_fits : (leaving : Leaving) (rels : List Relation) (sets : ℕ → ValueSet) (f : FromTree) (start : ℕ) (outer : Option OuterJoin) (k l : ℕ) (own : List ℕ) → FromIsNested Outside (λ i. Outside i ⊎ Has own i) k f →
         Room k (ins_in_from f) l (leaves_in f) → Fit k (ins_in_from f) l (leaves_in f) (plans_in (parts_from c leaving rels sets f start outer k l))
@@ -249,29 +249,20 @@ module _ (c : Contents) (count m : ℕ) where
     from_fits leaving rels sets (Cross' p (more_of-FromTree a end_of-FromTree) q (more_of-FromTree b end_of-FromTree)) start outer k l own h room =
         let k' : ℕ = k + ins_in_from a in
         let l' : ℕ = l + leaves_in a in
-        let xs : List Part = parts_from c leaving rels sets a start None k l in
-        let ys : List Part = parts_from c leaving rels sets b (start + columns_in a) None k' l' in
-        subst (Fit k (ins_in_from a + ins_in_from b) l (leaves_in a + leaves_in b)) (sym (plans_append xs ys))
-        (fit_both k (ins_in_from a) l (leaves_in a) k' (ins_in_from b) l' (leaves_in b) (plans_in xs) (plans_in ys)
-        (from_fits leaving rels sets a start None k l own h.0 (omega (arith, room))) (from_fits leaving rels sets b (start + columns_in a) None k' l' own h.1 (omega (arith, room))) refl refl (omega (arith, room)))
+        join_fits (parts_from c leaving rels sets a start None k l) (parts_from c leaving rels sets b (start + columns_in a) None k' l') k (ins_in_from a) l (leaves_in a) (ins_in_from b) (leaves_in b)
+        (from_fits leaving rels sets a start None k l own h.0 (omega (arith, room))) (from_fits leaving rels sets b (start + columns_in a) None k' l' own h.1 (omega (arith, room))) (omega (arith, room))
     from_fits leaving rels sets (Inner' p (more_of-FromTree a end_of-FromTree) q (more_of-FromTree b end_of-FromTree) on) start outer k l own h room =
         let k' : ℕ = k + ins_in_from a in
         let l' : ℕ = l + leaves_in a in
-        let xs : List Part = parts_from c leaving rels sets a start None k l in
-        let ys : List Part = parts_from c leaving rels sets b (start + columns_in a) None k' l' in
-        subst (Fit k (ins_in_from a + ins_in_from b) l (leaves_in a + leaves_in b)) (sym (plans_append xs ys))
-        (fit_both k (ins_in_from a) l (leaves_in a) k' (ins_in_from b) l' (leaves_in b) (plans_in xs) (plans_in ys)
-        (from_fits leaving rels sets a start None k l own h.0 (omega (arith, room))) (from_fits leaving rels sets b (start + columns_in a) None k' l' own h.1 (omega (arith, room))) refl refl (omega (arith, room)))
+        join_fits (parts_from c leaving rels sets a start None k l) (parts_from c leaving rels sets b (start + columns_in a) None k' l') k (ins_in_from a) l (leaves_in a) (ins_in_from b) (leaves_in b)
+        (from_fits leaving rels sets a start None k l own h.0 (omega (arith, room))) (from_fits leaving rels sets b (start + columns_in a) None k' l' own h.1 (omega (arith, room))) (omega (arith, room))
     from_fits leaving rels sets (Left' p (more_of-FromTree a end_of-FromTree) q (more_of-FromTree b end_of-FromTree) on) start outer k l own h room =
         let k' : ℕ = k + ins_in_from a in
         let l' : ℕ = l + leaves_in a in
         let sb : ℕ → ValueSet = right_sets sets (sets_in c sets a start) (distribution_in c b (start + columns_in a)) start (start + columns_in a) on in
         let o : Option OuterJoin = Some (record { left = start; equalities = equalities (conjuncts on) }) in
-        let xs : List Part = parts_from c leaving rels sets a start None k l in
-        let ys : List Part = parts_from c leaving rels sb b (start + columns_in a) o k' l' in
-        subst (Fit k (ins_in_from a + ins_in_from b) l (leaves_in a + leaves_in b)) (sym (plans_append xs ys))
-        (fit_both k (ins_in_from a) l (leaves_in a) k' (ins_in_from b) l' (leaves_in b) (plans_in xs) (plans_in ys)
-        (from_fits leaving rels sets a start None k l own h.0 (omega (arith, room))) (from_fits leaving rels sb b (start + columns_in a) o k' l' own h.1 (omega (arith, room))) refl refl (omega (arith, room)))
+        join_fits (parts_from c leaving rels sets a start None k l) (parts_from c leaving rels sb b (start + columns_in a) o k' l') k (ins_in_from a) l (leaves_in a) (ins_in_from b) (leaves_in b)
+        (from_fits leaving rels sets a start None k l own h.0 (omega (arith, room))) (from_fits leaving rels sb b (start + columns_in a) o k' l' own h.1 (omega (arith, room))) (omega (arith, room))
 
     ins_fit : (k l : ℕ) {n : _} (qs : Row_of-Query n) → AreNested Outside k qs → Room k (ins_in_all qs) l (leaves_of_all qs) → Fit k (ins_in_all qs) l (leaves_of_all qs) (in_plans c k l qs)
     ins_fit k l query.end_of-Query h room = fit_none k 0 l 0
@@ -333,7 +324,7 @@ module _ (c : Contents) (count : ℕ) where
         (order_grows count P R known p s.0 (λ j r x. clash own space.1 inner space.3 j (few j r) (s.1 j x)), u.0),
         (λ j x. joined R (set_by p) (set_in rest) j (u.1 j (omega (arith, x)))),
         (λ j x. taken (i + 1 + count_of more) n (k + ins_in q + ins_in_ctes more) f (l + leaves_of q + leaves_of_all more) (i + (1 + count_of more)) (k + (ins_in q + ins_in_ctes more)) (l + (leaves_of q + leaves_of_all more)) j
-        (omega arith) (omega arith) (omega arith) (u.2 j (split R (set_by p) (set_in rest) j x))),
+            (omega arith) (omega arith) (omega arith) (u.2 j (split R (set_by p) (set_in rest) j x))),
       )
     where
       unlike : (i k a l b : ℕ) → i < k → i < l → Between k (k + a) l (l + b) i → ⊥
