@@ -49,6 +49,7 @@ joined P us vs i (inl (inl p)) = inl p
 joined P us vs i (inl (inr first)) = inr (has_left us vs i first)
 joined P us vs i (inr later) = inr (has_right us vs i later)
 
+-- each over those before it
 abbrev pub InOrder : ℕ → (ℕ → Type 0) → List Plan → Type 0
 InOrder count P [] = ⊤
 InOrder count P (p ∷ ps) = IsOrdered count P p × InOrder count (λ i. P i ⊎ Has (set_by p) i) ps
@@ -161,7 +162,7 @@ module _ (count : ℕ) (P : ℕ → Type 0) where
       second i h k = elim (has_either (set_by x) (set_in xs) i k) [ inl first ↦ a.1 i first (has_left (set_by y) (set_in xs) i h) | inr later ↦ a.2.1 i h later ]
   apart_again (then r s) a = apart_again s (apart_again r a)
 
-  -- and before them plans in their order, with which they are over results that are set
+  -- and so they are behind plans in their order, with which the results that they name are set
   order_append : (R : ℕ → Type 0) (ps qs : List Plan) → InOrder count R ps → ((i : ℕ) → P i → R i ⊎ Has (set_in ps) i) → AreApart qs → ((i : ℕ) → R i ⊎ Has (set_in ps) i → Has (set_in qs) i → ⊥) → InOrder count R (ps ++ qs)
   order_append R [] qs ordered known a clear = apart_order R (λ i p. elim (known i p) [ inl r ↦ r | inr h ↦ absurd h ]) qs a (λ i r h. clear i (inl r) h)
   order_append R (p ∷ ps) qs ordered known a clear = (ordered.0, order_append (λ i. R i ⊎ Has (set_by p) i) ps qs ordered.1 (λ i s. split R (set_by p) (set_in ps) i (known i s)) a (λ i k h. clear i (joined R (set_by p) (set_in ps) i k) h))

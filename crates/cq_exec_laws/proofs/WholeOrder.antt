@@ -58,13 +58,11 @@ in_body (Query' cs ctes ss subs from filter_ grouped keys aggs having items show
 in_both : (q : Query) → leaves_of q ≡ in_ctes q + in_body q
 in_both (Query' cs ctes ss subs from filter_ grouped keys aggs having items shown distinct order limit offset names) = refl
 
--- ---- plans that name the first m results alone, beside those below them
-
 no_plans : (c : Contents) (i k l : ℕ) {n : _} (qs : Row_of-Query n) → is_none_of_them qs ≡ true → cte_plans c i k l qs ≡ []
 no_plans c i k l query.end_of-Query h = refl
 no_plans c i k l (query.more_of-Query q more) h = cc
 
--- a result is not among those behind it
+-- a relation's result is not among those behind it, nor that of an IN subquery
 behind_it : (k a l b : ℕ) → k + a ≤ l → Between k (k + a) (l + 1) (l + 1 + b) l → ⊥
 behind_it k a l b room (inl x) = absurd (omega (arith, x, room))
 behind_it k a l b room (inr x) = absurd (omega (arith, x))
@@ -72,6 +70,8 @@ behind_it k a l b room (inr x) = absurd (omega (arith, x))
 before : (k a l b : ℕ) → k + 1 + a ≤ l → Between (k + 1) (k + 1 + a) l (l + b) k → ⊥
 before k a l b room (inl x) = absurd (omega (arith, x))
 before k a l b room (inr x) = absurd (omega (arith, x, room))
+
+-- ---- plans that name the first m results alone, beside those below them
 
 module _ (c : Contents) (count m : ℕ) where
   abbrev Outside : ℕ → Type 0
@@ -167,6 +167,7 @@ module _ (c : Contents) (count m : ℕ) where
 
   -- ---- a query without WITH
 
+  -- by what is known of its parts, whatever leaves it
   sound_plan : (number kc k l : ℕ) (q : Query) → IsNested Outside k q → ((leaving : Leaving) → Fit k (ins_in q) (l + in_ctes q) (in_body q) (plans_in (parts_inside c leaving q [] k l))) → Room k (ins_in q) l (leaves_of q) →
       m ≤ number → number < count → (Between k (k + ins_in q) l (l + leaves_of q) number → ⊥) → Sound number k (ins_in q) l (leaves_of q) (plan_of c number kc k l q)
   sound_plan number kc k l (Query' cs ctes ss subs from filter_ grouped keys aggs having items shown distinct order limit offset names) h fits room low high free =
@@ -284,6 +285,7 @@ taken : (i n k f l i' k' l' j : ℕ) → i ≤ i' → k ≤ k' → l ≤ l' → 
 taken i n k f l i' k' l' j a b d (inl h) = inl (omega (arith, a, h))
 taken i n k f l i' k' l' j a b d (inr h) = inr (between n k f l n k' f l' j (omega arith) b (omega arith) d h)
 
+-- what comes next is not among them
 not_taken : (i n k f l a b j : ℕ) → i ≤ n → n ≤ k → k + a ≤ f → f ≤ l → Taken i n k f l j → Between k (k + a) l (l + b) j → ⊥
 not_taken i n k f l a b j u v w x (inl h) (inl y) = absurd (omega (arith, u, v, h, y))
 not_taken i n k f l a b j u v w x (inl h) (inr y) = absurd (omega (arith, u, v, w, x, h, y))
@@ -298,7 +300,7 @@ not_own i n k f l u v (inr (inl h)) = absurd (omega (arith, u, h))
 not_own i n k f l u v (inr (inr h)) = absurd (omega (arith, u, v, h))
 
 module _ (c : Contents) (count : ℕ) where
-  -- each over the CTEs before it
+  -- each is over the CTEs before it; behind them all CTEs are set, and besides only what stands in them
   ctes_order : (R : ℕ → Type 0) (i n k f l : ℕ) {w : _} (qs : Row_of-Query w) → CtesAreNested i k qs → (i + count_of qs ≤ n) × (n ≤ k) × (k + ins_in_ctes qs ≤ f) × (f ≤ l) × (l + leaves_of_all qs ≤ count) →
       ((j : ℕ) → j < i → R j) → ((j : ℕ) → R j → Taken i n k f l j) →
       InOrder count R (cte_plans c i k l qs) × ((j : ℕ) → j < i + count_of qs → R j ⊎ Has (set_in (cte_plans c i k l qs)) j)
