@@ -1,3 +1,5 @@
+mod Bounds
 mod Members
 mod Naming
 mod Ordering
+mod Widening
