@@ -2,4 +2,5 @@ mod Bounds
 mod Members
 mod Naming
 mod Ordering
+mod Staying
 mod Widening
