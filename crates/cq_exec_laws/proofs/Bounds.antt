@@ -302,3 +302,44 @@ module _ (c : Contents) (widths : ℕ → ℕ) (cs ds : Columns) (wide : Extends
         step_bounded i k k l q none.0 own.0 (all_left Ready (steps_in k q) (s ∷ rest) ready) (stand_left ds.results (query_bits cs q) (all_query_bits cs more) l stand) (λ fine. inside_bounded q k l fine),
         ctes_bounded (i + 1) (k + ins_in q) (l + leaves_of q) more none.1 own.1 (stand_right ds.results (query_bits cs q) (all_query_bits cs more) l (leaves_of q) (query_long cs q) stand),
       )
+
+-- ---- a statement
+
+pub plans_are_bound : PlansAreBound
+plans_are_bound c widths cs (Query' ts ctes ss subs from filter_ grouped keys aggs having items shown distinct order limit offset names) laid outermost scoped bound =
+    let q : Query = Query' ts ctes ss subs from filter_ grouped keys aggs having items shown distinct order limit offset names in
+    let n : ℕ = count_of ctes in
+    let m : ℕ = n + ins_in_ctes ctes in
+    let first : ℕ = first_free q in
+    let more : List (List ℕ) = query_bits cs q ++ output_bits cs q ∷ [] in
+    let ds : Columns = record { tables = cs.tables; results = cs.results ++ more } in
+    let all : length (cs.results ++ more) ≡ length cs.results + length more = length-append cs.results more in
+    let own : length more ≡ leaves_of q + 1 = length-append (query_bits cs q) (output_bits cs q ∷ []) ∙ (λ i. query_long cs q i + 1) in
+    let many : length cs.results ≡ first = bound.2 in
+    let wide : Extends cs ds = record { tables = refl; results = λ i h. get_or_append_left cs.results more [] i h; counted = omega (arith, all) } in
+    let stand : Stand ds.results first more = subst (λ l. Stand ds.results l more) many (stand_behind cs.results more) in
+    let others : Stand ds.results first (query_bits cs q) = stand_left ds.results (query_bits cs q) (output_bits cs q ∷ []) first stand in
+    let below : AllByRecursion (StepBelow first) (steps_of q) = steps_below (λ i. ⊥) first (λ i h. absurd h) (steps_of q) scoped.0 in
+    let ready : AllByRecursion (Ready c widths cs ds wide) (steps_of q) =
+    all_three (IsLaidStep c widths) (StepBelow (length cs.results)) (IsBoundStep cs) (Ready c widths cs ds wide) (λ s a b d. (a.0, b, d)) (steps_of q) laid.1 (subst (λ k. AllByRecursion (StepBelow k) (steps_of q)) (sym many) below) bound.1 in
+    let xs : List Step = steps_in_ctes 0 n ctes in
+    let ys : List Step = steps_in_from m from ++ steps_in_all (m + ins_in_from from) subs in
+    let fine : FineQuery c widths cs ds wide q m first = record {
+      laid = laid.0;
+      none = (outermost.1, outermost.2);
+      below = subst (λ k. QueryBelow k q) (sym many) (query_below (λ i. Has (map (λ (s : Step). s.number) (steps_of q)) i) first (has_below first (steps_of q) below) q scoped.1);
+      bound = bound.0;
+      ready = all_right (Ready c widths cs ds wide) xs ys ready;
+      stand = others;
+    } in (
+      ds,
+      wide,
+      omega (arith, all, own, many),
+      plan_bounded c widths cs ds wide (first + leaves_of q) n m first q fine (inside_bounded c widths cs ds wide q m first fine)
+          (stand_right ds.results (query_bits cs q) (output_bits cs q ∷ []) first (leaves_of q) (query_long cs q) stand).0
+          (ctes_bounded c widths cs ds wide 0 n first ctes outermost.0 (all_left (Ready c widths cs ds wide) xs ys ready) (stand_left ds.results (all_query_bits cs ctes) (relation_bits cs from ++ all_query_bits cs subs) first others)),
+    )
+  where
+    all_three : {X : Type 0} (P Q R S : X → Type 0) → ((x : X) → P x → Q x → R x → S x) → (xs : List X) → AllByRecursion P xs → AllByRecursion Q xs → AllByRecursion R xs → AllByRecursion S xs
+    all_three P Q R S f [] p q r = tt
+    all_three P Q R S f (x ∷ xs) p q r = (f x p.0 q.0 r.0, all_three P Q R S f xs p.1 q.1 r.1)
