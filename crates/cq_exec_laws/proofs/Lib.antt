@@ -1,7 +1,11 @@
-mod Naming
-mod Ordering
-mod Growing
-mod Nested
 mod Apart
+mod Bounds
+mod Growing
+mod Members
+mod Naming
+mod Nested
+mod Ordering
 mod Staying
+mod StayingBounds
+mod Widening
 mod WholeOrder
