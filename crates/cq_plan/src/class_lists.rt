@@ -6,21 +6,11 @@ ghost use Rattle.cq_plan.specs.ClassLists.{members, classes_by, classes_of};
 use cq_relations::count_columns;
 use cq_shape::{label_at, labels_in};
 use cq_tree::Query;
-use cq_value::{Items, NoMemory, Positions};
+use cq_value::{Items, NoMemory, Positions, small};
 use std::alloc::Global;
 
 /// Classes of columns, each ascending, in the order of their first columns.
 pub type Classes = Items<Positions>;
-
-/// A number of columns. One past 2^32 is of a FROM that no memory holds.
-fn few(count: u64) -> Result<u32, NoMemory>
-    ensures { IfOk result (λ n. n ≡ count) }
-{
-    match u32::try_from(count) {
-        Ok(n) => Ok(n),
-        Err(_) => Err(NoMemory),
-    }
-}
 
 /// Whether a column is in the class of this first column.
 fn is_in_class(labels: &[u32], column: u32, first: u32) -> bool
@@ -73,6 +63,6 @@ pub fn classes(alloc: Global, q: &Query) -> Result<Classes, NoMemory>
     ensures { IfOk result (λ v. v ≡ classes_of q.now) }
 {
     let labels = labels_in(alloc, &q.from, &q.filter)?;
-    let count = few(count_columns(&q.from)?)?;
+    let count = small(count_columns(&q.from)?)?;
     classes_with(alloc, labels.as_slice(), count)
 }

@@ -9,3 +9,4 @@ mod writes;
 
 pub use error::WriteError;
 pub use groups::Groups;
+pub use staging::outcome_of;

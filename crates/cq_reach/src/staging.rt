@@ -29,7 +29,7 @@ pub enum Stop {
 }
 
 /// The reply of a write, by what staging it came to.
-fn outcome_of(staged: Result<Staged, GroupError>) -> Result<Reply, WriteError>
+pub fn outcome_of(staged: Result<Staged, GroupError>) -> Result<Reply, WriteError>
     ensures { result ≡ outcome_by staged }
 {
     match staged {

@@ -3,20 +3,10 @@ ghost use Rattle.cq_planning.specs.Joins.{next_start as next_start_by_rule, own_
 ghost use Rattle.cq_planning.specs.Touched.{numbers};
 
 use cq_relations::Relation;
-use cq_value::{Items, NoMemory};
+use cq_value::{Items, NoMemory, small};
 
 /// Two columns each.
 pub type Pairs = Items<(u32, u32)>;
-
-/// The number of a column. One past 2^32 is of a FROM that no memory holds.
-fn few(column: u64) -> Result<u32, NoMemory>
-    ensures { IfOk result (λ n. n ≡ column) }
-{
-    match u32::try_from(column) {
-        Ok(n) => Ok(n),
-        Err(_) => Err(NoMemory),
-    }
-}
 
 /// Puts a column last with each of those from `start` on and before `end`.
 #[tactic(auto, using(crate::proofs::NumberLaws::one_put, crate::proofs::NumberLaws::all_put))]
@@ -35,8 +25,8 @@ fn put_own(pairs: &mut Pairs, relation: &Relation, end: u64) -> Result<(), NoMem
     ensures { OnOk result (pairs.new ≡ pairs.old ++ own_pairs relation.now end) }
 {
     if relation.is_plain() {
-        let column = few(relation.distribution().column)?;
-        put_columns(pairs, column, few(relation.start)?, few(end)?)
+        let column = small(relation.distribution().column)?;
+        put_columns(pairs, column, small(relation.start)?, small(end)?)
     } else {
         Ok(())
     }

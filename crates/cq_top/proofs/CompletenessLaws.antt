@@ -6,6 +6,7 @@ use Rattle.cq_value.proofs.Lists.{all_weaker}
 use Rattle.cq_answer.specs.declared.answered.Answered.{Answered}
 use Rattle.cq_store.specs.Stores.{StoreState}
 use Rattle.cq_store.specs.declared.worker.Worker.{Worker}
+use Rattle.cq_cluster.specs.Steady.{NamesNode}
 use Rattle.cq_phase.specs.Steady.{NameNoSteady}
 use Rattle.cq_script.specs.declared.reader.Halt.{Halt}
 use Rattle.cq_script.specs.Streams.{SourceState, SinkState}
@@ -18,9 +19,10 @@ use Rattle.cq_top.specs.declared.status.Status.TheVariants as statuses
 use Rattle.cq_top.specs.Chunks.{IsCountEnd}
 use Rattle.cq_top.specs.Completeness.{CompletesCalmly, IsComplete, KeepsLimits, ScriptKeepsLimits}
 use Rattle.cq_top.specs.Outputs.{status_of}
-use Rattle.cq_top.specs.Runs.{HasRun, ServesWords, answers_of, asked}
+use Rattle.cq_top.specs.Runs.{HasRun, ServesWords, Stand, answers_of, asked, eras_of}
 use Rattle.cq_top.specs.Scripts.{IsAnswered, IsHalted, ServesBy}
-use Rattle.cq_top.specs.Serving.{EndsWith}
+use Rattle.cq_top.specs.Serving.{EndsWith, run_by}
+use Rattle.cq_top.proofs.CauseLaws.{eras_are_done}
 
 -- no limit ended it, nor a line out of its place
 abbrev EndsWithin : Ending → Type 0
@@ -80,10 +82,15 @@ by_status s ending status answers within usage read write halted (inr (tail, inl
 by_status s ending status answers within usage read write halted (inr (tail, inr m)) = inr (inr m)
 
 pub completes : {X Y : Type 0} (state : Y → StoreState) (words : List (List ℕ)) (entry : List (Worker Y)) (status : Status) (log : RunLog X) (source source_end : SourceState) (sink sink_end : SinkState) →
-    HasRun words (length entry) status log source source_end sink sink_end → NameNoSteady state entry (answers_of log) → CompletesCalmly state words entry status (answers_of log) source source_end sink sink_end
-completes {X} {Y} state words entry status log source source_end sink sink_end ran names steady calm = record {
+    HasRun words (length entry) status log source source_end sink sink_end → NameNoSteady state entry (answers_of log) → Stand (asked words) entry log →
+    CompletesCalmly state words entry status log source source_end sink sink_end
+completes {X} {Y} state words entry status log source source_end sink sink_end ran names stand steady calm = record {
   ends = by_status (asked words) ran.ending status (answers_of log) (kept_words (asked words).chunks (asked words) ran.ending source source_end (answers_of log) calm.script ran.serves) (λ e. calm.well (ran.usage e)) (λ e. calm.reads (ran.read_fault e))
       (λ e. calm.writes (ran.write_fault e)) ran.halted ran.ends;
-  names = λ node. names node (all_weaker (λ (w : Worker Y). AllByRecursion (λ (x : Y). IsTrue (state x).steady) w.stores.items) (λ (w : Worker Y). AllByRecursion (λ (x : Y). (state x).node ≡ node → IsTrue (state x).steady) w.stores.items)
-      (λ w stores. all_weaker (λ (x : Y). IsTrue (state x).steady) (λ (x : Y). (state x).node ≡ node → IsTrue (state x).steady) (λ x t e. t) w.stores.items stores) entry steady);
+  names = unnamed;
+  does = eras_are_done (run_by (asked words) entry) (eras_of log) unnamed stand;
 }
+  where
+    unnamed : (node : ℕ) → AllByRecursion (λ (a : Answered). NamesNode a.answer node → ⊥) (answers_of log)
+    unnamed node = names node (all_weaker (λ (w : Worker Y). AllByRecursion (λ (x : Y). IsTrue (state x).steady) w.stores.items) (λ (w : Worker Y). AllByRecursion (λ (x : Y). (state x).node ≡ node → IsTrue (state x).steady) w.stores.items)
+        (λ w stores. all_weaker (λ (x : Y). IsTrue (state x).steady) (λ (x : Y). (state x).node ≡ node → IsTrue (state x).steady) (λ x t e. t) w.stores.items stores) entry steady)
