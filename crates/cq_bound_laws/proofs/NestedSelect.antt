@@ -157,7 +157,7 @@ module _ (w : World) (q : Layer Select-F) (parts : PartsRead q) (froms : AllByRe
         let all : last.subs ≡ end.adds.more = end.adds.subs ∙ ap (λ qs. qs ++ end.adds.more) from.subs in
         let ins : ins_all last.subs ≡ ins_all end.adds.more = ap ins_all all in
         let covers : Covers (Seen w ns) first.results end.adds.more =
-            subst (Covers (Seen w ns) first.results) all (subst (λ i. Covers (Seen w ns) i last.subs) (sym from.results) (covers_all (Seen w ns) base last.subs (λ i has. inr has))) in
+        subst (Covers (Seen w ns) first.results) all (subst (λ i. Covers (Seen w ns) i last.subs) (sym from.results) (covers_all (Seen w ns) base last.subs (λ i has. inr has))) in
         let nested : AllNested (Outside w) base last.subs = subst (AllNested (Outside w) base) (sym all) (subst (λ i. AllNested (Outside w) i end.adds.more) from.results end.adds.nested) in
         let start = from.holds ns tt in
         let named = end.adds.holds covers tt start.1 in
