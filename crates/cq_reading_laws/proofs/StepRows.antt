@@ -54,10 +54,10 @@ ins_hidden qs = ins_row (hidden-the_row-Query-2 qs) ∙ ap ins_all (items_hidden
 steps_hidden : (qs : List Query) (k : ℕ) → steps_in_all k (hidden-the_row-Query-2 qs) ≡ steps_all k qs
 steps_hidden qs k = steps_row (hidden-the_row-Query-2 qs) k ∙ ap (λ qs. steps_all k qs) (items_hidden-the_row-Query-2 qs)
 
-count_hidden : (qs : List Query) → count_of (hidden-the_row-Query-2 qs) ≡ length qs
+pub count_hidden : (qs : List Query) → count_of (hidden-the_row-Query-2 qs) ≡ length qs
 count_hidden qs = count_row (hidden-the_row-Query-2 qs) ∙ ap length (items_hidden-the_row-Query-2 qs)
 
-ins_ctes_hidden : (qs : List Query) → ins_in_ctes (hidden-the_row-Query-2 qs) ≡ ins_ctes qs
+pub ins_ctes_hidden : (qs : List Query) → ins_in_ctes (hidden-the_row-Query-2 qs) ≡ ins_ctes qs
 ins_ctes_hidden qs = ins_ctes_row (hidden-the_row-Query-2 qs) ∙ ap ins_ctes (items_hidden-the_row-Query-2 qs)
 
 steps_ctes_hidden : (qs : List Query) (i k : ℕ) → steps_in_ctes i k (hidden-the_row-Query-2 qs) ≡ steps_ctes i k qs
