@@ -185,7 +185,7 @@ fn a_group_is_written_as_it_moves(rt: HostRuntime) -> Result<(), Fail> {
     script.extend_from_slice(
         b"\\session 2\nSELECT citus_move_shard_placement(102008, 1, 2);\n\\end\nSELECT count(*) FROM e;\n",
     )?;
-    // the writer has a row before the snapshot and its second before the first round
+    // the writer's second row comes between the move's snapshot and its first round
     let ran = run_block(&rt, alloc, &Meeting::new(1, 2), script)?;
     let answers = ran.log.answers.as_slice();
     assert!(rt; number_of(answers, 103, 1)? >= 1);
