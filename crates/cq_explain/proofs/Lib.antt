@@ -1,15 +1,2 @@
-pub mod ClassLaws
-pub mod ComponentLaws
-pub mod JoinLaws
 pub mod LineLaws
-pub mod MarkLaws
-pub mod NextLaws
-pub mod NumberLaws
-pub mod OutlineLaws
-pub mod OutlineNodes
-pub mod PartLaws
-pub mod PieceLaws
-pub mod PlannerLaws
 pub mod ShardLaws
-pub mod TaskLaws
-pub mod ThereLaws

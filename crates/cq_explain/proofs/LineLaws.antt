@@ -10,11 +10,15 @@ use Rattle.cq_tree.specs.declared.plan.Step.{Step}
 use Rattle.std.specs.List.{repeat}
 use denote.Hole.Carrier.{hidden}
 use Rattle.cq_catalog.specs.Contents.{Contents}
-use Rattle.cq_outline.specs.declared.outline.Outline.{Outline, out-Outline, roll-Outline, roll-out-Outline, Row_of-Outline, end_of-Outline, more_of-Outline, items-the_row-Outline, items_hidden-the_row-Outline-0}
+use Rattle.cq_outline.specs.declared.outline.Outline.{Outline, roll-Outline, Row_of-Outline, end_of-Outline, more_of-Outline, items-the_row-Outline, items_hidden-the_row-Outline-0}
 use Rattle.cq_outline.specs.declared.outline.Outline.TheBlock.{hidden-the_row-Outline-0}
 use Rattle.cq_outline.specs.declared.outline.Outline.TheOpen.{Outline-F}
+use Rattle.cq_one_plan.specs.declared.plan.Plan.{Plan, out-Plan, roll-Plan, roll-out-Plan, Row_of-Plan, end_of-Plan, more_of-Plan, items-the_row-Plan, items_hidden-the_row-Plan-0}
+use Rattle.cq_one_plan.specs.declared.plan.Plan.TheBlock.{hidden-the_row-Plan-0}
+use Rattle.cq_one_plan.specs.declared.plan.Plan.TheOpen.{Plan-F}
+use Rattle.cq_one_plan.specs.Reading.{outline_in, outlines_in}
 use Rattle.cq_outline.specs.Texts.{line, planner_words, step_words, combine_words, shown_words, node_by, shard_lines, task_lines, subplans_in, plans_among, lines_from, subplan_lines}
-use Rattle.cq_explain.specs.Subplans.{count_of, lines_of}
+use Rattle.cq_explain.specs.Subplans.{count_of, lines_of, tables_in}
 
 pub blanks : (n : ℕ) → repeat {A = ℕ} n (32 ∷ []) ≡ replicate n 32
 blanks zero = refl
@@ -29,61 +33,107 @@ in_turn ls a b s u k t =
     ∙ (append_assoc (ls ++ a ∷ []) (b ∷ []) (s ++ (u ++ (k ∷ t)))
     ∙ append_assoc ls (a ∷ []) (b ∷ (s ++ (u ++ (k ∷ t)))))))
 
-count_row : {n : _} (ps : Row_of-Outline n) → plans_among ps ≡ count_of (items-the_row-Outline _ ps)
-count_row end_of-Outline = refl
-count_row (more_of-Outline p more) = ap (λ n. (1 + subplans_in p) + n) (count_row more)
+-- ---- a plan as EXPLAIN shows it
 
-count_rolled : (x : Outline-F Outline) → subplans_in (roll-Outline x) ≡ count_of x.subplans
+outlines_row : {n : _} (ps : Row_of-Plan n) → outlines_in ps ≡ map outline_in (items-the_row-Plan _ ps)
+outlines_row end_of-Plan = refl
+outlines_row (more_of-Plan p more) = ap (λ (rest : List Outline). outline_in p ∷ rest) (outlines_row more)
+
+outlines_hidden : (ps : List Plan) → outlines_in (hidden-the_row-Plan-0 ps) ≡ map outline_in ps
+outlines_hidden ps = outlines_row (hidden-the_row-Plan-0 ps) ∙ ap (map outline_in) (items_hidden-the_row-Plan-0 ps)
+
+-- the parts of what is shown
+abbrev shown_of : Plan-F Plan → List Outline → Outline-F Outline
+shown_of x subplans = record {
+  subplans = subplans;
+  planner = x.planner;
+  steps = x.parting.steps;
+  combine = x.combine;
+  tasks = x.tasks;
+  tables = tables_in x.touches;
+}
+
+outline_rolled : (x : Plan-F Plan) → outline_in (roll-Plan x) ≡ roll-Outline (shown_of x (map outline_in x.subplans))
+unfolding roll-Plan denote.Hole.Carrier.roll
+outline_rolled x = ap (λ (subplans : List Outline). roll-Outline (shown_of x subplans)) (outlines_hidden x.subplans)
+
+outline_is : (p : Plan) → outline_in p ≡ roll-Outline (shown_of (out-Plan p) (map outline_in (out-Plan p).subplans))
+outline_is p = ap outline_in (sym (roll-out-Plan p)) ∙ outline_rolled (out-Plan p)
+
+-- ---- counts
+
+count_row : {n : _} (ps : Row_of-Outline n) (qs : List Plan) → items-the_row-Outline _ ps ≡ map outline_in qs → plans_among ps ≡ count_of qs
+count_row end_of-Outline [] e = refl
+count_row end_of-Outline (q ∷ qs) e = cc
+count_row (more_of-Outline p more) [] e = cc
+count_row (more_of-Outline p more) (q ∷ qs) e = (λ i. (1 + subplans_in (first_same e i)) + count_row more qs (rest_same e) i)
+  where
+    first_same : p ∷ items-the_row-Outline _ more ≡ outline_in q ∷ map outline_in qs → p ≡ outline_in q
+    first_same e = cc
+
+    rest_same : p ∷ items-the_row-Outline _ more ≡ outline_in q ∷ map outline_in qs → items-the_row-Outline _ more ≡ map outline_in qs
+    rest_same e = cc
+
+count_rolled : (x : Plan-F Plan) → subplans_in (roll-Outline (shown_of x (map outline_in x.subplans))) ≡ count_of x.subplans
 unfolding roll-Outline denote.Hole.Carrier.roll
-count_rolled x = count_row (hidden-the_row-Outline-0 x.subplans) ∙ ap count_of (items_hidden-the_row-Outline-0 x.subplans)
+count_rolled x = count_row (hidden-the_row-Outline-0 (map outline_in x.subplans)) x.subplans (items_hidden-the_row-Outline-0 (map outline_in x.subplans))
 
-pub count_is : (p : Outline) → subplans_in p ≡ count_of (out-Outline p).subplans
-count_is p = ap subplans_in (sym (roll-out-Outline p)) ∙ count_rolled (out-Outline p)
+pub count_is : (p : Plan) → subplans_in (outline_in p) ≡ count_of (out-Plan p).subplans
+count_is p = ap subplans_in (outline_is p) ∙ count_rolled (out-Plan p)
 
 module _ (c : Contents) (nodes : ℕ → ℕ) where
-  lines_row : {n : _} (depth number : ℕ) (ps : Row_of-Outline n) → subplan_lines c nodes depth number ps ≡ lines_of c nodes depth number (items-the_row-Outline _ ps)
-  lines_row depth number end_of-Outline = refl
-  lines_row depth number (more_of-Outline p more) =
-      ap (λ (rest : List (List ℕ)). line depth (codes "->  Distributed Subplan " ++ decimal number) ∷ (lines_from c nodes (depth + 6) (number + 1) p ++ rest))
-      (lines_row depth ((number + 1) + subplans_in p) more)
+  lines_row : {n : _} (depth number : ℕ) (ps : Row_of-Outline n) (qs : List Plan) → items-the_row-Outline _ ps ≡ map outline_in qs → subplan_lines c nodes depth number ps ≡ lines_of c nodes depth number qs
+  lines_row depth number end_of-Outline [] e = refl
+  lines_row depth number end_of-Outline (q ∷ qs) e = cc
+  lines_row depth number (more_of-Outline p more) [] e = cc
+  lines_row depth number (more_of-Outline p more) (q ∷ qs) e =
+      (λ i. line depth (codes "->  Distributed Subplan " ++ decimal number) ∷ (lines_from c nodes (depth + 6) (number + 1) (first_same e i) ++ subplan_lines c nodes depth ((number + 1) + subplans_in (first_same e i)) more))
+      ∙ ap (λ (rest : List (List ℕ)). line depth (codes "->  Distributed Subplan " ++ decimal number) ∷ (lines_from c nodes (depth + 6) (number + 1) (outline_in q) ++ rest))
+      (lines_row depth ((number + 1) + subplans_in (outline_in q)) more qs (rest_same e))
+    where
+      first_same : p ∷ items-the_row-Outline _ more ≡ outline_in q ∷ map outline_in qs → p ≡ outline_in q
+      first_same e = cc
+
+      rest_same : p ∷ items-the_row-Outline _ more ≡ outline_in q ∷ map outline_in qs → items-the_row-Outline _ more ≡ map outline_in qs
+      rest_same e = cc
 
   -- the lines of a plan of these parts
-  abbrev pub lines_by : ℕ → ℕ → Outline-F Outline → List (List ℕ)
+  abbrev pub lines_by : ℕ → ℕ → Plan-F Plan → List (List ℕ)
   lines_by depth number x =
       line depth (codes "Custom Scan (Citus Adaptive)")
       ∷ (line (depth + 2) (planner_words x.planner)
-      ∷ (map (λ s. line (depth + 2) (step_words s)) x.steps
+      ∷ (map (λ s. line (depth + 2) (step_words s)) x.parting.steps
       ++ (lines_of c nodes (depth + 2) number x.subplans
       ++ (line (depth + 2) (combine_words x.combine)
-      ∷ task_lines c nodes x.planner x.tables (depth + 2) x.tasks))))
+      ∷ task_lines c nodes x.planner (tables_in x.touches) (depth + 2) x.tasks))))
 
-  lines_rolled : (depth number : ℕ) (x : Outline-F Outline) → lines_from c nodes depth number (roll-Outline x) ≡ lines_by depth number x
+  lines_rolled : (depth number : ℕ) (x : Plan-F Plan) → lines_from c nodes depth number (roll-Outline (shown_of x (map outline_in x.subplans))) ≡ lines_by depth number x
   unfolding roll-Outline denote.Hole.Carrier.roll
   lines_rolled depth number x =
       ap (λ (inner : List (List ℕ)). line depth (codes "Custom Scan (Citus Adaptive)")
       ∷ (line (depth + 2) (planner_words x.planner)
-      ∷ (map (λ s. line (depth + 2) (step_words s)) x.steps
-      ++ (inner ++ (line (depth + 2) (combine_words x.combine) ∷ task_lines c nodes x.planner x.tables (depth + 2) x.tasks)))))
-      (lines_row (depth + 2) number (hidden-the_row-Outline-0 x.subplans) ∙ ap (lines_of c nodes (depth + 2) number) (items_hidden-the_row-Outline-0 x.subplans))
+      ∷ (map (λ s. line (depth + 2) (step_words s)) x.parting.steps
+      ++ (inner ++ (line (depth + 2) (combine_words x.combine) ∷ task_lines c nodes x.planner (tables_in x.touches) (depth + 2) x.tasks)))))
+      (lines_row (depth + 2) number (hidden-the_row-Outline-0 (map outline_in x.subplans)) x.subplans (items_hidden-the_row-Outline-0 (map outline_in x.subplans)))
 
-  pub lines_is : (depth number : ℕ) (p : Outline) → lines_from c nodes depth number p ≡ lines_by depth number (out-Outline p)
-  lines_is depth number p = ap (lines_from c nodes depth number) (sym (roll-out-Outline p)) ∙ lines_rolled depth number (out-Outline p)
+  pub lines_is : (depth number : ℕ) (p : Plan) → lines_from c nodes depth number (outline_in p) ≡ lines_by depth number (out-Plan p)
+  lines_is depth number p = ap (lines_from c nodes depth number) (outline_is p) ∙ lines_rolled depth number (out-Plan p)
 
   -- what is put last one after the other is these lines
-  pub plan_lines : (depth inner number : ℕ) (p : Outline) (of_planner of_combine : List ℕ) (steps : List Step) (subplans : List Outline) (ls₀ ls₁ ls₂ ls₃ ls₄ ls₅ ls₆ : List (List ℕ)) → inner ≡ depth + 2 →
-      of_planner ≡ planner_words (out-Outline p).planner → of_combine ≡ combine_words (out-Outline p).combine → steps ≡ (out-Outline p).steps → subplans ≡ (out-Outline p).subplans →
+  pub plan_lines : (depth inner number : ℕ) (p : Plan) (of_planner of_combine : List ℕ) (steps : List Step) (subplans : List Plan) (ls₀ ls₁ ls₂ ls₃ ls₄ ls₅ ls₆ : List (List ℕ)) → inner ≡ depth + 2 →
+      of_planner ≡ planner_words (out-Plan p).planner → of_combine ≡ combine_words (out-Plan p).combine → steps ≡ (out-Plan p).parting.steps → subplans ≡ (out-Plan p).subplans →
       ls₁ ≡ ls₀ ++ line depth (codes "Custom Scan (Citus Adaptive)") ∷ [] → ls₂ ≡ ls₁ ++ line inner of_planner ∷ [] → ls₃ ≡ ls₂ ++ map (λ s. line inner (step_words s)) steps →
       ls₄ ≡ ls₃ ++ lines_of c nodes inner number subplans → ls₅ ≡ ls₄ ++ line inner of_combine ∷ [] →
-      ls₆ ≡ ls₅ ++ task_lines c nodes (out-Outline p).planner (out-Outline p).tables inner (out-Outline p).tasks → ls₆ ≡ ls₀ ++ lines_from c nodes depth number p
+      ls₆ ≡ ls₅ ++ task_lines c nodes (out-Plan p).planner (tables_in (out-Plan p).touches) inner (out-Plan p).tasks → ls₆ ≡ ls₀ ++ lines_from c nodes depth number (outline_in p)
   plan_lines depth inner number p of_planner of_combine steps subplans ls₀ ls₁ ls₂ ls₃ ls₄ ls₅ ls₆ e planner combine same all a b d f g h =
       h
-      ∙ (ap (λ (ls : List (List ℕ)). ls ++ task_lines c nodes (out-Outline p).planner (out-Outline p).tables inner (out-Outline p).tasks)
+      ∙ (ap (λ (ls : List (List ℕ)). ls ++ task_lines c nodes (out-Plan p).planner (tables_in (out-Plan p).touches) inner (out-Plan p).tasks)
       (g ∙ ap (λ (ls : List (List ℕ)). ls ++ line inner of_combine ∷ []) (f ∙ ap (λ (ls : List (List ℕ)). ls ++ lines_of c nodes inner number subplans)
       (d ∙ ap (λ (ls : List (List ℕ)). ls ++ map (λ s. line inner (step_words s)) steps) (b ∙ ap (λ (ls : List (List ℕ)). ls ++ line inner of_planner ∷ []) a))))
       ∙ (in_turn ls₀ (line depth (codes "Custom Scan (Citus Adaptive)")) (line inner of_planner) (map (λ s. line inner (step_words s)) steps) (lines_of c nodes inner number subplans) (line inner of_combine)
-      (task_lines c nodes (out-Outline p).planner (out-Outline p).tables inner (out-Outline p).tasks)
+      (task_lines c nodes (out-Plan p).planner (tables_in (out-Plan p).touches) inner (out-Plan p).tasks)
       ∙ ((λ i. ls₀ ++ (line depth (codes "Custom Scan (Citus Adaptive)") ∷ (line (e i) (planner i) ∷ (map (λ s. line (e i) (step_words s)) (same i) ++ (lines_of c nodes (e i) number (all i) ++ (line (e i) (combine i)
-      ∷ task_lines c nodes (out-Outline p).planner (out-Outline p).tables (e i) (out-Outline p).tasks))))))
+      ∷ task_lines c nodes (out-Plan p).planner (tables_in (out-Plan p).touches) (e i) (out-Plan p).tasks))))))
       ∙ ap (λ (ls : List (List ℕ)). ls₀ ++ ls) (sym (lines_is depth number p)))))
 
   -- ---- tasks
@@ -123,24 +173,24 @@ module _ (c : Contents) (nodes : ℕ → ℕ) where
   -- ---- subplans
 
   -- the lines of one subplan are those of the first that is left
-  pub one_more : (depth inner : ℕ) (ps : List Outline) (i : ℕ) (p : Outline) (n n' : ℕ) (ls₀ ls₁ ls₂ whole : List (List ℕ)) → i < length ps → p ≡ get_or ps i p → inner ≡ depth + 6 →
-      ls₁ ≡ ls₀ ++ line depth (codes "->  Distributed Subplan " ++ decimal n) ∷ [] → ls₂ ≡ ls₁ ++ lines_from c nodes inner (n + 1) p → n' ≡ (n + 1) + subplans_in p →
+  pub one_more : (depth inner : ℕ) (ps : List Plan) (i : ℕ) (p : Plan) (n n' : ℕ) (ls₀ ls₁ ls₂ whole : List (List ℕ)) → i < length ps → p ≡ get_or ps i p → inner ≡ depth + 6 →
+      ls₁ ≡ ls₀ ++ line depth (codes "->  Distributed Subplan " ++ decimal n) ∷ [] → ls₂ ≡ ls₁ ++ lines_from c nodes inner (n + 1) (outline_in p) → n' ≡ (n + 1) + subplans_in (outline_in p) →
       ls₀ ++ lines_of c nodes depth n (drop i ps) ≡ whole → ls₂ ++ lines_of c nodes depth n' (drop (i + 1) ps) ≡ whole
   one_more depth inner ps i p n n' ls₀ ls₁ ls₂ whole h is e a b d w =
-      let rest : List (List ℕ) = lines_of c nodes depth ((n + 1) + subplans_in p) (drop (i + 1) ps) in
+      let rest : List (List ℕ) = lines_of c nodes depth ((n + 1) + subplans_in (outline_in p)) (drop (i + 1) ps) in
       let head : List ℕ = line depth (codes "->  Distributed Subplan " ++ decimal n) in
-      let body : List (List ℕ) = lines_from c nodes (depth + 6) (n + 1) p in
-      let left : drop i ps ≡ p ∷ drop (i + 1) ps = drop_more ps i p h ∙ ap (λ (q : Outline). q ∷ drop (i + 1) ps) (sym is) in
-      let made : ls₂ ≡ (ls₀ ++ head ∷ []) ++ body = b ∙ (ap (λ k. ls₁ ++ lines_from c nodes k (n + 1) p) e ∙ ap (λ (ls : List (List ℕ)). ls ++ body) a) in
+      let body : List (List ℕ) = lines_from c nodes (depth + 6) (n + 1) (outline_in p) in
+      let left : drop i ps ≡ p ∷ drop (i + 1) ps = drop_more ps i p h ∙ ap (λ (q : Plan). q ∷ drop (i + 1) ps) (sym is) in
+      let made : ls₂ ≡ (ls₀ ++ head ∷ []) ++ body = b ∙ (ap (λ k. ls₁ ++ lines_from c nodes k (n + 1) (outline_in p)) e ∙ ap (λ (ls : List (List ℕ)). ls ++ body) a) in
       ap (λ (ls : List (List ℕ)). ls ++ lines_of c nodes depth n' (drop (i + 1) ps)) made
       ∙ (ap (λ k. ((ls₀ ++ head ∷ []) ++ body) ++ lines_of c nodes depth k (drop (i + 1) ps)) d
       ∙ (append_assoc (ls₀ ++ head ∷ []) body rest
       ∙ (append_assoc ls₀ (head ∷ []) (body ++ rest)
-      ∙ (ap (λ (qs : List Outline). ls₀ ++ lines_of c nodes depth n qs) (sym left) ∙ w))))
+      ∙ (ap (λ (qs : List Plan). ls₀ ++ lines_of c nodes depth n qs) (sym left) ∙ w))))
 
-pub count_more : (ps : List Outline) (i : ℕ) (p : Outline) (n n' total : ℕ) → i < length ps → p ≡ get_or ps i p → n' ≡ (n + 1) + subplans_in p →
+pub count_more : (ps : List Plan) (i : ℕ) (p : Plan) (n n' total : ℕ) → i < length ps → p ≡ get_or ps i p → n' ≡ (n + 1) + subplans_in (outline_in p) →
     n + count_of (drop i ps) ≡ total → n' + count_of (drop (i + 1) ps) ≡ total
 count_more ps i p n n' total h is d w =
-    let left : drop i ps ≡ p ∷ drop (i + 1) ps = drop_more ps i p h ∙ ap (λ (q : Outline). q ∷ drop (i + 1) ps) (sym is) in
-    let counted : count_of (drop i ps) ≡ (1 + subplans_in p) + count_of (drop (i + 1) ps) = ap count_of left in
+    let left : drop i ps ≡ p ∷ drop (i + 1) ps = drop_more ps i p h ∙ ap (λ (q : Plan). q ∷ drop (i + 1) ps) (sym is) in
+    let counted : count_of (drop i ps) ≡ (1 + subplans_in (outline_in p)) + count_of (drop (i + 1) ps) = ap count_of left in
     omega (arith, d, w, counted)

@@ -1,14 +1,15 @@
 ghost use Rattle.std.specs.Prelude.{◌≡◌, ◌+◌, ◌++◌, [], ◌∷◌, codes, decimal, map, slice_index_or, IfOk, OnOk};
-ghost use Rattle.cq_outline.specs.declared.outline.Outline.{out-Outline};
+ghost use Rattle.cq_one_plan.specs.declared.plan.Plan.{out-Plan};
+ghost use Rattle.cq_one_plan.specs.Reading.{outline_in, explained_by};
 ghost use Rattle.cq_outline.specs.Texts as texts;
-ghost use Rattle.cq_explain.specs.Subplans.{nodes_by, count_of, lines_of};
+ghost use Rattle.cq_explain.specs.Subplans.{nodes_by, count_of, lines_of, tables_in};
 
 use crate::shards::shards_read;
 use cq_catalog::Catalog;
-use cq_outline::Outline;
+use cq_one_plan::{Plan, Touch};
 use cq_relations::plus;
 use cq_tree::{Combine, Planner, Step, Task};
-use cq_value::{Items, NoMemory, Text};
+use cq_value::{Items, NoMemory, Positions, Text};
 use std::alloc::Global;
 
 /// Lines of a text.
@@ -121,20 +122,32 @@ fn put_shown(alloc: Global, lines: &mut Lines, depth: u64, tasks: u64) -> Result
     }
 }
 
+/// The tables alone.
+fn tables_of(alloc: Global, touches: &[Touch]) -> Result<Positions, NoMemory>
+    ensures { IfOk result (λ v. v ≡ tables_in touches.now) }
+{
+    let mut tables = Positions::new(alloc);
+    for touch in touches {
+        tables.put(touch.0)?;
+    }
+    Ok(tables)
+}
+
 /// Puts the line of the shards that a task reads last, which a repartition doesn't have.
 fn put_shards(
     site: Site<'_>,
     lines: &mut Lines,
     depth: u64,
-    outline: &Outline,
+    plan: &Plan,
     group: Option<u32>,
 ) -> Result<(), NoMemory>
-    ensures { OnOk result (lines.new ≡ lines.old ++ texts.shard_lines site.entry.catalog.now (out-Outline outline.now).planner (out-Outline outline.now).tables depth group) }
+    ensures { OnOk result (lines.new ≡ lines.old ++ texts.shard_lines site.entry.catalog.now (out-Plan plan.now).planner (tables_in (out-Plan plan.now).touches) depth group) }
 {
-    match outline.planner {
+    match plan.planner {
         Planner::Repartition => Ok(()),
         Planner::FastPath | Planner::Router | Planner::Pushdown | Planner::Coordinator => {
-            let words = shards_read(site.alloc, site.catalog, group, outline.tables.as_slice())?;
+            let tables = tables_of(site.alloc, plan.touches.as_slice())?;
+            let words = shards_read(site.alloc, site.catalog, group, tables.as_slice())?;
             put(site.alloc, lines, depth, words.as_str())
         }
     }
@@ -145,33 +158,28 @@ fn put_task(
     site: Site<'_>,
     lines: &mut Lines,
     depth: u64,
-    outline: &Outline,
+    plan: &Plan,
     group: Option<u32>,
 ) -> Result<(), NoMemory>
-    ensures { OnOk result (lines.new ≡ lines.old ++ (texts.line depth (codes "->  Task") ∷ (texts.line (depth + 6) (codes "Node: " ++ decimal (texts.node_by (nodes_by site.entry.nodes.now) group)) ∷ texts.shard_lines site.entry.catalog.now (out-Outline outline.now).planner (out-Outline outline.now).tables (depth + 6) group))) }
+    ensures { OnOk result (lines.new ≡ lines.old ++ (texts.line depth (codes "->  Task") ∷ (texts.line (depth + 6) (codes "Node: " ++ decimal (texts.node_by (nodes_by site.entry.nodes.now) group)) ∷ texts.shard_lines site.entry.catalog.now (out-Plan plan.now).planner (tables_in (out-Plan plan.now).touches) (depth + 6) group))) }
 {
     let inner = plus(depth, 6)?;
     put(site.alloc, lines, depth, "->  Task")?;
     let node = u64::from(node_of(site.nodes, group));
     put_number(site.alloc, lines, inner, "Node: ", node)?;
-    put_shards(site, lines, inner, outline, group)
+    put_shards(site, lines, inner, plan, group)
 }
 
 /// Puts how many tasks a block has last, and the lines of the first.
-fn put_tasks(
-    site: Site<'_>,
-    lines: &mut Lines,
-    depth: u64,
-    outline: &Outline,
-) -> Result<(), NoMemory>
-    ensures { OnOk result (lines.new ≡ lines.old ++ texts.task_lines site.entry.catalog.now (nodes_by site.entry.nodes.now) (out-Outline outline.now).planner (out-Outline outline.now).tables depth (out-Outline outline.now).tasks) }
+fn put_tasks(site: Site<'_>, lines: &mut Lines, depth: u64, plan: &Plan) -> Result<(), NoMemory>
+    ensures { OnOk result (lines.new ≡ lines.old ++ texts.task_lines site.entry.catalog.now (nodes_by site.entry.nodes.now) (out-Plan plan.now).planner (tables_in (out-Plan plan.now).touches) depth (out-Plan plan.now).tasks) }
 {
-    let count = outline.tasks.len();
+    let count = plan.tasks.len();
     put_number(site.alloc, lines, depth, "Task Count: ", count)?;
-    match outline.tasks.get(0) {
+    match plan.tasks.get(0) {
         Some(first) => {
             put_shown(site.alloc, lines, depth, count)?;
-            put_task(site, lines, depth, outline, first.group)
+            put_task(site, lines, depth, plan, first.group)
         }
         None => Ok(()),
     }
@@ -185,18 +193,18 @@ fn put_plan(
     lines: &mut Lines,
     depth: u64,
     number: u64,
-    outline: &Outline,
+    plan: &Plan,
 ) -> Result<u64, NoMemory>
-    ensures lines { OnOk result (lines.new ≡ lines.old ++ texts.lines_from site.entry.catalog.now (nodes_by site.entry.nodes.now) depth number outline.now) }
-    ensures next { IfOk result (λ next. next ≡ number + texts.subplans_in outline.now) }
+    ensures lines { OnOk result (lines.new ≡ lines.old ++ texts.lines_from site.entry.catalog.now (nodes_by site.entry.nodes.now) depth number (outline_in plan.now)) }
+    ensures next { IfOk result (λ next. next ≡ number + texts.subplans_in (outline_in plan.now)) }
 {
     let inner = plus(depth, 2)?;
     put(site.alloc, lines, depth, "Custom Scan (Citus Adaptive)")?;
-    put(site.alloc, lines, inner, planner_words(outline.planner))?;
-    put_steps(site.alloc, lines, inner, outline.steps.as_slice())?;
-    let next = put_subplans(site, lines, inner, number, outline.subplans.as_slice())?;
-    put(site.alloc, lines, inner, combine_words(outline.combine))?;
-    put_tasks(site, lines, inner, outline)?;
+    put(site.alloc, lines, inner, planner_words(plan.planner))?;
+    put_steps(site.alloc, lines, inner, plan.parting.steps.as_slice())?;
+    let next = put_subplans(site, lines, inner, number, plan.subplans.as_slice())?;
+    put(site.alloc, lines, inner, combine_words(plan.combine))?;
+    put_tasks(site, lines, inner, plan)?;
     Ok(next)
 }
 
@@ -207,7 +215,7 @@ fn put_subplans(
     lines: &mut Lines,
     depth: u64,
     number: u64,
-    subplans: &[Outline],
+    subplans: &[Plan],
 ) -> Result<u64, NoMemory>
     ensures lines { OnOk result (lines.new ≡ lines.old ++ lines_of site.entry.catalog.now (nodes_by site.entry.nodes.now) depth number subplans.now) }
     ensures next { IfOk result (λ next. next ≡ number + count_of subplans.now) }
@@ -221,14 +229,9 @@ fn put_subplans(
     Ok(next)
 }
 
-/// The lines of a plan, where the groups are on these nodes. `Err` is want of memory.
-pub fn text(
-    alloc: Global,
-    catalog: &Catalog,
-    nodes: &[u32],
-    outline: &Outline,
-) -> Result<Lines, NoMemory>
-    ensures { IfOk result (λ lines. lines ≡ texts.lines_from catalog.now (λ g. slice_index_or nodes.now g 0) 0 1 outline.now) }
+/// EXPLAIN's lines of a plan, where each group is on the node that stands at its place, 0 of one that is on every node. `Err` is want of memory.
+pub fn text(alloc: Global, catalog: &Catalog, nodes: &[u32], plan: &Plan) -> Result<Lines, NoMemory>
+    ensures { IfOk result (λ lines. lines ≡ explained_by catalog.now (λ g. slice_index_or nodes.now g 0) plan.now) }
 {
     let mut lines = Lines::new(alloc);
     let site = Site {
@@ -236,6 +239,6 @@ pub fn text(
         catalog,
         nodes,
     };
-    put_plan(site, &mut lines, 0, 1, outline)?;
+    put_plan(site, &mut lines, 0, 1, plan)?;
     Ok(lines)
 }

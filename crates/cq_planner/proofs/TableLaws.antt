@@ -13,7 +13,7 @@ use Rattle.cq_plan.specs.Touches.{touches}
 use Rattle.cq_plan.proofs.WalkLaws.{key_is}
 use Rattle.cq_outline.specs.declared.outline.Leaving.{Leaving}
 use Rattle.cq_outline.specs.Leaving.{leaves}
-use Rattle.cq_explain.specs.Pieces.{first_set}
+use Rattle.cq_planner.specs.Sides.{first_set}
 use Rattle.cq_one_plan.specs.declared.plan.Part.{Part}
 use Rattle.cq_one_plan.specs.Stays.{result_if}
 use Rattle.cq_planner.specs.declared.joins.Walked.{Walked}

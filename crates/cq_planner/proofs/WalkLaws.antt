@@ -25,7 +25,7 @@ use Rattle.cq_outline.specs.declared.outline.Leaving.{Leaving}
 use Rattle.cq_outline.specs.Leaving.{inside}
 use Rattle.cq_outline.specs.Tasking.{planner_of, leaving_by}
 use Rattle.cq_outline.specs.Outlines.{subquery_planner}
-use Rattle.cq_explain.specs.Pieces.{first_set}
+use Rattle.cq_planner.specs.Sides.{first_set}
 use Rattle.cq_one_plan.specs.declared.plan.Plan.{Plan}
 use Rattle.cq_one_plan.specs.declared.plan.Part.{Part}
 use Rattle.cq_one_plan.specs.declared.plan.Part.TheVariants.{Leaves, Asks}

@@ -1,5 +1,6 @@
 pub mod Counting
 pub mod Flaws
 pub mod Made
+pub mod Sides
 pub mod Strategies
 pub mod Walks

@@ -18,7 +18,7 @@ use Rattle.cq_outline.specs.declared.outline.Leaving.{Leaving}
 use Rattle.cq_outline.specs.Leaving.{leaves, leaves_subquery, inside}
 use Rattle.cq_outline.specs.Tasking.{groups_in, leaving_by}
 use Rattle.cq_outline.specs.Outlines.{subquery_planner}
-use Rattle.cq_explain.specs.Pieces.{planner_by}
+use Rattle.cq_strategies.specs.Planners.{planner_by}
 use Rattle.cq_one_plan.specs.declared.plan.Plan.{Plan}
 use Rattle.cq_one_plan.specs.declared.plan.Part.{Part}
 use Rattle.cq_one_plan.specs.declared.plan.Part.TheVariants.{Stays, Leaves}

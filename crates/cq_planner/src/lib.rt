@@ -8,6 +8,7 @@ mod lone;
 mod planning;
 mod reading;
 mod refusing;
+mod sides;
 mod staying;
 mod strategy;
 mod tables;

@@ -11,7 +11,7 @@ use Rattle.cq_plan.specs.Begun.{set_at, sets_under, seen}
 use Rattle.cq_plan.specs.Touches.{as_one}
 use Rattle.cq_plan.proofs.FromNodes.{distribution_cross, distribution_inner, distribution_left}
 use Rattle.cq_plan.proofs.WalkLaws.{free, no_key}
-use Rattle.cq_explain.specs.Pieces.{outer_by, first_set}
+use Rattle.cq_planner.specs.Sides.{outer_by, first_set}
 use Rattle.cq_one_plan.specs.declared.plan.Part.TheVariants.{Leaves, Asks}
 use Rattle.cq_one_plan.specs.Plans.{plan_of, parts_inside}
 use Rattle.cq_planner.specs.declared.tables.Start.{Start}

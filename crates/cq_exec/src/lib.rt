@@ -1,0 +1,11 @@
+//! Computes a query's plan over what was read of the shard groups that it touches: block by block, each by the tasks that its plan shows.
+#![tactic(auto)]
+
+mod blocks;
+mod captures;
+mod execution;
+mod tasks;
+
+pub use blocks::{Block, Blocks, blocks_of};
+pub use captures::Captures;
+pub use execution::execute;

@@ -1,7 +1,0 @@
-use Rattle.std.proofs.Common.{◌≡◌, fold}
-use Rattle.cq_shape.specs.Labels.{label}
-use Rattle.cq_explain.specs.Choices.{with_component}
-use Rattle.cq_explain.proofs.next.put_components.Given as goal
-
-abbrev pub invariant-loop-component : goal.invariant-loop-component
-invariant-loop-component l = l.chosen ≡ fold (with_component (label l.labels) l.marks) l.fn.chosen l.yielded

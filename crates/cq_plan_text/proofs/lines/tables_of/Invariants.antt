@@ -1,6 +1,0 @@
-use Rattle.std.proofs.Common.{◌≡◌, take}
-use Rattle.cq_plan_text.specs.Subplans.{tables_in}
-use Rattle.cq_plan_text.proofs.lines.tables_of.Given as goal
-
-abbrev pub invariant-loop-touch : goal.invariant-loop-touch
-invariant-loop-touch l = l.tables ≡ tables_in (take l.touch-index l.touches)

@@ -1,7 +1,0 @@
-//! EXPLAIN's lines of a plan.
-#![tactic(auto)]
-
-mod lines;
-mod shards;
-
-pub use lines::{Lines, text};

@@ -1,0 +1,10 @@
+pub mod ClassLaws
+pub mod ComponentLaws
+pub mod JoinLaws
+pub mod MarkLaws
+pub mod NextLaws
+pub mod NumberLaws
+pub mod PartLaws
+pub mod PlannerLaws
+pub mod TaskLaws
+pub mod ThereLaws

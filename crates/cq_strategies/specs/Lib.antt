@@ -1,0 +1,4 @@
+pub mod Choices
+pub mod Components
+pub mod Planners
+pub mod Shares
