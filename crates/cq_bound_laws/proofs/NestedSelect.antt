@@ -114,38 +114,60 @@ module _ (w : World) (q : Layer Select-F) (parts : PartsRead q) (froms : AllByRe
       items_name [] h = tt
       items_name (x ∷ xs) h = (h.0.0, items_name xs h.1)
 
+      -- what is known behind WHERE, GROUP BY, HAVING, the select list and ORDER BY
+      abbrev Filtered : Cond → Type 0
+      Filtered c = ⊤ × CondNames P c
+
+      abbrev Keyed : Cond → List Expr → Type 0
+      Keyed c keys = Filtered c × AllByRecursion (Names P) keys
+
+      abbrev Kept : Cond → List Expr → Cond → Type 0
+      Kept c keys h = Keyed c keys × CondNames P h
+
+      abbrev Listed : Cond → List Expr → Cond → List Shown → Type 0
+      Listed c keys h outs = Kept c keys h × AllByRecursion (ShownNames (after r keys false) ns) outs
+
+      abbrev Sorted : Cond → List Expr → Cond → List Shown → Ordered → Type 0
+      Sorted c keys h outs o = Listed c keys h outs × OrderNames (after r keys false) ns o
+
+      -- nothing more is read
+      so_far : (C : Type 0) (f : Found) → Adds O P true C (λ (u : ⊤). ⊤) f tt f
+      so_far C f = adds_none O P true C (λ (u : ⊤). ⊤) f tt f refl refl refl (λ c aggs. (tt, aggs))
+
+      ended : (c : Cond) (keys : List Expr) (h : Cond) (outs : List Shown) (o : Ordered) (last : Found) → So (Sorted c keys h outs o) last → Ended (walk.block_of q r c keys h outs o last) last
+      ended c keys h outs o last so = record {
+        filter = c;
+        keys = keys;
+        having = h;
+        outputs = outs;
+        order = o;
+        is = refl;
+        adds = adds_on O P true ⊤ ⊤ (λ (u : ⊤). Sorted c keys h outs o) (λ (u : ⊤). ⊤) (λ (u : ⊤). CondNames P c × AllByRecursion (Names P) keys × CondNames P h × AllByRecursion (Names P) o.items) first tt last tt last tt
+            so (so_far ⊤ last) (λ t c. tt) (λ t c v. (c.0.0.0.0.1, c.0.0.0.1, c.0.0.1, c.1));
+      }
+
       pub body_ends : EndedIf (behind r first)
       body_ends =
           let ts = s.targets r.columns q.items in
           let good = list.targets_read r.columns q.items parts.items in
           let by_filter = s.filter_of (s.before_grouping w r true) q.filter in
           let by_keys = s.group_keys (s.before_grouping w r false) ts r.joined q.groups in
-          so_then true ⊤ ⊤ (CondNames P) first (by_filter first) _ (λ c. c) (adds_none O P true ⊤ (λ (u : ⊤). ⊤) first tt first refl refl refl (λ c aggs. (tt, aggs)))
+          so_then true ⊤ ⊤ (CondNames P) first (by_filter first) _ (λ c. c) (so_far ⊤ first)
           (run w ns true ⊤ (CondNames P) by_filter first (list.filter_reads (s.before_grouping w r true) ns q.filter parts.filter)) (λ c f1 l1.
-          so_then false (⊤ × CondNames P c) ⊤ (AllByRecursion (Names P)) f1 (by_keys f1) _ (λ c. tt) l1
+          so_then false (Filtered c) ⊤ (AllByRecursion (Names P)) f1 (by_keys f1) _ (λ c. tt) l1
           (run w ns false ⊤ (AllByRecursion (Names P)) by_keys f1 (list.group_keys_read (s.before_grouping w r false) ns ts r.joined q.groups good parts.groups)) (λ keys f2 l2.
           let by_having = s.having_of (after r keys true) r.joined q.having in
           let by_outputs = s.at_most 512 limited.Outputs (s.read_target (after r keys false)) ts in
-          so_then true ((⊤ × CondNames P c) × AllByRecursion (Names P) keys) ⊤ (CondNames P) f2 (by_having f2) _ (λ c. tt) l2
-          (run w ns true ⊤ (CondNames P) by_having f2 (list.having_reads (after r keys true) ns r.joined q.having parts.having)) (λ having f3 l3.
-          so_then false (((⊤ × CondNames P c) × AllByRecursion (Names P) keys) × CondNames P having) ⊤ (AllByRecursion (ShownNames (after r keys false) ns)) f3 (by_outputs f3) _ (λ c. tt) l3
-          (run w ns false ⊤ (AllByRecursion (ShownNames (after r keys false) ns)) by_outputs f3 (list.outputs_read (after r keys false) ns ts good)) (λ outs f4 l4.
+          so_then true (Keyed c keys) ⊤ (CondNames P) f2 (by_having f2) _ (λ c. tt) l2
+          (run w ns true ⊤ (CondNames P) by_having f2 (list.having_reads (after r keys true) ns r.joined q.having parts.having)) (λ h f3 l3.
+          let V = AllByRecursion (ShownNames (after r keys false) ns) in
+          so_then false (Kept c keys h) ⊤ V f3 (by_outputs f3) _ (λ c. tt) l3
+          (run w ns false ⊤ V by_outputs f3 (list.outputs_read (after r keys false) ns ts good)) (λ outs f4 l4.
           let none : Ordered = record { items = map s.item_of outs; keys = [] } in
           let by_order = s.order_keys (after r keys false) outs q.distinct q.order none in
-          so_then false ((((⊤ × CondNames P c) × AllByRecursion (Names P) keys) × CondNames P having) × AllByRecursion (ShownNames (after r keys false) ns) outs) (⊤ × OrderNames (after r keys false) ns none) (OrderNames (after r keys false) ns) f4 (by_order f4) _
-          (λ c. (tt, items_name outs c.1)) l4
-          (run w ns false (⊤ × OrderNames (after r keys false) ns none) (OrderNames (after r keys false) ns) by_order f4 (list.order_reads (after r keys false) ns outs q.distinct q.order none parts.order)) (λ o f5 l5.
-          record {
-            filter = c;
-            keys = keys;
-            having = having;
-            outputs = outs;
-            order = o;
-            is = refl;
-            adds = adds_on O P true ⊤ ⊤ (λ (u : ⊤). ((((⊤ × CondNames P c) × AllByRecursion (Names P) keys) × CondNames P having) × AllByRecursion (ShownNames (after r keys false) ns) outs) × OrderNames (after r keys false) ns o) (λ (u : ⊤). ⊤)
-                (λ (u : ⊤). CondNames P c × AllByRecursion (Names P) keys × CondNames P having × AllByRecursion (Names P) o.items) first tt f5 tt f5 tt l5
-                (adds_none O P true ⊤ (λ (u : ⊤). ⊤) f5 tt f5 refl refl refl (λ c aggs. (tt, aggs))) (λ t c. tt) (λ t c v. (c.0.0.0.0.1, c.0.0.0.1, c.0.0.1, c.1));
-          })))))
+          let W = OrderNames (after r keys false) ns in
+          so_then false (Listed c keys h outs) (⊤ × W none) W f4 (by_order f4) _ (λ c. (tt, items_name outs c.1)) l4
+          (run w ns false (⊤ × W none) W by_order f4 (list.order_reads (after r keys false) ns outs q.distinct q.order none parts.order)) (λ o f5 l5. ended c keys h outs o f5 l5)))))
 
     -- the numbers of the IN subqueries are those that are seen
     pub ended_nested : (block : Block) (last : Found) → ((ns : List ℕ) → Ended ns block last) → found.blocks < 64 → BlockNested w found block (record last { subs = found.subs; aggs = found.aggs })
