@@ -2,8 +2,10 @@
 #![tactic(auto)]
 
 mod blocks;
+mod buckets;
 mod captures;
 mod execution;
+mod spread;
 mod tasks;
 
 pub use blocks::{Block, Blocks, blocks_of};
