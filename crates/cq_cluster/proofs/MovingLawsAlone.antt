@@ -1,12 +1,12 @@
 -- A move of a group that is held alone, beside which nothing is entered: its entries stand one behind the other, and there is nothing to catch up with.
-use Rattle.std.proofs.Common.{◌≡◌, ◌∙◌, ◌⊎◌, ◌<◌, inl, inr, ℕ, true, false, All, List, [], ◌∷◌, ◌++◌, length, map, refl, sym, ap, subst, arith, append-nil, None, Some, slice_get, Result, Ok, Err, IfOk, IfErr, OnErr}
+use Rattle.std.proofs.Common.{◌≡◌, ◌∙◌, ◌⊎◌, inl, inr, ℕ, true, false, List, [], ◌∷◌, ◌++◌, length, map, refl, sym, ap, subst, arith, append-nil, None, Some, slice_get, Result, Ok, Err, IfOk, IfErr, OnErr}
 use Rattle.std.specs.List.{AllByRecursion, AllZip, fold}
 use Rattle.std.proofs.lemmas.List.Sums.{fold-append}
 use Rattle.cq_value.proofs.Truths.{two_ways}
 use Rattle.cq_tree.specs.declared.journal.Who.{Who}
 use Rattle.cq_tree.specs.declared.journal.Entry.{Entry}
 use Rattle.cq_tree.specs.declared.journal.EntryKind.{EntryKind}
-use Rattle.cq_tree.specs.declared.journal.EntryKind.TheVariants.{MoveStart, CatchUp, Cutover, MoveStop}
+use Rattle.cq_tree.specs.declared.journal.EntryKind.TheVariants.{MoveStart, CatchUp, Cutover}
 use Rattle.cq_journal.specs.Records.{Journal}
 use Rattle.cq_journal.specs.Stations.{Station, moved, moving_of, node_of, station_of}
 use Rattle.cq_history.specs.Journals.{Step, consecutive, made_by, steps_after, with_entries}
@@ -144,7 +144,7 @@ moved_alone who from to r s t h = by h.rounds alone.own h.catches h.settled h.ca
         let end = first_of who (with_entries who (u.kind ∷ []) j) h.cutover [] next.more next.rest in
         let none = none_behind who (with_entries who (h.cutover.kind ∷ []) (with_entries who (u.kind ∷ []) j)) end.more end.rest in
         let kinds : alone.kinds ≡ h.start.kind ∷ u.kind ∷ h.cutover.kind ∷ [] =
-            first.all ∙ ap (λ (ks : List EntryKind). h.start.kind ∷ ks) (next.all ∙ ap (λ (ks : List EntryKind). u.kind ∷ ks) (end.all ∙ ap (λ (ks : List EntryKind). h.cutover.kind ∷ ks) none)) in
+        first.all ∙ ap (λ (ks : List EntryKind). h.start.kind ∷ ks) (next.all ∙ ap (λ (ks : List EntryKind). u.kind ∷ ks) (end.all ∙ ap (λ (ks : List EntryKind). h.cutover.kind ∷ ks) none)) in
         let copied : r.copied ≡ rows_in s.journal.entries s.tables = h.copied ∙ ap (λ (v : Step). rows_in v.before.entries s.tables) first.over in
         let all_caught : r.caught ≡ 0 = caught ∙ none_written who s.journal h.start u first.over next.over in
         let at_last : r.last ≡ 0 = last ∙ none_written who j u h.cutover next.over end.over in

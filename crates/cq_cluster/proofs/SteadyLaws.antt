@@ -31,7 +31,7 @@ use Rattle.cq_cluster.specs.declared.retired.Retired.{Retired}
 use Rattle.cq_cluster.specs.Accounts.{NamesFailed, Retires}
 use Rattle.cq_cluster.specs.Cluster.{IsRetired, IsSound}
 use Rattle.cq_cluster.specs.Moving.{HasKeptGroup, HasMovedGroup, move_answer}
-use Rattle.cq_cluster.specs.Steady.{AreExchangedSteady, ArePartedSteady, AreSteady, AreTakenSteady, GroupsAreSteady, IsSteadyAt, KeepsSteady, NamesNoSteady, NamesNode, RetiredAreSteady, SparesSteady, StaySteady, TakesBackSteady, WorkersAreSteady}
+use Rattle.cq_cluster.specs.Steady.{ArePartedSteady, AreSteady, AreTakenSteady, GroupsAreSteady, IsSteadyAt, KeepsSteady, NamesNoSteady, NamesNode, RetiredAreSteady, SparesSteady, StaySteady, TakesBackSteady, WorkersAreSteady}
 use Rattle.cq_cluster.specs.Steps.{AreOpened, HasOpened, IsBegun, forgotten}
 use Rattle.cq_cluster.proofs.ListLaws.{item_at}
 
