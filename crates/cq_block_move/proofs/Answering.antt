@@ -20,7 +20,7 @@ use Rattle.cq_store.specs.Stores.{StoreState}
 use Rattle.cq_group.specs.declared.start.MoveWhy.{MoveWhy}
 use Rattle.cq_group.specs.declared.start.MoveWhy.TheVariants as why
 use Rattle.cq_reach.specs.Seen.{Seen}
-use Rattle.cq_move.specs.declared.mover.MoveReport.{MoveReport}
+use Rattle.cq_move.specs.declared.outcome.MoveReport.{MoveReport}
 use Rattle.cq_move_calls.specs.Moving.{RefusesStart, Told}
 use Rattle.cq_transfer.specs.Carrying.{IsGivenUp}
 use Rattle.cq_transfer.specs.Entering.{HasMoved}

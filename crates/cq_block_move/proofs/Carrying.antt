@@ -18,8 +18,8 @@ use Rattle.cq_group.specs.Calls.{Lifted}
 use Rattle.cq_group.specs.Groups.{entries_of, outlines, journal_of}
 use Rattle.cq_reach.specs.Seen.{Seen, seen_of}
 use Rattle.cq_reach.proofs.Growth.{got, got_below}
-use Rattle.cq_move.specs.declared.mover.MoveReport.{MoveReport}
-use Rattle.cq_move.specs.declared.mover.NotMoved.{NotMoved}
+use Rattle.cq_move.specs.declared.outcome.MoveReport.{MoveReport}
+use Rattle.cq_move.specs.declared.outcome.NotMoved.{NotMoved}
 use Rattle.cq_move.specs.Outcomes.{IsTried, shards_in}
 use Rattle.cq_move_calls.specs.Moving.{AreSteadyOn}
 use Rattle.cq_transfer.specs.Entering.{HasMoved}

@@ -14,7 +14,7 @@ use Rattle.cq_history.specs.Room.{stores_moved}
 use Rattle.cq_store.specs.Stores.{StoreState}
 use Rattle.cq_store.specs.declared.worker.Worker.{Worker}
 use Rattle.cq_cluster.specs.Moving.{no_node}
-use Rattle.cq_move.specs.declared.mover.MoveReport.{MoveReport}
+use Rattle.cq_move.specs.declared.outcome.MoveReport.{MoveReport}
 use Rattle.cq_desk.specs.Moving.{AreKept}
 use Rattle.cq_shared.specs.Terms.{Terms}
 use Rattle.cq_shared.specs.Errands.{WorkerPass}

@@ -25,7 +25,7 @@ use Rattle.cq_group.specs.declared.group.GroupState.{GroupState}
 use Rattle.cq_group.specs.Groups.{Outline, entries_of, journal_of, or_no_shape, outlines, shape_at}
 use Rattle.cq_reach.specs.Seen.{Seen, seen_of, shape_seen}
 use Rattle.cq_reach.proofs.Growth.{got, got_below, journal_at}
-use Rattle.cq_move.specs.declared.mover.MoveReport.{MoveReport}
+use Rattle.cq_move.specs.declared.outcome.MoveReport.{MoveReport}
 use Rattle.cq_transfer.specs.Entering.{HasMoved}
 use Rattle.cq_cluster.specs.Cluster.{IsShardOf}
 use Rattle.cq_cluster.proofs.HeldLaws.{shards_of_covered, table_numbers}

@@ -14,7 +14,7 @@ use Rattle.cq_history.specs.Journals.{Step, made_by, steps_after}
 use Rattle.cq_history.proofs.Entries.{with_list, three}
 use Rattle.cq_group.specs.Groups.{entries_of, journal_of}
 use Rattle.cq_reach.specs.Seen.{Seen}
-use Rattle.cq_move.specs.declared.mover.MoveReport.{MoveReport}
+use Rattle.cq_move.specs.declared.outcome.MoveReport.{MoveReport}
 use Rattle.cq_transfer.specs.Entering.{HasMoved}
 use Rattle.cq_shared.specs.declared.content.Shard.{Shard}
 use Rattle.cq_shared.specs.declared.note.Note.{Note}

@@ -24,7 +24,7 @@ use Rattle.cq_group.specs.declared.start.MoveWhy.{MoveWhy}
 use Rattle.cq_group.specs.declared.start.MoveWhy.TheVariants as why
 use Rattle.cq_group.specs.Groups.{Outline}
 use Rattle.cq_reach.proofs.Growth.{got, got_below}
-use Rattle.cq_move.specs.declared.mover.MoveReport.{MoveReport}
+use Rattle.cq_move.specs.declared.outcome.MoveReport.{MoveReport}
 use Rattle.cq_move.specs.Outcomes.{EndsMove as EndsBy}
 use Rattle.cq_cluster.specs.declared.retired.Retired.{Retired}
 use Rattle.cq_cluster.specs.Accounts.{Retires}

@@ -10,8 +10,8 @@ use Rattle.cq_history.specs.Room.{stores_moved}
 use Rattle.cq_group.specs.declared.start.MoveWhy.{MoveWhy}
 use Rattle.cq_cell.specs.Cell.{AreOthers}
 use Rattle.cq_cell.specs.Lists.{StartsWith}
-use Rattle.cq_move.specs.declared.mover.MoveReport.{MoveReport}
-use Rattle.cq_move.specs.declared.mover.NotMoved.{NotMoved}
+use Rattle.cq_move.specs.declared.outcome.MoveReport.{MoveReport}
+use Rattle.cq_move.specs.declared.outcome.NotMoved.{NotMoved}
 use Rattle.cq_move_calls.specs.Moving.{AreSteadyOn, RefusesStart, Told}
 use Rattle.cq_cluster.specs.Moving.{Loses, fault_told}
 use Rattle.cq_transfer.specs.Carrying.{IsGivenUp}

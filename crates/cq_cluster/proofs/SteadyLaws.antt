@@ -25,13 +25,13 @@ use Rattle.cq_group.specs.Opening.{LosesLast}
 use Rattle.cq_group.specs.Resting.{GoOn}
 use Rattle.cq_move.specs.Outcomes.{IsTried}
 use Rattle.cq_move.specs.Taking.{without_first}
-use Rattle.cq_move.specs.declared.mover.MoveReport.{MoveReport}
+use Rattle.cq_move.specs.declared.outcome.MoveReport.{MoveReport}
 use Rattle.cq_cluster.specs.declared.cluster.Cluster.{Cluster}
 use Rattle.cq_cluster.specs.declared.retired.Retired.{Retired}
 use Rattle.cq_cluster.specs.Accounts.{NamesFailed, Retires}
 use Rattle.cq_cluster.specs.Cluster.{IsRetired, IsSound}
 use Rattle.cq_cluster.specs.Moving.{HasKeptGroup, HasMovedGroup, move_answer}
-use Rattle.cq_cluster.specs.Steady.{AreExchangedSteady, ArePartedSteady, AreSteady, AreTakenSteady, GroupsAreSteady, IsSteadyAt, KeepsSteady, NamesNoSteady, NamesNode, RetiredAreSteady, SparesSteady, StaySteady, TakesBackSteady, WorkersAreSteady}
+use Rattle.cq_cluster.specs.Steady.{ArePartedSteady, AreSteady, AreTakenSteady, GroupsAreSteady, IsSteadyAt, KeepsSteady, NamesNoSteady, NamesNode, RetiredAreSteady, SparesSteady, StaySteady, TakesBackSteady, WorkersAreSteady}
 use Rattle.cq_cluster.specs.Steps.{AreOpened, HasOpened, IsBegun, forgotten}
 use Rattle.cq_cluster.proofs.ListLaws.{item_at}
 
@@ -158,22 +158,6 @@ module _ {X : Type 0} (state : X → StoreState) where
     where
       at_old : (k : ℕ) (h : GroupState X) → slice_get new k ≡ Some h → (g : GroupState X) × (slice_get old k ≡ Some g)
       at_old k h s = item_at old k (let below = got_below new k h s in omega (arith, below, on.count))
-
-  -- ---- a group that becomes another
-
-  -- the group of this place got other stores, and gave those that it had
-  pub exchanged : (k : ℕ) (was is : GroupState X) (groups : List (GroupState X)) (given back : List X) → slice_get groups k ≡ Some was → AllZip (Lifted state IsTried) given (stores_of is) → AllZip (Lifted state GoesOn) (stores_of was) back →
-      AreExchangedSteady state groups given (set groups k is) back
-  exchanged k was is groups given back at new old node all stores =
-      let P : GroupState X → Type 0 = λ g. AreSteady state node (stores_of g) in
-      (all_set P groups k is all (tried_steady node given (stores_of is) new stores), go_on_steady node (stores_of was) back old (all_at P groups k was all at))
-
-  -- it went on, and the stores that were given come back
-  pub given_up : (k : ℕ) (was is : GroupState X) (groups : List (GroupState X)) (given back : List X) → slice_get groups k ≡ Some was → AllZip (Lifted state GoesOn) (stores_of was) (stores_of is) → AllZip (Lifted state IsTried) given back →
-      AreExchangedSteady state groups given (set groups k is) back
-  given_up k was is groups given back at on tried node all stores =
-      let P : GroupState X → Type 0 = λ g. AreSteady state node (stores_of g) in
-      (all_set P groups k is all (go_on_steady node (stores_of was) (stores_of is) on (all_at P groups k was all at)), tried_steady node given back tried stores)
 
   -- ---- a cluster
 

@@ -1,13 +1,11 @@
 -- The blocks of a plan keep to the binder's widths.
-use Rattle.std.proofs.Common.{◌≡◌, ◌+◌, ◌<◌, ◌≤◌, ℕ, zero, suc, List, [], ◌∷◌, ◌++◌, map, filter_map, length, take, Bool, true, false, cond, Option, None, Some, ◌⊎◌, inl, inr, refl, sym, ap, subst, ◌∙◌, append_assoc, append-nil, arith}
+use Rattle.std.proofs.Common.{◌≡◌, ◌+◌, ◌<◌, ℕ, List, [], ◌∷◌, ◌++◌, map, filter_map, length, Bool, true, false, cond, Option, None, Some, refl, sym, ap, subst, ◌∙◌, arith}
 use Rattle.std.specs.Prelude.{is_some, slice_index_or, ⊤}
 use Rattle.std.specs.List.{AllByRecursion}
-use Rattle.std.proofs.Math.Seq.{get_or-append_seam}
 use Rattle.std.proofs.lemmas.List.{length-append, get_or_append_left}
-use Rattle.cq_value.proofs.Lists.{all_append, all_left, all_right, all_both, all_weaker}
+use Rattle.cq_value.proofs.Lists.{all_append, all_left, all_right}
 use Rattle.cq_value.proofs.Truths.{and_both}
 use Rattle.cq_value.specs.declared.value.Value.{Value}
-use Rattle.cq_tree.specs.declared.expression.Cond.{Cond}
 use Rattle.cq_tree.specs.declared.plan.Planner.{Planner}
 use Rattle.cq_tree.specs.declared.query.FromTree.{FromTree, Table, Sub', Result, Cross', Inner', Left', end_of-FromTree, more_of-FromTree, end_of-Query, more_of-Query}
 use Rattle.cq_tree.specs.declared.query.Query.{Query, Query', Row_of-Query}
@@ -16,8 +14,7 @@ use Rattle.cq_meaning.specs.declared.Columns.{Columns}
 use Rattle.cq_meaning.specs.Lists.{Has}
 use Rattle.cq_meaning.specs.Queries.{columns_in, outputs_of}
 use Rattle.cq_meaning.specs.Results.{ins_in, ins_in_from, ins_in_ctes, count_of}
-use Rattle.cq_meaning.specs.Widths.{bits, input_bits, table_bits, from_bits, output_bits, IsBoundCondition, AreBoundItems, IsBoundFrom, IsBoundQuery}
-use Rattle.cq_meaning_laws.proofs.SafeLaws.{columns_are}
+use Rattle.cq_meaning.specs.Widths.{table_bits, from_bits, output_bits, IsBoundFrom, IsBoundQuery}
 use Rattle.cq_meaning_laws.specs.WholeRules.{Step, steps_in, steps_in_from, steps_in_all, steps_in_ctes, steps_of, IsBoundStep}
 use Rattle.cq_catalog.specs.Contents.{Contents}
 use Rattle.cq_catalog.specs.Placement.{place_at}
@@ -45,16 +42,13 @@ use Rattle.cq_one_plan.specs.declared.plan.Plan.TheBlock.{hidden-the_row-Plan-0}
 use Rattle.cq_one_plan.specs.declared.plan.Plan.TheOpen.{Plan-F}
 use Rattle.cq_one_plan.specs.declared.plan.Part.{Part}
 use Rattle.cq_one_plan.specs.declared.plan.Part.TheVariants.{Stays, Leaves, Asks}
-use Rattle.cq_one_plan.specs.Stays.{leaves_in, leaves_of, leaves_of_all, result_if, from_staying, query_staying, lone_query}
+use Rattle.cq_one_plan.specs.Stays.{leaves_in, leaves_of, leaves_of_all, query_staying, lone_query}
 use Rattle.cq_one_plan.specs.Plans as parted
 use Rattle.cq_one_plan.specs.Plans.{no_grounds, grounds_of, planned_in, plan_with, lone_plan, part_of_table, parts_of_subquery, key_of, output_of, output_set, plan_of, cte_plans, in_plans, parts_inside, parts_from, whole_plan, first_free, ctes_of, first_in}
-use Rattle.cq_plan_laws.specs.Laws.{with_from}
-use Rattle.cq_plan_laws.specs.Scoping.{FromNames, QueryNames, AreScoped}
 use Rattle.cq_plan_laws.specs.Touching.{HasNoCtes, FromHasNone, EachHasNone}
 use Rattle.cq_exec_laws.specs.Bounds.{AreBoundIn, EachBoundIn, Extends, PlansAreBound}
 use Rattle.cq_exec_laws.proofs.Members.{AllIn, InSet, InSets, value_set_in, right_in, from_in, given_in, key_in, output_in}
-use Rattle.cq_exec_laws.proofs.Widening.{IsFine, wider_condition, wider_items, conjuncts_fine, lone_bound}
-
+use Rattle.cq_exec_laws.proofs.Widening.{IsFine, conjuncts_fine, lone_bound}
 use Rattle.cq_exec_laws.proofs.StayingBounds.{Stand, stand_left, stand_right, stand_behind, query_bits, all_query_bits, relation_bits, relations_long, query_long, all_long, FromBelow, QueryBelow, query_below, StepBelow, steps_below, has_below, query_stands}
 
 -- the plans of a query's CTEs

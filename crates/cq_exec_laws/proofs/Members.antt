@@ -1,5 +1,5 @@
 -- The values of value sets are literals of conditions: what is so of all these literals is so of all values of the sets.
-use Rattle.std.proofs.Common.{◌≡◌, ◌+◌, inl, inr, ℕ, Bool, true, false, List, [], ◌∷◌, ◌++◌, filter, filter_map, fold, option_map, nat_eq, nat_lt, if◌then◌else◌, Option, None, Some}
+use Rattle.std.proofs.Common.{◌+◌, inl, inr, ℕ, Bool, true, false, List, [], ◌∷◌, ◌++◌, filter, filter_map, fold, option_map, nat_eq, nat_lt, if◌then◌else◌, Option, None, Some}
 use Rattle.std.specs.Prelude.{⊤}
 use Rattle.std.specs.List.{AllByRecursion, cons_option, list_any}
 use Rattle.std.specs.Ordering.{is_lt}

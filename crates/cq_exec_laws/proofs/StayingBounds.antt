@@ -1,59 +1,29 @@
 -- What stays of a query, where results stand for the relations that leave it, has the widths of the query, and the binder lets it through.
-use Rattle.std.proofs.Common.{◌≡◌, ◌+◌, ◌<◌, ◌≤◌, ℕ, zero, suc, List, [], ◌∷◌, ◌++◌, map, filter_map, length, take, Bool, true, false, cond, Option, None, Some, ◌⊎◌, inl, inr, refl, sym, ap, subst, ◌∙◌, append_assoc, append-nil, arith}
-use Rattle.std.specs.Prelude.{is_some, slice_index_or, ⊤}
+use Rattle.std.proofs.Common.{◌≡◌, ◌+◌, ◌<◌, ℕ, List, [], ◌∷◌, ◌++◌, map, length, take, Bool, true, false, Option, None, Some, ◌⊎◌, inl, inr, refl, sym, ap, subst, ◌∙◌, append_assoc, arith}
+use Rattle.std.specs.Prelude.{slice_index_or, ⊤}
 use Rattle.std.specs.List.{AllByRecursion}
 use Rattle.std.proofs.Math.Seq.{get_or-append_seam}
-use Rattle.std.proofs.lemmas.List.{length-append, get_or_append_left}
-use Rattle.cq_value.proofs.Lists.{all_append, all_left, all_right, all_both, all_weaker}
-use Rattle.cq_value.proofs.Truths.{and_both}
-use Rattle.cq_value.specs.declared.value.Value.{Value}
+use Rattle.std.proofs.lemmas.List.{length-append}
 use Rattle.cq_tree.specs.declared.expression.Cond.{Cond}
-use Rattle.cq_tree.specs.declared.plan.Planner.{Planner}
 use Rattle.cq_tree.specs.declared.query.FromTree.{FromTree, Table, Sub', Result, Cross', Inner', Left', end_of-FromTree, more_of-FromTree, end_of-Query, more_of-Query}
 use Rattle.cq_tree.specs.declared.query.Query.{Query, Query', Row_of-Query}
 use Rattle.cq_tree.specs.declared.query.Query as query
 use Rattle.cq_meaning.specs.declared.Columns.{Columns}
 use Rattle.cq_meaning.specs.Lists.{Has}
 use Rattle.cq_meaning.specs.Queries.{columns_in, outputs_of}
-use Rattle.cq_meaning.specs.Results.{ins_in, ins_in_from, ins_in_ctes, count_of}
 use Rattle.cq_meaning.specs.Widths.{bits, input_bits, table_bits, from_bits, output_bits, IsBoundCondition, AreBoundItems, IsBoundFrom, IsBoundQuery}
 use Rattle.cq_meaning_laws.proofs.SafeLaws.{columns_are}
-use Rattle.cq_meaning_laws.specs.WholeRules.{Step, steps_in, steps_in_from, steps_in_all, steps_in_ctes, steps_of, IsBoundStep}
+use Rattle.cq_meaning_laws.specs.WholeRules.{Step}
 use Rattle.cq_catalog.specs.Contents.{Contents}
-use Rattle.cq_catalog.specs.Placement.{place_at}
-use Rattle.cq_catalog.specs.declared.info.Place.{Place}
-use Rattle.cq_catalog.specs.declared.info.Place.TheVariants.{Local, Distributed, Reference}
-use Rattle.cq_planning.specs.Conjuncts.{conjuncts, conjuncts_of, equalities}
-use Rattle.cq_planning.specs.ValueSets.{ValueSet, value_set}
-use Rattle.cq_planning.specs.Relations.{OuterJoin, Relation, distribution_at, is_distributed}
-use Rattle.cq_planning.specs.Pushable.{Pushable, pushable, relations, distribution_by}
-use Rattle.cq_planning.specs.Narrowing.{distribution_in, right_sets, sets_in, given_to}
-use Rattle.cq_planning.specs.Occurrences.{Occurrence, key_values, occurrence_of, occurrences_in}
-use Rattle.cq_planning.specs.Routing.{is_none_of_them}
-use Rattle.cq_planning_laws.specs.Laid.{IsLaid, IsLaidFrom, IsLaidStep, IsColumnOf}
-use Rattle.cq_planning_laws.proofs.Pushing.{pushes_through}
-use Rattle.cq_outline.specs.declared.joining.Joined.{Joined}
-use Rattle.cq_outline.specs.Joining.{nothing_joined}
+use Rattle.cq_planning.specs.Conjuncts.{conjuncts, equalities}
+use Rattle.cq_planning.specs.Relations.{OuterJoin, Relation}
+use Rattle.cq_planning.specs.Pushable.{relations}
 use Rattle.cq_outline.specs.declared.outline.Leaving.{Leaving}
-use Rattle.cq_outline.specs.declared.outline.Leaving.TheVariants as leaving
 use Rattle.cq_outline.specs.Leaving.{leaves, leaves_subquery, inside}
-use Rattle.cq_outline.specs.Tasking.{touch_of, planner_of, leaving_by, parting_by, shares_rows}
-use Rattle.cq_outline.specs.Outlines.{table_planner, subquery_planner}
-use Rattle.cq_one_plan.specs.declared.plan.Grounds.{Grounds}
-use Rattle.cq_one_plan.specs.declared.plan.Plan.{Plan, roll-Plan, Row_of-Plan, end_of-Plan, more_of-Plan, items-the_row-Plan, items_hidden-the_row-Plan-0}
-use Rattle.cq_one_plan.specs.declared.plan.Plan.TheBlock.{hidden-the_row-Plan-0}
-use Rattle.cq_one_plan.specs.declared.plan.Plan.TheOpen.{Plan-F}
-use Rattle.cq_one_plan.specs.declared.plan.Part.{Part}
-use Rattle.cq_one_plan.specs.declared.plan.Part.TheVariants.{Stays, Leaves, Asks}
-use Rattle.cq_one_plan.specs.Stays.{leaves_in, leaves_of, leaves_of_all, result_if, from_staying, query_staying, lone_query}
-use Rattle.cq_one_plan.specs.Plans as parted
-use Rattle.cq_one_plan.specs.Plans.{no_grounds, grounds_of, planned_in, plan_with, lone_plan, part_of_table, parts_of_subquery, key_of, output_of, output_set, plan_of, cte_plans, in_plans, parts_inside, parts_from, whole_plan, first_free, ctes_of, first_in}
-use Rattle.cq_plan_laws.specs.Laws.{with_from}
+use Rattle.cq_one_plan.specs.Stays.{leaves_in, leaves_of, leaves_of_all, result_if, from_staying, query_staying}
 use Rattle.cq_plan_laws.specs.Scoping.{FromNames, QueryNames, AreScoped}
-use Rattle.cq_plan_laws.specs.Touching.{HasNoCtes, FromHasNone, EachHasNone}
-use Rattle.cq_exec_laws.specs.Bounds.{AreBoundIn, EachBoundIn, Extends, PlansAreBound}
-use Rattle.cq_exec_laws.proofs.Members.{AllIn, InSet, InSets, value_set_in, right_in, from_in, given_in, key_in, output_in}
-use Rattle.cq_exec_laws.proofs.Widening.{IsFine, wider_condition, wider_items, conjuncts_fine, lone_bound}
+use Rattle.cq_exec_laws.specs.Bounds.{Extends}
+use Rattle.cq_exec_laws.proofs.Widening.{wider_condition, wider_items}
 
 -- ---- lists of widths
 

@@ -1,4 +1,3 @@
 pub mod StoreLaws
-pub mod StepLaws
 pub mod NodeLaws
 pub mod TakeLaws

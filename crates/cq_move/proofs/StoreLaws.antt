@@ -1,5 +1,5 @@
 -- The stores that are given to a move, until they are given back.
-use Rattle.std.proofs.Common.{◌≡◌, ◌∙◌, ◌⊎◌, inl, inr, ◌≤◌, ℕ, suc, IsTrue, List, [], ◌∷◌, ◌++◌, length, Result, Ok, Err, IfOk, IfErr, OnErr, refl, sym, ap, subst, arith}
+use Rattle.std.proofs.Common.{◌≡◌, ◌∙◌, ◌⊎◌, inl, inr, ◌≤◌, ℕ, suc, IsTrue, List, [], ◌∷◌, ◌++◌, length, Result, Ok, Err, IfErr, refl, sym, ap, subst, arith}
 use Rattle.std.specs.List.{AllByRecursion, AllZip, flat_map, Contains}
 use Rattle.cq_value.specs.declared.change.Change.{Change}
 use Rattle.cq_tree.specs.declared.failure.StoreFailure.{StoreFailure}
@@ -14,8 +14,7 @@ use Rattle.cq_group.specs.Calls.{GoesOn, Failed, Lifted, Blames, SomeZip}
 use Rattle.cq_group.specs.Incoming.{IsArriving, IsIncomingTable, Adopts, why_told}
 use Rattle.cq_group.proofs.Zips.{zip_refl, zip_trans, some_before}
 use Rattle.cq_group.proofs.Turns.{rests, rests_go_on, goes_on_more}
-use Rattle.cq_move.specs.Outcomes.{IsTried, Broke, EndsMove, KeepShards, shards_in}
-use Rattle.cq_move.specs.Steps.{IsToldBy}
+use Rattle.cq_move.specs.Outcomes.{IsToldBy, IsTried, Broke, EndsMove, KeepShards, shards_in}
 
 tried : (old new : StoreState) → new.node ≡ old.node → new.steady ≡ old.steady → old.faults ≤ new.faults → (IsTrue old.steady → new.faults ≡ old.faults) → IsTried old new
 tried old new node steady counts k =
@@ -53,10 +52,6 @@ some_both R S (x ∷ xs) (y ∷ ys) h (inr k) = inr (some_both R S xs ys h.1 k)
 pub if_err : {T E : Type 0} (r : Result T E) (P Q : E → Type 0) → ((e : E) → P e → Q e) → IfErr r P → IfErr r Q
 if_err (Ok x) P Q f h = tt
 if_err (Err e) P Q f h = f e h
-
-pub if_err_three : {T E : Type 0} (r : Result T E) (P : Type 0) (Q R S : E → Type 0) → ((e : E) → P → Q e → R e → S e) → OnErr r P → IfErr r Q → IfErr r R → IfErr r S
-if_err_three (Ok x) P Q R S f h k l = tt
-if_err_three (Err e) P Q R S f h k l = f e h k l
 
 -- some element
 abbrev SomeOf : {X : Type 0} → (X → Type 0) → List X → Type 0

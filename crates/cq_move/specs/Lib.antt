@@ -1,4 +1,3 @@
 pub mod Reports
 pub mod Outcomes
-pub mod Steps
 pub mod Taking

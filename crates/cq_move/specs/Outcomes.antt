@@ -1,19 +1,17 @@
 -- What a move of a shard group comes to.
-use Rattle.std.specs.Prelude.{◌≡◌, ◌≤◌, ◌⊎◌, ℕ, ⊤, false, List, [], ◌∷◌, ◌++◌, map, Contains}
+use Rattle.std.specs.Prelude.{◌≡◌, ◌≤◌, ℕ, ⊤, false, List, map, Contains}
 use Rattle.std.specs.List.{AllZip}
 use Rattle.cq_tree.specs.declared.failure.StoreFailure.{StoreFailure}
 use Rattle.cq_tree.specs.declared.journal.Who.{Who}
 use Rattle.cq_tree.specs.declared.journal.Entry.{Entry}
 use Rattle.cq_tree.specs.declared.journal.EntryKind.{EntryKind}
-use Rattle.cq_tree.specs.declared.journal.EntryKind.TheVariants.{MoveStart, CatchUp, MoveStop}
 use Rattle.cq_store.specs.Stores.{StoreState, Becomes, Rose}
-use Rattle.cq_group.specs.declared.group.GroupState.{GroupState}
+use Rattle.cq_group.specs.declared.group.GroupError.{GroupError}
 use Rattle.cq_group.specs.declared.start.MoveWhy.{MoveWhy}
 use Rattle.cq_group.specs.declared.start.MoveWhy.TheVariants as why
-use Rattle.cq_group.specs.Groups.{Outline, outlines, entries_of}
-use Rattle.cq_group.specs.Calls.{Lifted, SomeZip}
-use Rattle.cq_group.specs.Incoming.{CanStart, RefusesMove}
-use Rattle.cq_move.specs.declared.mover.NotMoved.{NotMoved}
+use Rattle.cq_group.specs.Groups.{Outline}
+use Rattle.cq_group.specs.Calls.{Blames, Lifted, SomeZip}
+use Rattle.cq_group.specs.Incoming.{why_told}
 
 -- entries of these kinds, all of one statement
 abbrev pub entries_by : Who → List EntryKind → List Entry
@@ -54,19 +52,8 @@ EndsMove state os to (why.SameNode node) old new = ⊥
 EndsMove state os to (why.Worker failure) old new = HasBroken state os to failure old new
 EndsMove state os to why.Memory old new = ⊤
 
--- the entries of a move that was stopped, before its first round of catch-up or after that round had begun
-abbrev pub EntersStop : Who → ℕ → List Entry → List Entry → Type 0
-EntersStop who to old new = (new ≡ old ++ entries_by who (MoveStart to ∷ MoveStop ∷ [])) ⊎ (new ≡ old ++ entries_by who (MoveStart to ∷ CatchUp ∷ MoveStop ∷ []))
-
--- a move that began and was stopped
-pub record IsStopped {X : Type 0} (state : X → StoreState) (old new : GroupState X) (who : Who) (to from : ℕ) (given : List X) (e : NotMoved X) : Type 0 where
-  pub start : CanStart old to from
-  pub entries : EntersStop who to (entries_of old) (entries_of new)
-  pub why : EndsMove state (outlines old) to e.why given e.stores.items
-  pub shards : KeepShards state (outlines old) e.stores.items
-
--- a move that didn't begin
-pub record IsRefused {X : Type 0} (state : X → StoreState) (old new : GroupState X) (to from : ℕ) (given : List X) (e : NotMoved X) : Type 0 where
-  pub why : RefusesMove state old new to from e.why
-  pub stores : e.stores.items ≡ given
-  pub entries : entries_of new ≡ entries_of old
+-- why a move was stopped: an error that blames one of the stores that came in, or none
+pub record IsToldBy {X : Type 0} (state : X → StoreState) (why : MoveWhy) (old new : List X) : Type 0 where
+  pub error : GroupError
+  pub told : why ≡ why_told error
+  pub blames : Blames state error old new

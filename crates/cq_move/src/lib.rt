@@ -1,8 +1,8 @@
-//! The move of one shard group to another node, from its MoveStart to its Cutover or MoveStop.
+//! What the move of a shard group comes to, and how a store that ended one is taken out of those that were given for it.
 #![tactic(auto)]
 
-mod mover;
+mod outcome;
 mod taking;
 
-pub use mover::{MoveReport, Moved, NotMoved, move_group};
+pub use outcome::{MoveReport, Moved, NotMoved};
 pub use taking::take_broken;

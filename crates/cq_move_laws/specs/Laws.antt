@@ -19,8 +19,8 @@ use Rattle.cq_store.specs.Stores.{StoreState}
 use Rattle.cq_group.specs.declared.group.GroupState.{GroupState}
 use Rattle.cq_group.specs.declared.start.MoveWhy.{MoveWhy}
 use Rattle.cq_reach.specs.Seen.{Seen}
-use Rattle.cq_move.specs.declared.mover.MoveReport.{MoveReport}
-use Rattle.cq_move.specs.declared.mover.NotMoved.{NotMoved}
+use Rattle.cq_move.specs.declared.outcome.MoveReport.{MoveReport}
+use Rattle.cq_move.specs.declared.outcome.NotMoved.{NotMoved}
 use Rattle.cq_move_calls.specs.Moving.{Told, RefusesStart}
 use Rattle.cq_transfer.specs.Entering.{HasMoved}
 use Rattle.cq_transfer.specs.Carrying.{IsGivenUp}

@@ -5,8 +5,8 @@ ghost use Rattle.cq_planner.specs.Strategies.{plan_by as plan_by_rule};
 
 use crate::strategy::{Strategy, lone_strategy};
 use cq_catalog::Catalog;
-use cq_strategies::{combine_by, shown_planner, tasks_of};
 use cq_one_plan::{Part, Parts, Plan, Plans, Touches};
+use cq_strategies::{combine_by, shown_planner, tasks_of};
 use cq_tree::{Planner, Query};
 use cq_value::NoMemory;
 use std::alloc::Global;

@@ -6,9 +6,9 @@ ghost use Rattle.cq_task_laws.specs.Partial.{columns_from};
 ghost use Rattle.cq_one_plan.specs.Stays.{set_filter as set_filter_by_rule, lone_query as lone_query_by_rule};
 ghost use Rattle.cq_planner.specs.Made.{IsHalved};
 
-use cq_strategies::few;
 use cq_relations::count_columns;
 use cq_shape::ValueSet;
+use cq_strategies::few;
 use cq_tree::{Aggs, Cond, Expr, Exprs, FromTree, Keys, Op, Queries, Query};
 use cq_value::{Boxed, Names, NoMemory, Value};
 use std::alloc::Global;

@@ -5,10 +5,10 @@ ghost use Rattle.cq_one_plan.specs.Plans.{grounds_of as grounds_by_rule};
 ghost use Rattle.cq_planner.specs.Strategies.{strategy_of as strategy_by_rule, lone_strategy as lone_by_rule, takes_whole as takes_whole_by_rule};
 
 use cq_catalog::Catalog;
-use cq_strategies::{nothing_joined, parting_of, planner_of, shares_rows};
 use cq_one_plan::Grounds;
 use cq_outline::Joined;
 use cq_refusals::{flaws_of, has_loose_cut};
+use cq_strategies::{nothing_joined, parting_of, planner_of, shares_rows};
 use cq_tree::{Planner, Query};
 use cq_value::NoMemory;
 use std::alloc::Global;

@@ -5,9 +5,9 @@ ghost use Rattle.cq_repartition.specs.Repartitions.{are_buckets as are_buckets_b
 
 use crate::keys::keys_of;
 use cq_catalog::Catalog;
-use cq_strategies::{combine_by, parting_of, planner_of, shares_rows};
 use cq_outline::Joined;
 use cq_repart::Keys;
+use cq_strategies::{combine_by, parting_of, planner_of, shares_rows};
 use cq_tree::{Combine, Planner, Query};
 use cq_value::NoMemory;
 use std::alloc::Global;

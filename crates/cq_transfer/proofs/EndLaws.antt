@@ -24,8 +24,8 @@ use Rattle.cq_group.specs.Resting.{IsResting}
 use Rattle.cq_group.proofs.MoveLaws.{station_push}
 use Rattle.cq_reach.specs.Seen.{Seen, seen_of}
 use Rattle.cq_move_calls.specs.Moving.{AreSteadyOn, ComesAside, ComesIn, HadStores, IsMover, RefusesStart, TellsAnything, TellsExchanged, TellsStart, Told, kinds_on}
-use Rattle.cq_move.specs.declared.mover.Moved.{Moved}
-use Rattle.cq_move.specs.declared.mover.NotMoved.{NotMoved}
+use Rattle.cq_move.specs.declared.outcome.Moved.{Moved}
+use Rattle.cq_move.specs.declared.outcome.NotMoved.{NotMoved}
 use Rattle.cq_move.proofs.NodeLaws.{stores_there}
 use Rattle.cq_move.proofs.StoreLaws.{ends_told, keep_shards}
 use Rattle.cq_history.specs.Journals.{Step}

@@ -15,7 +15,7 @@ use Rattle.cq_group.specs.Incoming.{IsSettled, arriving}
 use Rattle.cq_group.specs.Moves.{changed_since, parted}
 use Rattle.cq_reach.specs.Seen.{Seen}
 use Rattle.cq_move_calls.specs.Moving.{ComesAside, HadStores, TellsAnything, TellsExchanged, Told, kinds_on}
-use Rattle.cq_move.specs.declared.mover.MoveReport.{MoveReport}
+use Rattle.cq_move.specs.declared.outcome.MoveReport.{MoveReport}
 use Rattle.cq_transfer.specs.Entering.{AreBegun, AreBusy, HasCaught, HasTried, IsBehind, Tries}
 use Rattle.cq_transfer.specs.Carrying.{CatchesOnce, GivesUp, HasFinished, HasGivenUp, IsMoving, IsUnderWay, Stays, TriesOnce}
 use Rattle.cq_transfer.proofs.EnterLaws.{enters_not, enters_one, enters_then, enters_weaker, step_at, told_weaker}

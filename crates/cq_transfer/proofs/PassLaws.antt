@@ -20,7 +20,7 @@ use Rattle.cq_group.proofs.MoveLaws.{station_push, move_push}
 use Rattle.cq_reach.specs.Seen.{Seen}
 use Rattle.cq_reach.specs.Outlook.{IsGrown}
 use Rattle.cq_move_calls.specs.Moving.{Told, ComesAside, ComesIn, CouldStart, IsMover, TellsAnything, TellsChanges, kinds_on}
-use Rattle.cq_move.specs.declared.mover.MoveReport.{MoveReport}
+use Rattle.cq_move.specs.declared.outcome.MoveReport.{MoveReport}
 use Rattle.cq_transfer.specs.Entering.{Catches, Enters, HasCaught, HasMoved, HasStopped, HasTried, IsBehind, Tries}
 use Rattle.cq_transfer.specs.Carrying.{IsMoving, CanStop, CatchesOnce, HasFinished, HasGivenUp, Stays}
 use Rattle.cq_transfer.proofs.EnterLaws.{enters_none, enters_not, enters_one, enters_then, more_none, step_at, told_behind, told_is, told_so, told_weaker, with_more}

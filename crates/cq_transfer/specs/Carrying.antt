@@ -15,12 +15,11 @@ use Rattle.cq_group.specs.Incoming.{IsIncoming, arriving}
 use Rattle.cq_group.specs.Moves.{changed_since, parted}
 use Rattle.cq_reach.specs.Seen.{Seen}
 use Rattle.cq_move_calls.specs.Moving.{ComesAside, IsMover, RefusesStart, TellsAnything, Told}
-use Rattle.cq_move.specs.declared.mover.MoveReport.{MoveReport}
-use Rattle.cq_move.specs.declared.mover.Moved.{Moved}
-use Rattle.cq_move.specs.declared.mover.NotMoved.{NotMoved}
+use Rattle.cq_move.specs.declared.outcome.MoveReport.{MoveReport}
+use Rattle.cq_move.specs.declared.outcome.Moved.{Moved}
+use Rattle.cq_move.specs.declared.outcome.NotMoved.{NotMoved}
 use Rattle.cq_transfer.specs.Entering.{AreBegun, Enters, HasStopped, IsBehind}
-use Rattle.cq_move.specs.Outcomes.{EndsMove, KeepShards}
-use Rattle.cq_move.specs.Steps.{IsToldBy}
+use Rattle.cq_move.specs.Outcomes.{EndsMove, IsToldBy, KeepShards}
 
 -- a statement's move is in flight: its last entry is the last that is known, and the group's tables come in up to there
 pub record IsMoving {X : Type 0} (state : X → StoreState) (who : Who) (s : Seen) (i : Incoming X) : Type 0 where

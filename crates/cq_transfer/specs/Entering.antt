@@ -10,7 +10,7 @@ use Rattle.cq_history.specs.Moves.{IsStopped, AreRounds, last_of, most_rounds, w
 use Rattle.cq_group.specs.Incoming.{rows_in}
 use Rattle.cq_reach.specs.Seen.{Seen}
 use Rattle.cq_reach.specs.Outlook.{IsGrown}
-use Rattle.cq_move.specs.declared.mover.MoveReport.{MoveReport}
+use Rattle.cq_move.specs.declared.outcome.MoveReport.{MoveReport}
 
 -- a statement made these steps in a group, each over what stood before it, and others made entries that may come
 pub record Enters (comes : Entry → Type 0) (who : Who) (steps : List Step) (old new : Seen) : Type 0 where
