@@ -1,0 +1,8 @@
+use Rattle.cq_block_plans.proofs.Staying.{relations_stay, stays_are_pushed}
+use Rattle.cq_block_plans.proofs.block_plan_laws.Goals as goal
+
+pub returns-clause-relations : goal.returns-clause-relations
+returns-clause-relations c = relations_stay
+
+pub returns-clause-pushed : goal.returns-clause-pushed
+returns-clause-pushed c = stays_are_pushed

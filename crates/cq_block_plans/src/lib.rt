@@ -1,0 +1,10 @@
+//! The laws on the blocks of a statement's plan, as the contract of a function that does nothing.
+#![tactic(auto)]
+
+ghost use Rattle.cq_block_plans.specs.Laws.{RelationsStay, StaysArePushed};
+
+/// Each block of a plan has the shape that its tasks need. Does nothing.
+pub fn block_plan_laws()
+    ensures relations { RelationsStay }
+    ensures pushed { StaysArePushed }
+{}
