@@ -173,40 +173,24 @@ module _ (first : ℕ → ℕ) (rels : List Relation) (firm : AreFirm first rels
   left_stay : distributions (is_left_in_block now) now ≡ distributions (is_left_in_block rels) rels
   left_stay = ap (map distribution_of) (filter_settled Alone rels (is_left_in_block now) (is_left_in_block rels) rels (left_settled rels firm.left))
 
-  abbrev has_column : Relation → List Distribution → Bool
-  has_column r ds = list_any (λ (d : Distribution). nat_eq d.column (distribution_of r).column) ds
-
-  loose_settled : (r : Relation) → Left r → is_loose first now (settled Alone rels r) ≡ is_loose first rels r
-  loose_settled r h = by_case (leaves Alone rels r) (leaver_gone rels r) h
+  -- none strays that isn't loose
+  stray_settled : (r : Relation) → Left r → strays first now (settled Alone rels r) ≡ is_loose first now (settled Alone rels r)
+  stray_settled r h = by_case (leaves Alone rels r) refl h
     where
-      by_case : (b : Bool) → (b ≡ true → is_left_in_block rels r ≡ false) → is_left_in_block now (if b then result_for r else r) ≡ is_left_in_block rels r →
-          is_loose first now (if b then result_for r else r) ≡ is_loose first rels r
-      by_case true g e =
-          left_false (is_left_in_block now (result_for r)) (is_right r && not (has_column (result_for r) (colocated first now))) (e ∙ g refl)
-          ∙ sym (left_false (is_left_in_block rels r) (is_right r && not (has_column r (colocated first rels))) (g refl))
-      by_case false g e = λ i. e i && (is_right r && not (has_column r (firm.together i)))
-
-  -- as many distributed relations are loose
-  stray_settled : (r : Relation) → Left r → strays first now (settled Alone rels r) ≡ is_loose first rels r
-  stray_settled r h = by_case (leaves Alone rels r) refl h ∙ loose_settled r h
-    where
-      kept : (d o l : Bool) → (d && not (d && (not o || l))) ≡ false → (d && not (d && (not o || l))) ≡ false
-      kept d o l h = h
-
       by_case : (b : Bool) → leaves Alone rels r ≡ b → is_left_in_block now (if b then result_for r else r) ≡ is_left_in_block rels r →
           ((is_distributed (if b then result_for r else r) && not (is_left_in_block now (if b then result_for r else r))) || is_loose first now (settled Alone rels r)) ≡ is_loose first now (settled Alone rels r)
       by_case true y e = refl
       by_case false y e = ap (λ (b : Bool). b || is_loose first now (settled Alone rels r)) (ap (λ (b : Bool). is_distributed r && not b) e ∙ y)
 
-  all_of : (P Q : Relation → Type 0) → ((r : Relation) → P r → Q r) → (rs : List Relation) → AllByRecursion P rs → AllByRecursion Q rs
-  all_of P Q f [] h = tt
-  all_of P Q f (r ∷ rs) h = (f r h.0, all_of P Q f rs h.1)
-
   loose_stay : list_any (is_loose first now) now ≡ list_any (is_loose first rels) rels
-  loose_stay = any_settled Alone rels (is_loose first now) (is_loose first rels) rels (all_of Left (λ r. is_loose first now (settled Alone rels r) ≡ is_loose first rels r) loose_settled rels firm.left)
+  loose_stay = any_settled Alone rels (is_loose first now) (is_loose first rels) rels firm.loose
+
+  strays_each : (rs : List Relation) → AllByRecursion Left rs → list_any (strays first now) (map (settled Alone rels) rs) ≡ list_any (is_loose first now) (map (settled Alone rels) rs)
+  strays_each [] h = refl
+  strays_each (r ∷ rs) h = λ i. stray_settled r h.0 i || strays_each rs h.1 i
 
   strays_stay : list_any (strays first now) now ≡ list_any (is_loose first rels) rels
-  strays_stay = any_settled Alone rels (strays first now) (is_loose first rels) rels (all_of Left (λ r. strays first now (settled Alone rels r) ≡ is_loose first rels r) stray_settled rels firm.left)
+  strays_stay = strays_each rels firm.left ∙ loose_stay
 
   -- so a subquery can be pushed down as before
   pub over_stay : (ls ps : List Distribution) (grouped : Bool) (keys outputs : List Expr) (limit : Option ℕ) (offset : ℕ) →
@@ -298,7 +282,7 @@ module _ (c : Contents) where
     bare_settled Alone = refl
     bare_settled Rights = refl
 
-  inside_pushable : (leaving : Leaving) (q : Query) (l : ℕ) → pushable c (query_staying c Alone q l) ≡ pushable c q → pushable c (query_staying c (inside leaving) q l) ≡ pushable c q
+  pub inside_pushable : (leaving : Leaving) (q : Query) (l : ℕ) → pushable c (query_staying c Alone q l) ≡ pushable c q → pushable c (query_staying c (inside leaving) q l) ≡ pushable c q
   inside_pushable Nothing q l e = ap (pushable c) (all_stays c q l)
   inside_pushable Alone q l e = e
   inside_pushable Rights q l e = e
@@ -336,7 +320,7 @@ module _ (c : Contents) where
 
   -- ---- what pushdown takes
 
-  single_stays : (leaving : Leaving) (rels : List Relation) (f : FromTree) (start : ℕ) (outer : Option OuterJoin) (l : ℕ) → is_single f ≡ true → is_single (from_staying c leaving rels f start outer l) ≡ true
+  pub single_stays : (leaving : Leaving) (rels : List Relation) (f : FromTree) (start : ℕ) (outer : Option OuterJoin) (l : ℕ) → is_single f ≡ true → is_single (from_staying c leaving rels f start outer l) ≡ true
   single_stays leaving rels (Table t n) start outer l h = by_case (leaves leaving rels (record { start = start; distribution = distribution_at start (place_at c t); outer = outer }))
     where
       by_case : (b : Bool) → is_single (result_if b l n (Table t n)) ≡ true
