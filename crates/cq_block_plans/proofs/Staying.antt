@@ -337,7 +337,7 @@ module _ (c : Contents) where
   single_stays leaving rels (Left' p (more_of-FromTree a end_of-FromTree) q (more_of-FromTree b end_of-FromTree) on) start outer l h = cc
 
   -- where something leaves, a subquery that stays can be pushed down
-  staying_pushable : (leaving : Leaving) (rels : List Relation) (start : ℕ) (outer : Option OuterJoin) (o : Option Pushable) → inside leaving ≡ Alone → leaves_subquery leaving rels (sub_at rels start outer o) ≡ false → is_some o ≡ true
+  pub staying_pushable : (leaving : Leaving) (rels : List Relation) (start : ℕ) (outer : Option OuterJoin) (o : Option Pushable) → inside leaving ≡ Alone → leaves_subquery leaving rels (sub_at rels start outer o) ≡ false → is_some o ≡ true
   staying_pushable Nothing rels start outer o e h = cc
   staying_pushable Alone rels start outer None e h = cc
   staying_pushable Alone rels start outer (Some s) e h = refl

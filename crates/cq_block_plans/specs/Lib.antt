@@ -1,2 +1,3 @@
 pub mod Firm
+pub mod Taken
 pub mod Laws
