@@ -1,37 +1,34 @@
 -- What stays of a FROM touches, as a query of its own, what it touched in the original.
-use Rattle.std.proofs.Common.{◌≡◌, ℕ, ◌+◌, List, [], ◌∷◌, ◌++◌, map, filter, filter_map, fold, Bool, true, false, not, ◌&&◌, ◌||◌, nat_eq, nat_lt, cond, if◌then◌else◌, Option, None, Some, is_some, inl, inr, refl, sym, ap, subst, ◌∙◌, append-nil}
+use Rattle.std.proofs.Common.{◌≡◌, ℕ, ◌+◌, List, [], ◌∷◌, ◌++◌, map, filter_map, Bool, true, false, not, ◌&&◌, ◌||◌, nat_eq, nat_lt, if◌then◌else◌, Option, None, Some, is_some, inl, inr, refl, sym, ap, subst, ◌∙◌, append-nil}
 use Rattle.std.specs.List.{cons_option, list_any, AllByRecursion}
-use Rattle.std.proofs.lemmas.List.Folds.{list_any-append}
 use Rattle.cq_value.specs.declared.value.Value.{Value}
-use Rattle.cq_value.proofs.Truths.{two_ways, and_both, and_left, and_right, both_true, or_neither, or_right, same_number, nat_eq_itself}
+use Rattle.cq_value.proofs.Truths.{two_ways, or_neither, or_right, same_number}
 use Rattle.cq_tree.specs.declared.expression.Cond.{Cond}
 use Rattle.cq_tree.specs.declared.plan.Planner.{Planner}
 use Rattle.cq_tree.specs.declared.query.FromTree.{FromTree, Table, Sub', Result, Cross', Inner', Left', end_of-FromTree, more_of-FromTree, end_of-Query, more_of-Query}
 use Rattle.cq_tree.specs.declared.query.Query.{Query, Query'}
-use Rattle.cq_meaning.specs.Lists.{Has}
 use Rattle.cq_meaning.specs.Queries.{columns_in, outputs_of}
-use Rattle.cq_meaning.specs.Results.{ins_in, ins_in_from}
+use Rattle.cq_meaning.specs.Results.{ins_in_from}
 use Rattle.cq_catalog.specs.Contents.{Contents}
 use Rattle.cq_catalog.specs.Placement.{place_at}
 use Rattle.cq_planning.specs.Conjuncts.{conjuncts, conjuncts_of, equalities}
 use Rattle.cq_planning.specs.ValueSets.{ValueSet, value_set}
-use Rattle.cq_planning.specs.Narrowing.{distribution_in, is_at, met_with, narrowed_by, right_sets, sets_in, given_to}
+use Rattle.cq_planning.specs.Narrowing.{distribution_in, met_with, narrowed_by, right_sets, sets_in, given_to}
 use Rattle.cq_planning.specs.Occurrences.{Occurrence, occurrence_of, occurrences_from, occurrences_in}
 use Rattle.cq_planning.specs.Pushable.{Pushable, pushable, relations, distribution_by}
-use Rattle.cq_planning.specs.Relations.{Distribution, OuterJoin, Relation, distribution_at, distribution_of, is_distributed, is_right, partner_of, partners}
+use Rattle.cq_planning.specs.Relations.{Distribution, OuterJoin, Relation, distribution_at, distribution_of, is_distributed, partner_of, partners}
 use Rattle.cq_outline.specs.declared.outline.Leaving.{Leaving}
 use Rattle.cq_outline.specs.declared.outline.Leaving.TheVariants.{Nothing, Alone, Rights}
 use Rattle.cq_outline.specs.Leaving.{leaves, leaves_subquery, inside}
-use Rattle.cq_outline.specs.Tasking.{Touch, touch_of, leaving_by}
+use Rattle.cq_outline.specs.Tasking.{touch_of, leaving_by}
 use Rattle.cq_outline.specs.Outlines.{table_planner, subquery_planner}
 use Rattle.cq_pushdown_laws.specs.Pushed.{is_single}
 use Rattle.cq_one_plan.specs.declared.plan.Plan.{Plan}
 use Rattle.cq_one_plan.specs.declared.plan.Part.{Part}
 use Rattle.cq_one_plan.specs.declared.plan.Part.TheVariants.{Stays, Leaves, Asks}
-use Rattle.cq_one_plan.specs.Plans as parted
 use Rattle.cq_one_plan.specs.Plans.{stays_in, lone_plan, key_of, output_of, output_set, plan_of, parts_from, parts_inside, in_plans}
 use Rattle.cq_one_plan.specs.Stays.{leaves_in, leaves_of_all, result_if, from_staying, query_staying, lone_query}
-use Rattle.cq_block_plans.specs.Firm.{result_for, settled, is_of_leaver, IsEven, AreFirm, IsFirm, IsFirmFrom}
+use Rattle.cq_block_plans.specs.Firm.{result_for, settled, is_of_leaver, IsEven, IsFirm, IsFirmFrom}
 use Rattle.cq_block_plans.proofs.Staying.{columns_stay, conjuncts_stay, from_relations, pushable_stays, inside_pushable, single_stays}
 
 -- ---- lists

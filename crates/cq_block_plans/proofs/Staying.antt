@@ -1,11 +1,10 @@
 -- What stays of a FROM has the relations of the original, with results for what left, so that pushdown makes tasks of it.
-use Rattle.std.proofs.Common.{◌≡◌, ℕ, ◌+◌, List, [], ◌∷◌, ◌++◌, map, filter, fold, take, Bool, true, false, not, ◌&&◌, ◌||◌, nat_eq, cond, if◌then◌else◌, Option, None, Some, is_some, inl, inr, refl, sym, ap, subst, ◌∙◌}
+use Rattle.std.proofs.Common.{◌≡◌, ℕ, ◌+◌, List, [], ◌∷◌, ◌++◌, map, filter, fold, take, Bool, true, false, not, ◌&&◌, ◌||◌, nat_eq, cond, if◌then◌else◌, Option, None, Some, is_some, refl, sym, ap, ◌∙◌}
 use Rattle.std.specs.Prelude.{is_none, position}
 use Rattle.std.specs.List.{list_any, list_all, AllByRecursion}
-use Rattle.cq_value.proofs.Truths.{two_ways, not_true, and_both, and_left, and_right, both_true, left_false, right_false, or_left, or_right, or_neither}
+use Rattle.cq_value.proofs.Truths.{not_true, and_left, and_right, both_true, right_false, or_left, or_right}
 use Rattle.cq_tree.specs.declared.expression.Cond.{Cond}
 use Rattle.cq_tree.specs.declared.expression.Expr.{Expr}
-use Rattle.cq_tree.specs.declared.plan.Planner.{Planner}
 use Rattle.cq_tree.specs.declared.plan.Planner.TheVariants.{FastPath, Router, Pushdown, Repartition, Coordinator}
 use Rattle.cq_tree.specs.declared.query.FromTree.{FromTree, Table, Sub', Result, Cross', Inner', Left', end_of-FromTree, more_of-FromTree, end_of-Query, more_of-Query}
 use Rattle.cq_tree.specs.declared.query.Query.{Query, Query'}
@@ -13,7 +12,7 @@ use Rattle.cq_meaning.specs.Queries.{columns_in, outputs_of}
 use Rattle.cq_catalog.specs.Contents.{Contents}
 use Rattle.cq_catalog.specs.Placement.{place_at}
 use Rattle.cq_planning.specs.Classes.{first_of_class}
-use Rattle.cq_planning.specs.Components.{is_one_class, is_of_class, is_one_component, is_located, with_colocated, colocated, is_loose}
+use Rattle.cq_planning.specs.Components.{is_one_class, is_of_class, is_one_component, is_located, with_colocated, is_loose}
 use Rattle.cq_planning.specs.Conjuncts.{column_of, conjuncts, conjuncts_of, inner_conjuncts, equalities}
 use Rattle.cq_planning.specs.Joins.{equalities_of, relations_of, plain_in, are_one_component, has_several_components, has_loose_join}
 use Rattle.cq_planning.specs.Pushable.{Pushable, pushable, pushable_over, pushable_by, relations, distribution_by, column_behind}

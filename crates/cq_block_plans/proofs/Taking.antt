@@ -1,11 +1,10 @@
 -- The block of a query has the shape that its tasks need.
-use Rattle.std.proofs.Common.{◌≡◌, ℕ, zero, suc, ◌+◌, ◌-◌, ◌<◌, ◌≤◌, List, [], ◌∷◌, ◌++◌, map, filter, length, take, Bool, true, false, not, ◌&&◌, ◌||◌, nat_eq, nat_lt, cond, if◌then◌else◌, Option, None, Some, is_some, inl, inr, refl, sym, ap, subst, ◌∙◌, arith}
+use Rattle.std.proofs.Common.{◌≡◌, ℕ, zero, suc, ◌+◌, ◌<◌, ◌≤◌, List, [], ◌∷◌, ◌++◌, map, filter, length, take, Bool, true, false, not, ◌&&◌, ◌||◌, nat_eq, nat_lt, cond, if◌then◌else◌, Option, None, Some, is_some, refl, sym, ap, subst, ◌∙◌, arith}
 use Rattle.std.specs.List.{flat_map, list_any, AllByRecursion}
 use Rattle.std.proofs.lemmas.List.Folds.{list_any-append}
 use Rattle.std.proofs.lemmas.List.Elements.{filter-append}
-use Rattle.cq_value.proofs.Truths.{two_ways, not_true, and_both, and_left, and_right, both_true, same_number, or_false}
+use Rattle.cq_value.proofs.Truths.{and_left, and_right, both_true, same_number, or_false}
 use Rattle.cq_value.specs.declared.value.Value.{Value}
-use Rattle.cq_tree.specs.declared.plan.Combine.TheVariants as combine
 use Rattle.cq_tree.specs.declared.plan.Planner.{Planner}
 use Rattle.cq_tree.specs.declared.plan.Planner.TheVariants.{FastPath, Router, Pushdown, Repartition, Coordinator}
 use Rattle.cq_tree.specs.declared.plan.Task.{Task}
@@ -24,11 +23,10 @@ use Rattle.cq_planning.specs.Occurrences.{Occurrence, occurrence_of, key_values,
 use Rattle.cq_planning.specs.Components.{is_of_class}
 use Rattle.cq_planning.specs.Joins.{relations_of, plain_in, has_several_components, has_loose_join}
 use Rattle.cq_planning.specs.Pushable.{Pushable, pushable, relations, distribution_by, column_behind}
-use Rattle.cq_planning.specs.Relations.{Distribution, OuterJoin, Relation, distribution_at, distribution_of, distributions, is_distributed, is_left_in_block, is_plain}
+use Rattle.cq_planning.specs.Relations.{OuterJoin, Relation, distribution_at, distribution_of, distributions, is_distributed, is_left_in_block, is_plain}
 use Rattle.cq_planning.specs.Routing.{distributed_of, groups_of_all, fits_fast_path, fits_router, is_distributed_place, is_reference_place, is_one_table, is_one_value, is_none_of_them, tasks_in}
 use Rattle.cq_planning.specs.Touched.{among, in_order, groups_of, groups_at, groups_with, numbers}
 use Rattle.cq_planning_laws.proofs.GroupLists.{in_order_has, in_order_only}
-use Rattle.cq_outline.specs.declared.joining.Joined.{Joined}
 use Rattle.cq_outline.specs.declared.outline.Leaving.{Leaving}
 use Rattle.cq_outline.specs.declared.outline.Leaving.TheVariants.{Nothing, Alone, Rights}
 use Rattle.cq_outline.specs.Joining.{joined_in}
@@ -37,7 +35,7 @@ use Rattle.cq_outline.specs.Tasking.{Touch, touch_of, groups_in, distributed_in,
 use Rattle.cq_pushdown_laws.specs.Pushed.{joins_pushed}
 use Rattle.cq_one_plan.specs.Plans.{stays_in, parts_inside}
 use Rattle.cq_one_plan.specs.Stays.{leaves_in, leaves_of_all, result_if, from_staying, query_staying}
-use Rattle.cq_plan_laws.specs.Blocks.{groups_for, reads_none, query_reads_none}
+use Rattle.cq_plan_laws.specs.Blocks.{reads_none, query_reads_none}
 use Rattle.cq_plan_laws.specs.Laws.{from_of}
 use Rattle.cq_plan_laws.specs.Opening.{subs_pushed}
 use Rattle.cq_plan_laws.proofs.Routed.{routed_is}

@@ -1,5 +1,5 @@
 -- The laws on the blocks of a statement's plan.
-use Rattle.std.specs.Prelude.{◌≡◌, ℕ, List, [], length, Bool, true, false, map, Option, is_some}
+use Rattle.std.specs.Prelude.{◌≡◌, ℕ, List, [], length, true, false, map, Option, is_some}
 use Rattle.cq_value.specs.declared.value.Value.{Value}
 use Rattle.cq_tree.specs.declared.plan.Planner.TheVariants.{Pushdown}
 use Rattle.cq_tree.specs.declared.query.FromTree.{FromTree}
