@@ -1,3 +1,4 @@
 pub mod Staying
 pub mod Covering
 pub mod Taking
+pub mod Apart

@@ -1,6 +1,7 @@
 use Rattle.cq_block_plans.proofs.Staying.{relations_stay, stays_are_pushed}
 use Rattle.cq_block_plans.proofs.Covering.{inside_stays}
 use Rattle.cq_block_plans.proofs.Taking.{blocks_are_taken}
+use Rattle.cq_block_plans.proofs.Apart.{reaches_cover}
 use Rattle.cq_block_plans.proofs.block_plan_laws.Goals as goal
 
 pub returns-clause-relations : goal.returns-clause-relations
@@ -14,3 +15,6 @@ returns-clause-touch c = inside_stays
 
 pub returns-clause-taken : goal.returns-clause-taken
 returns-clause-taken c = blocks_are_taken
+
+pub returns-clause-cover : goal.returns-clause-cover
+returns-clause-cover c = reaches_cover
