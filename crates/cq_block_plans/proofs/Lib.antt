@@ -2,3 +2,4 @@ pub mod Staying
 pub mod Covering
 pub mod Taking
 pub mod Apart
+pub mod Serving

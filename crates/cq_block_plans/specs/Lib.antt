@@ -1,3 +1,4 @@
 pub mod Firm
 pub mod Taken
 pub mod Laws
+pub mod Serving

@@ -2,6 +2,7 @@
 #![tactic(auto)]
 
 ghost use Rattle.cq_block_plans.specs.Laws.{RelationsStay, StaysArePushed, StaysTouch, BlocksAreTaken, ReachesCover};
+ghost use Rattle.cq_block_plans.specs.Serving.{TakenServe};
 
 /// Each block of a plan has the shape that its tasks need. Does nothing.
 pub fn block_plan_laws()
@@ -10,4 +11,5 @@ pub fn block_plan_laws()
     ensures touch { StaysTouch }
     ensures taken { BlocksAreTaken }
     ensures cover { ReachesCover }
+    ensures serve { TakenServe }
 {}
