@@ -3,3 +3,4 @@ pub mod Covering
 pub mod Taking
 pub mod Apart
 pub mod Serving
+pub mod Examples
