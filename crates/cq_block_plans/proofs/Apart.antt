@@ -1,15 +1,15 @@
 -- Where reference tables have groups of their own, a block's tasks cover all that its query touches.
-use Rattle.std.proofs.Common.{◌≡◌, ℕ, ◌<◌, List, [], ◌∷◌, filter, Bool, true, false, ◌||◌, nat_eq, cond, inl, inr, refl, sym, ap, subst, ◌∙◌, arith}
-use Rattle.std.specs.List.{flat_map, list_any}
+use Rattle.std.proofs.Common.{◌≡◌, ℕ, List, [], ◌∷◌, filter, Bool, true, false, ◌||◌, nat_eq, cond, inl, inr, refl, sym, subst, ◌∙◌, arith}
+use Rattle.std.specs.List.{flat_map}
 use Rattle.std.proofs.lemmas.List.Folds.{list_any-append}
-use Rattle.cq_value.proofs.Truths.{two_ways, or_either, or_left, or_right, same_number}
+use Rattle.cq_value.proofs.Truths.{or_either, or_left, or_right, same_number}
 use Rattle.cq_catalog.specs.Contents.{Contents}
 use Rattle.cq_catalog.specs.Placement.{place_at, colocation_at, IsDistributed, HasShard}
 use Rattle.cq_catalog.specs.declared.info.Place.{Place}
 use Rattle.cq_catalog.specs.declared.info.Place.TheVariants.{Local, Distributed, Reference}
 use Rattle.cq_planning.specs.Occurrences.{Occurrence, occurrences_in}
 use Rattle.cq_planning.specs.Routing.{distributed_of, is_distributed_place}
-use Rattle.cq_planning.specs.Touched.{among, in_order, groups_of, groups_at, numbers}
+use Rattle.cq_planning.specs.Touched.{among, groups_of, groups_at, numbers}
 use Rattle.cq_planning_laws.proofs.GroupLists.{in_order_has, in_order_only, numbers_only}
 use Rattle.cq_block_plans.specs.Laws.{AreGroupsApart, ReachesCover}
 

@@ -1,11 +1,11 @@
 -- Relations that aren't firm: what leaves matters to what stays.
-use Rattle.std.proofs.Common.{◌≡◌, ℕ, List, [], ◌∷◌, Bool, true, false, Option, None, Some, refl}
+use Rattle.std.proofs.Common.{◌≡◌, ℕ, List, [], ◌∷◌, true, false, Option, None, Some, refl}
 use Rattle.std.specs.List.{list_any}
 use Rattle.cq_tree.specs.declared.expression.Expr.{Column}
 use Rattle.cq_planning.specs.Classes.{first_of_class}
 use Rattle.cq_planning.specs.Components.{is_loose}
-use Rattle.cq_planning.specs.Pushable.{Pushable, pushable_over}
-use Rattle.cq_planning.specs.Relations.{Distribution, OuterJoin, Relation, distributions, is_left_in_block, is_plain}
+use Rattle.cq_planning.specs.Pushable.{pushable_over}
+use Rattle.cq_planning.specs.Relations.{Distribution, Relation, distributions, is_left_in_block, is_plain}
 use Rattle.cq_outline.specs.declared.outline.Leaving.TheVariants.{Alone}
 use Rattle.cq_outline.specs.Leaving.{leaves}
 use Rattle.cq_pushdown_laws.specs.Pushed.{are_pushed}

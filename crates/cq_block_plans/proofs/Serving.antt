@@ -1,12 +1,12 @@
 -- The tasks of a block that has the shape that they need serve for it.
-use Rattle.std.proofs.Common.{◌≡◌, ◌≤◌, ℕ, List, [], ◌∷◌, map, length, Option, Some, refl, sym, ap, ◌∙◌, arith}
+use Rattle.std.proofs.Common.{◌≡◌, ◌≤◌, ℕ, List, [], ◌∷◌, map, length, Some, refl, ap, ◌∙◌, arith}
 use Rattle.std.specs.List.{flat_map}
 use Rattle.cq_tree.specs.declared.plan.Combine.{Combine}
 use Rattle.cq_tree.specs.declared.plan.Planner.{Planner}
 use Rattle.cq_tree.specs.declared.plan.Planner.TheVariants.{FastPath, Router, Pushdown, Repartition, Coordinator}
 use Rattle.cq_tree.specs.declared.plan.Task.{Task}
 use Rattle.cq_tree.specs.declared.query.Query.{Query}
-use Rattle.cq_meaning.specs.Values.{Results, Tables}
+use Rattle.cq_meaning.specs.Values.{Results}
 use Rattle.cq_catalog.specs.Contents.{Contents}
 use Rattle.cq_planning.specs.Database.{Held}
 use Rattle.cq_planning.specs.Touched.{among}
@@ -16,7 +16,7 @@ use Rattle.cq_outline.specs.Tasking.{Touch, distributed_in, groups_in}
 use Rattle.cq_pushdown_laws.specs.Tables.{task_tables}
 use Rattle.cq_one_plan.specs.Yields.{read_by, reads_of}
 use Rattle.cq_plan_laws.specs.Blocks.{IsBlock, groups_for}
-use Rattle.cq_plan_laws.specs.Yielding.{ServesBy, IsPushedBlock, IsLoneBlock, IsIdleBlock}
+use Rattle.cq_plan_laws.specs.Yielding.{ServesBy, IsPushedBlock, IsLoneBlock}
 use Rattle.cq_plan_laws.proofs.Yielding.{blocks_serve}
 use Rattle.cq_block_plans.specs.Taken.{Reaches, IsAlone, IsTaken}
 use Rattle.cq_block_plans.specs.Serving.{IsReady, IsSimplyTasked, TakenServe}
