@@ -1,0 +1,4 @@
+pub mod Firm
+pub mod Taken
+pub mod Laws
+pub mod Serving
